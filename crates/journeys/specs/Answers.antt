@@ -1,0 +1,130 @@
+-- What a run answers and what it leaves in every lent byte. Assumes nothing.
+use mathlib.Core.Path.{_≡_}
+use mathlib.Core.Logic.{_≢_}
+use mathlib.Core.Bool.{cond}
+use mathlib.Core.List.{List, _++_, flatMap}
+use Prim.Native.Nat.{ℕ, _+_, _/_, min}
+use lib.Dec.{eqb, leb}
+use lib.ListN.{length, take}
+use Rattle.journeys.specs.Bytes.{word, filled, cleared}
+use Rattle.journeys.specs.Tables.{Tables, tablesOf}
+use Rattle.journeys.specs.Query.{Query, allowed}
+use Rattle.journeys.specs.Journeys.{Distance}
+use Rattle.journeys.specs.Order.{Settled, Order}
+use Rattle.journeys.specs.Network.{Held, distanceIn, heldList}
+use Rattle.journeys.specs.Records.{network}
+use Rattle.journeys.specs.Parts.{Part, partList}
+use Rattle.journeys.specs.Refusals.{Refusal, unless, orElse, firstFrom, tableLengths, bufferLengths, contents, queryRefusal}
+
+-- the bytes lent: three tables, and three buffers as they are at the call
+pub record Lent : Type 0 where
+  pub vertices : List ℕ
+  pub walks : List ℕ
+  pub hops : List ℕ
+  pub held : List ℕ
+  pub settled : List ℕ
+  pub parts : List ℕ
+
+-- the six answers, and the three buffers afterwards
+pub record Answer : Type 0 where
+  pub refusal : ℕ
+  pub place : ℕ
+  pub settledCount : ℕ
+  pub partCount : ℕ
+  pub heldCount : ℕ
+  pub finished : ℕ
+  pub held : List ℕ
+  pub settled : List ℕ
+  pub parts : List ℕ
+
+abbrev pub tables : Lent → Tables
+tables b = tablesOf (b .vertices) (b .walks) (b .hops)
+
+-- refusals 1 to 7, which change no lent byte
+unfoldable pub early : Lent → Query → Refusal
+early b Q =
+    orElse (tableLengths (b .vertices) (b .walks) (b .hops))
+    (orElse (bufferLengths (b .held) (b .settled) (b .parts)) (orElse (contents (tables b)) (queryRefusal (tables b) Q)))
+
+unfoldable pub refusedEarly : Lent → Refusal → Answer
+refusedEarly b r =
+    record {
+      refusal = r .number;
+      place = r .place;
+      settledCount = 0;
+      partCount = 0;
+      heldCount = 0;
+      finished = 0;
+      held = b .held;
+      settled = b .settled;
+      parts = b .parts;
+    }
+
+-- refusals 8 to 10, which leave all three buffers zero
+unfoldable pub refusedLate : Lent → Refusal → Answer
+refusedLate b r =
+    record {
+      refusal = r .number;
+      place = r .place;
+      settledCount = 0;
+      partCount = 0;
+      heldCount = 0;
+      finished = 0;
+      held = cleared (b .held);
+      settled = cleared (b .settled);
+      parts = cleared (b .parts);
+    }
+
+abbrev pub heldBytes : Held → List ℕ
+heldBytes x = word (x .vertex) ++ word (x .distance) ++ word (x .state) ++ word (x .remaining)
+
+abbrev pub settledBytes : Settled → List ℕ
+settledBytes x = word (x .vertex) ++ word (x .distance)
+
+abbrev pub partBytes : Part → List ℕ
+partBytes x = word (x .walk) ++ word (x .start) ++ word (x .end)
+
+-- l is the whole order of settling
+module _ (b : Lent) (Q : Query) (l : List Settled) where
+  -- the working table and the parts after k steps
+  abbrev pub heldAfter : ℕ → List Held
+  heldAfter k = heldList (network (tables b) Q) (distanceIn (take k l))
+
+  abbrev pub partsAfter : ℕ → List Part
+  partsAfter k = partList (tables b) Q (take k l)
+
+  -- the room after the whole step k
+  unfoldable pub roomAt : ℕ → Refusal
+  roomAt k =
+      orElse (unless (leb (length (heldAfter k)) (length (b .held) / 16)) 8 k)
+      (orElse (unless (leb (length (take k l)) (length (b .settled) / 8)) 9 k) (unless (leb (length (partsAfter k)) (length (b .parts) / 12)) 10 k))
+
+  -- the earliest of the steps 0 to k that lacks room
+  unfoldable pub roomUpTo : ℕ → Refusal
+  roomUpTo k = firstFrom roomAt (k + 1) 0
+
+  -- after k steps with room for all; finished is 1 exactly if nothing of the order is left
+  unfoldable pub acceptedAfter : ℕ → Answer
+  acceptedAfter k =
+      record {
+        refusal = 0;
+        place = 0;
+        settledCount = length (take k l);
+        partCount = length (partsAfter k);
+        heldCount = length (heldAfter k);
+        finished = cond (leb (length l) k) 1 0;
+        held = filled (b .held) (flatMap heldBytes (heldAfter k));
+        settled = filled (b .settled) (flatMap settledBytes (take k l));
+        parts = filled (b .parts) (flatMap partBytes (partsAfter k));
+      }
+
+  -- one step settles one vertex: the run makes as many steps as its limit and the order allow
+  unfoldable pub answerOver : ℕ → Answer
+  answerOver limit =
+      let k = min limit (length l) in
+      cond (eqb (roomUpTo k .number) 0) (acceptedAfter k) (refusedLate b (roomUpTo k))
+
+-- The answer that a run may give, for any bytes, query and limit: the refusal of the input, or what the order by the journeys' distances gives.
+pub record Allowed (b : Lent) (Q : Query) (limit : ℕ) (a : Answer) : Type 0 where
+  pub refused : early b Q .number ≢ 0 → a ≡ refusedEarly b (early b Q)
+  pub accepted : early b Q .number ≡ 0 → (l : List Settled) × Order (Distance (tables b) Q) (allowed Q) l × (a ≡ answerOver b Q l limit)

@@ -1,0 +1,13 @@
+pub mod Counting
+pub mod Bytes
+pub mod Tables
+pub mod Query
+pub mod Journeys
+pub mod Order
+pub mod Network
+pub mod Records
+pub mod Parts
+pub mod Refusals
+pub mod Answers
+pub mod Clock
+pub mod Marked

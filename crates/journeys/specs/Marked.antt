@@ -1,0 +1,120 @@
+-- The base job of document 01 in bytes, and its marked cases as one table. Assumes nothing.
+use mathlib.Core.List.{List, [], _∷_, _++_, flatMap}
+use Prim.Native.Nat.{ℕ, _+_, _*_, _/_, _%_}
+use lib.ListN.{replicate, take}
+use Rattle.journeys.specs.Counting.{none}
+use Rattle.journeys.specs.Bytes.{word, midnight}
+use Rattle.journeys.specs.Query.{Query}
+use Rattle.journeys.specs.Answers.{Lent, Answer}
+
+-- a vertex: first walk, first hop, departing
+unfoldable pub vertexBytes : ℕ → ℕ → ℕ → List ℕ
+vertexBytes firstWalk firstHop departing = word firstWalk ++ word firstHop ++ (departing / 256 ∷ departing % 256 ∷ 0 ∷ 0 ∷ [])
+
+unfoldable pub baseVertices : List ℕ
+baseVertices = vertexBytes 0 0 1 ++ vertexBytes 1 0 2 ++ vertexBytes 3 1 1 ++ vertexBytes 4 1 2 ++ vertexBytes 5 1 1
+
+-- the twins of the last two walks, and the hop's times, change from case to case
+unfoldable pub baseWalks : ℕ → ℕ → List ℕ
+baseWalks t u =
+    flatMap word
+    (1 ∷ 0 ∷ 2000 ∷ 1 ∷ 0 ∷ 1 ∷ 2000 ∷ 0 ∷ 2 ∷ 1 ∷ 2500 ∷ 3 ∷ 1 ∷ 2 ∷ 2500 ∷ 2 ∷ 4 ∷ 3 ∷ 900 ∷ t ∷ 3 ∷ 4 ∷ 900 ∷ u ∷ [])
+
+unfoldable pub baseHop : ℕ → ℕ → List ℕ
+baseHop departure arrival = flatMap word (3 ∷ 1 ∷ departure ∷ arrival ∷ [])
+
+-- tables, and room for so many records in buffers that are not clean
+abbrev pub lend : ℕ → ℕ → ℕ → ℕ → ℕ → ℕ → ℕ → Lent
+lend t u departure arrival held settled parts =
+    record {
+      vertices = baseVertices;
+      walks = baseWalks t u;
+      hops = baseHop departure arrival;
+      held = replicate (16 * held) 7;
+      settled = replicate (8 * settled) 7;
+      parts = replicate (12 * parts) 7;
+    }
+
+abbrev pub ask : ℕ → ℕ → ℕ → Query
+ask walk offset duration = record { walk = walk; offset = offset; arrival = midnight + 36000; duration = duration; speed = 10 }
+
+abbrev pub baseQuery : Query
+baseQuery = ask 1 1500 300
+
+-- the base job with room for 5, 5 and 20 records; with other rooms; with another hop; with walks 4 and 5 one-way
+abbrev pub base : Lent
+base = lend 5 4 35760 35880 5 5 20
+
+abbrev pub rooms : ℕ → ℕ → ℕ → Lent
+rooms held settled parts = lend 5 4 35760 35880 held settled parts
+
+abbrev pub hopAt : ℕ → ℕ → Lent
+hopAt departure arrival = lend 5 4 departure arrival 5 5 20
+
+abbrev pub oneWay : Lent
+oneWay = lend none none 35760 35880 5 5 20
+
+-- ---- what a row looks at: the six numbers, or the records of one buffer, as 4-byte words
+abbrev pub words : List ℕ → List ℕ
+words (a ∷ b ∷ c ∷ d ∷ rest) = (((a * 256 + b) * 256 + c) * 256 + d) ∷ words rest
+words (a ∷ b ∷ c ∷ []) = []
+words (a ∷ b ∷ []) = []
+words (a ∷ []) = []
+words [] = []
+
+abbrev pub numbers : Answer → List ℕ
+numbers a = a .refusal ∷ a .place ∷ a .settledCount ∷ a .partCount ∷ a .heldCount ∷ a .finished ∷ []
+
+abbrev pub settledOf : Answer → List ℕ
+settledOf a = take (2 * a .settledCount) (words (a .settled))
+
+abbrev pub partsOf : Answer → List ℕ
+partsOf a = take (3 * a .partCount) (words (a .parts))
+
+abbrev pub heldOf : Answer → List ℕ
+heldOf a = take (4 * a .heldCount) (words (a .held))
+
+abbrev pub refused : ℕ → ℕ → List ℕ
+refused number place = number ∷ place ∷ 0 ∷ 0 ∷ 0 ∷ 0 ∷ []
+
+pub record Case : Type 0 where
+  pub lent : Lent
+  pub query : Query
+  pub limit : ℕ
+  pub view : Answer → List ℕ
+  pub want : List ℕ
+
+abbrev pub when : Lent → Query → ℕ → (Answer → List ℕ) → List ℕ → Case
+when lent query limit view want = record { lent = lent; query = query; limit = limit; view = view; want = want }
+
+-- ---- M1 to M10, and the whole output of the base job before them
+unfoldable pub marked : List Case
+marked =
+    when base baseQuery none numbers (0 ∷ 0 ∷ 4 ∷ 6 ∷ 2 ∷ 1 ∷ [])
+    ∷ when base baseQuery none settledOf (1 ∷ 500 ∷ 0 ∷ 1500 ∷ 3 ∷ 2400 ∷ 2 ∷ 3000 ∷ [])
+    ∷ when base baseQuery none partsOf (1 ∷ 0 ∷ 1500 ∷ 0 ∷ 0 ∷ 500 ∷ 1 ∷ 1500 ∷ 2000 ∷ 2 ∷ 0 ∷ 2500 ∷ 0 ∷ 500 ∷ 2000 ∷ 4 ∷ 300 ∷ 900 ∷ [])
+    ∷ when base baseQuery none heldOf (3 ∷ 2400 ∷ 1 ∷ 1 ∷ 4 ∷ 3300 ∷ 0 ∷ 0 ∷ [])
+    -- M1 to M4: limits 0 to 3
+    ∷ when base baseQuery 0 heldOf (0 ∷ 1500 ∷ 0 ∷ 1 ∷ 1 ∷ 500 ∷ 0 ∷ 2 ∷ [])
+    ∷ when base baseQuery 1 heldOf (0 ∷ 1500 ∷ 0 ∷ 0 ∷ 1 ∷ 500 ∷ 1 ∷ 2 ∷ 2 ∷ 3000 ∷ 0 ∷ 0 ∷ 3 ∷ 2400 ∷ 0 ∷ 1 ∷ [])
+    ∷ when base baseQuery 2 heldOf (1 ∷ 500 ∷ 1 ∷ 1 ∷ 2 ∷ 3000 ∷ 0 ∷ 0 ∷ 3 ∷ 2400 ∷ 0 ∷ 1 ∷ [])
+    ∷ when base baseQuery 3 heldOf (1 ∷ 500 ∷ 1 ∷ 1 ∷ 2 ∷ 3000 ∷ 0 ∷ 0 ∷ 3 ∷ 2400 ∷ 1 ∷ 1 ∷ 4 ∷ 3300 ∷ 0 ∷ 0 ∷ [])
+    -- M5: a second less
+    ∷ when base (ask 1 1500 299) none settledOf (1 ∷ 500 ∷ 0 ∷ 1500 ∷ 3 ∷ 2400 ∷ [])
+    ∷ when base (ask 1 1500 299) none partsOf (1 ∷ 0 ∷ 1500 ∷ 0 ∷ 0 ∷ 500 ∷ 1 ∷ 1500 ∷ 2000 ∷ 2 ∷ 10 ∷ 2500 ∷ 0 ∷ 510 ∷ 2000 ∷ 4 ∷ 310 ∷ 900 ∷ [])
+    -- M6: a hop that is just in time, and one that is a second late
+    ∷ when (hopAt 35760 35950) baseQuery none settledOf (1 ∷ 500 ∷ 0 ∷ 1500 ∷ 3 ∷ 2400 ∷ 2 ∷ 3000 ∷ [])
+    ∷ when (hopAt 35760 35951) baseQuery 1 heldOf (0 ∷ 1500 ∷ 0 ∷ 0 ∷ 1 ∷ 500 ∷ 1 ∷ 2 ∷ 2 ∷ 3000 ∷ 0 ∷ 0 ∷ 3 ∷ none ∷ 0 ∷ 1 ∷ [])
+    -- M7: held room
+    ∷ when (rooms 4 5 20) baseQuery none numbers (0 ∷ 0 ∷ 4 ∷ 6 ∷ 2 ∷ 1 ∷ [])
+    ∷ when (rooms 3 5 20) baseQuery none numbers (refused 8 1)
+    -- M8: part room, settled room
+    ∷ when (rooms 5 5 5) baseQuery none numbers (refused 10 3)
+    ∷ when (rooms 5 3 20) baseQuery none numbers (refused 9 4)
+    -- M9: the query on a one-way road, at its end, just before it, beyond it
+    ∷ when oneWay (ask 5 900 300) 0 heldOf (3 ∷ 900 ∷ 0 ∷ 2 ∷ 4 ∷ 0 ∷ 0 ∷ 1 ∷ [])
+    ∷ when oneWay (ask 5 899 300) 0 heldOf (3 ∷ 899 ∷ 0 ∷ 2 ∷ [])
+    ∷ when oneWay (ask 5 901 300) none numbers (refused 7 1)
+    -- M10: a ride of no time
+    ∷ when (hopAt 35880 35880) baseQuery none numbers (refused 3 0)
+    ∷ []
