@@ -1,0 +1,254 @@
+-- The list of parts of document 01 holds exactly the parts of its roads, so a finished run covers exactly the places from which a journey starts in time.
+-- Assumes nothing.
+use mathlib.Core.Path.{_≡_, refl, sym, ap, subst, _∙_}
+use mathlib.Core.Logic.{_⊎_, inl, inr, ⊎-elim, _≢_}
+use mathlib.Core.Bool.{Bool, true, false, cond}
+use mathlib.Core.List.{List, [], _∷_, _++_, flatMap}
+use Prim.Native.Nat.{ℕ, _+_, _-_, _≤_, _<_, max}
+use native.Mathlib.Omega.{arith}
+use lib.Dec.{eqb}
+use borrow.Author.Tests.{eq-eqb, ne-eqb}
+use Rattle.journeys.specs.Counting.{none, In}
+use Rattle.journeys.specs.Tables.{Tables, walk, walkCount}
+use Rattle.journeys.specs.Query.{Query, asked, allowed}
+use Rattle.journeys.specs.Journeys.{Distance, Inside, onward, straight, straight-twin}
+use Rattle.journeys.specs.Order.{Settled, settled, Order}
+use Rattle.journeys.specs.Records.{network}
+use Rattle.journeys.specs.Parts.{Part, part, near, firstPart, firstParts, partAt, partsAt, partList}
+use Rattle.journeys.proofs.Tests.{cond-true, cond-false, Test, same, other, test, le-or-lt}
+use Rattle.journeys.proofs.Counting.{in-left, in-right, in-append, in-flat, flat-in, in-joined, joined-in}
+use Rattle.journeys.proofs.Firsts.{order-first}
+use Rattle.journeys.proofs.Cover.{Road, Sound, FromPlace, Piece, first, later, covers-from, from-covers}
+use Rattle.journeys.proofs.Valid.{Valid, good-walk, paired, allowed-some}
+use Rattle.journeys.proofs.Document.{ways, laws, journey-arrives, arrives-journey, order-dist, allowed-low}
+
+abbrev pub thePart : ℕ → ℕ → ℕ → Part
+thePart i a z = record { walk = i; start = a; end = z }
+
+-- the place x of record i lies in a listed part
+pub record Covered (ps : List Part) (i x : ℕ) : Type 0 where
+  pub start : ℕ
+  pub end : ℕ
+  pub listed : In (thePart i start end) ps
+  pub low : start ≤ x
+  pub high : x ≤ end
+
+part-in : (i a z : ℕ) (p : Part) → In p (part i a z) → (p ≡ thePart i a z) × (a ≢ z)
+unfolding part
+part-in i a z p = go (test a z)
+  where
+    go : {t : Bool} → Test a z t → In p (cond t [] (thePart i a z ∷ [])) → (p ≡ thePart i a z) × (a ≢ z)
+    go (same e) j = absurd j
+    go (other q) (inl e) = (e, q)
+
+in-part : (i a z : ℕ) → a ≢ z → In (thePart i a z) (part i a z)
+unfolding part
+in-part i a z q = rw (ne-eqb a z q) (inl refl)
+
+module _ (N : Tables) (Q : Query) where
+  -- a walk record as a road: no waits in document 01
+  abbrev pub road : ℕ → Road
+  road i = record { end = walk N i .to; len = walk N i .len; lag = 0; near = near N Q i; more = 0 }
+
+  abbrev Piece′ : List Settled → ℕ → ℕ → ℕ → Type 0
+  Piece′ S i a z = Piece (network N Q) (ways N Q) (allowed Q) S (road i) a z
+
+  -- the two kinds of parts, without waits
+  first-of : (S : List Settled) (i : ℕ) → near N Q i - allowed Q ≢ near N Q i → Piece′ S i (near N Q i - allowed Q) (near N Q i)
+  first-of S i q =
+      let z : allowed Q - 0 ≡ allowed Q = omega arith in
+      let p : Piece′ S i (near N Q i - (allowed Q - 0)) (near N Q i) = first (omega arith) (rw z q) in
+      rw z at p
+
+  later-of : (S : List Settled) (i d : ℕ) → In (settled (walk N i .to) d) S → d ≤ allowed Q → max (walk N i .len - (allowed Q - d)) (near N Q i) ≢ walk N i .len
+      → Piece′ S i (max (walk N i .len - (allowed Q - d)) (near N Q i)) (walk N i .len)
+  later-of S i d j h q =
+      let z : allowed Q - d - 0 ≡ allowed Q - d = omega arith in
+      let p : Piece′ S i (max (walk N i .len - (allowed Q - d - 0)) (near N Q i)) (walk N i .len) = later d j (omega arith) (rw z q) in
+      rw z at p
+
+  -- ---- the record that a listed part is on
+  pub first-walk : (i : ℕ) (p : Part) → In p (firstPart N Q i) → p .walk ≡ i
+  unfolding firstPart
+  first-walk i p j = ap (λ (q : Part). q .walk) (part-in i (near N Q i - allowed Q) (near N Q i) p j .0)
+
+  pub firsts-cases : (p : Part) → In p (firstParts N Q) → In p (firstPart N Q (Q .walk)) ⊎ In p (cond (eqb (asked N Q .twin) none) [] (firstPart N Q (asked N Q .twin)))
+  unfolding firstParts
+  firsts-cases p j = in-append (firstPart N Q (Q .walk)) _ p j
+
+  pub at-walk : (x : Settled) (i : ℕ) (p : Part) → In p (cond (eqb (walk N i .to) (x .vertex)) (partAt N Q (x .distance) i) []) → p .walk ≡ i
+  unfolding partAt
+  at-walk x i p = go (eqb (walk N i .to) (x .vertex))
+    where
+      go : (t : Bool) → In p (cond t (part i (max (walk N i .len - (allowed Q - x .distance)) (near N Q i)) (walk N i .len)) []) → p .walk ≡ i
+      go true k = ap (λ (q : Part). q .walk) (part-in i (max (walk N i .len - (allowed Q - x .distance)) (near N Q i)) (walk N i .len) p k .0)
+      go false k = absurd k
+
+  -- ---- what is listed is a part
+  abbrev IsPiece : List Settled → Part → Type 0
+  IsPiece S p = Piece′ S (p .walk) (p .start) (p .end)
+
+  first-piece : (S : List Settled) (i : ℕ) (p : Part) → In p (firstPart N Q i) → IsPiece S p
+  unfolding firstPart
+  first-piece S i p j =
+      let e = part-in i (near N Q i - allowed Q) (near N Q i) p j in
+      subst (IsPiece S) (sym (e .0)) (first-of S i (e .1))
+
+  firsts-piece : (S : List Settled) (p : Part) → In p (firstParts N Q) → IsPiece S p
+  firsts-piece S p j = go (firsts-cases p j)
+    where
+      by-twin : (t : Bool) → In p (cond t [] (firstPart N Q (asked N Q .twin))) → IsPiece S p
+      by-twin true k = absurd k
+      by-twin false k = first-piece S (asked N Q .twin) p k
+
+      go : In p (firstPart N Q (Q .walk)) ⊎ In p (cond (eqb (asked N Q .twin) none) [] (firstPart N Q (asked N Q .twin))) → IsPiece S p
+      go (inl k) = first-piece S (Q .walk) p k
+      go (inr k) = by-twin (eqb (asked N Q .twin) none) k
+
+  at-piece : (S : List Settled) (x : Settled) → In x S → x .distance ≤ allowed Q → (i : ℕ) (p : Part)
+      → In p (cond (eqb (walk N i .to) (x .vertex)) (partAt N Q (x .distance) i) []) → IsPiece S p
+  unfolding partAt
+  at-piece S x j h i p = go (test (walk N i .to) (x .vertex))
+    where
+      go : {t : Bool} → Test (walk N i .to) (x .vertex) t
+          → In p (cond t (part i (max (walk N i .len - (allowed Q - x .distance)) (near N Q i)) (walk N i .len)) []) → IsPiece S p
+      go (same e) k =
+          let q = part-in i (max (walk N i .len - (allowed Q - x .distance)) (near N Q i)) (walk N i .len) p k in
+          let m : In (settled (walk N i .to) (x .distance)) S = rw e j in
+          subst (IsPiece S) (sym (q .0)) (later-of S i (x .distance) m h (q .1))
+      go (other q) k = absurd k
+
+  pub listed-piece : (S : List Settled) → ((x : Settled) → In x S → x .distance ≤ allowed Q) → (p : Part) → In p (partList N Q S) → IsPiece S p
+  unfolding partList partsAt
+  listed-piece S low p j = go (in-append (firstParts N Q) _ p j)
+    where
+      go : In p (firstParts N Q) ⊎ In p (flatMap (partsAt N Q) S) → IsPiece S p
+      go (inl k) = firsts-piece S p k
+      go (inr k) =
+          let x = flat-in (partsAt N Q) S p k in
+          let y = joined-in (λ i. cond (eqb (walk N i .to) (x .0 .vertex)) (partAt N Q (x .0 .distance) i) []) (walkCount N) p (x .2) in
+          at-piece S (x .0) (x .1) (low (x .0) (x .1)) (y .0) p (y .2)
+
+  -- ---- and each part is listed
+  first-listed : (i : ℕ) → near N Q i - allowed Q ≢ near N Q i → In (thePart i (near N Q i - allowed Q) (near N Q i)) (firstPart N Q i)
+  unfolding firstPart
+  first-listed i q = in-part i (near N Q i - allowed Q) (near N Q i) q
+
+  -- only e and its twin have the query place on them
+  near-where : (i : ℕ) → 0 < near N Q i → (i ≡ Q .walk) ⊎ (i ≡ asked N Q .twin)
+  unfolding near
+  near-where i = go (test i (Q .walk)) (test i (asked N Q .twin))
+    where
+      go : {s t : Bool} → Test i (Q .walk) s → Test i (asked N Q .twin) t → 0 < cond s (Q .offset) (cond t (asked N Q .len - Q .offset) 0) → (i ≡ Q .walk) ⊎ (i ≡ asked N Q .twin)
+      go (same e) t h = inl e
+      go (other q) (same e) h = inr e
+      go (other q) (other r) h = absurd (omega arith)
+
+  firsts-listed : (i : ℕ) → i ≢ none → near N Q i - allowed Q ≢ near N Q i → In (thePart i (near N Q i - allowed Q) (near N Q i)) (firstParts N Q)
+  unfolding firstParts
+  firsts-listed i n q = go (near-where i (omega arith))
+    where
+      p : Part
+      p = thePart i (near N Q i - allowed Q) (near N Q i)
+
+      go : (i ≡ Q .walk) ⊎ (i ≡ asked N Q .twin) → In p (firstPart N Q (Q .walk) ++ cond (eqb (asked N Q .twin) none) [] (firstPart N Q (asked N Q .twin)))
+      go (inl e) = in-left (firstPart N Q (Q .walk)) _ p (subst (λ (k : ℕ). In p (firstPart N Q k)) e (first-listed i q))
+      go (inr e) =
+          in-right (firstPart N Q (Q .walk)) _ p
+          (rw (ne-eqb (asked N Q .twin) none (λ (z : asked N Q .twin ≡ none). n (e ∙ z))) (subst (λ (k : ℕ). In p (firstPart N Q k)) e (first-listed i q)))
+
+  at-listed : (i d : ℕ) → max (walk N i .len - (allowed Q - d)) (near N Q i) ≢ walk N i .len
+      → In (thePart i (max (walk N i .len - (allowed Q - d)) (near N Q i)) (walk N i .len)) (partAt N Q d i)
+  unfolding partAt
+  at-listed i d q = in-part i (max (walk N i .len - (allowed Q - d)) (near N Q i)) (walk N i .len) q
+
+  pub piece-listed : (S : List Settled) (i : ℕ) → i < walkCount N → i ≢ none → {a z : ℕ} → Piece′ S i a z → In (thePart i a z) (partList N Q S)
+  unfolding partList partsAt
+  piece-listed S i l n (first m q) =
+      let e : allowed Q - 0 ≡ allowed Q = omega arith in
+      rw e (in-left (firstParts N Q) _ _ (firsts-listed i n (rw e at q)))
+  piece-listed S i l n (later d j m q) =
+      let e : allowed Q - d - 0 ≡ allowed Q - d = omega arith in
+      let p = thePart i (max (walk N i .len - (allowed Q - d)) (near N Q i)) (walk N i .len) in
+      let here : In p (cond (eqb (walk N i .to) (walk N i .to)) (partAt N Q d i) []) = rw (eq-eqb (walk N i .to) (walk N i .to) refl) (at-listed i d (rw e at q)) in
+      rw e
+      (in-right (firstParts N Q) _ p
+      (in-flat (partsAt N Q) S (settled (walk N i .to) d) p j
+      (in-joined (λ k. cond (eqb (walk N k .to) (walk N i .to)) (partAt N Q d k) []) (walkCount N) i p l here)))
+
+module _ (N : Tables) (Q : Query) (ok : Valid N Q) where
+  -- the offset of the query place on e, and on its twin, which is another record
+  near-asked : near N Q (Q .walk) ≡ Q .offset
+  unfolding near
+  near-asked = cond-true (Q .offset) _ (eq-eqb (Q .walk) (Q .walk) refl)
+
+  twin-other : asked N Q .twin ≢ none → asked N Q .twin ≢ Q .walk
+  twin-other n e =
+      let p = paired N (ok .tables) (Q .walk) (ok .query .walk-low) n .1 in
+      good-walk N (ok .tables) (Q .walk) (ok .query .walk-low) .apart (ap (λ (k : ℕ). walk N k .from) (sym e) ∙ p .from)
+
+  near-twin : asked N Q .twin ≢ none → near N Q (asked N Q .twin) ≡ asked N Q .len - Q .offset
+  unfolding near
+  near-twin n =
+      cond-false (Q .offset) _ (ne-eqb (asked N Q .twin) (Q .walk) (twin-other n)) ∙ cond-true (asked N Q .len - Q .offset) 0 (eq-eqb (asked N Q .twin) (asked N Q .twin) refl)
+
+  few : (i : ℕ) → i < walkCount N → i ≢ none
+  few i l = omega (arith, ok .tables .walks-few)
+
+  twin-len : asked N Q .twin ≢ none → walk N (asked N Q .twin) .len ≡ asked N Q .len
+  twin-len n = paired N (ok .tables) (Q .walk) (ok .query .walk-low) n .1 .len
+
+  pub sound : (i : ℕ) → i < walkCount N → Sound (road N Q i)
+  sound i l =
+      record {
+        on = ⊎-elim (λ (h : near N Q i ≤ 0). omega arith) (λ (h : 0 < near N Q i). there (near-where N Q i h)) (le-or-lt (near N Q i) 0);
+        waits = omega arith;
+        there = λ h. absurd (omega arith);
+      }
+    where
+      there : (i ≡ Q .walk) ⊎ (i ≡ asked N Q .twin) → near N Q i ≤ walk N i .len
+      there (inl e) = rw e (rw near-asked (ok .query .offset-low))
+      there (inr e) = let n : asked N Q .twin ≢ none = λ z. few i l (e ∙ z) in rw e (omega (arith, near-twin n, twin-len n))
+
+  -- ---- a journey from inside a record is one from a place of its road
+  inside-place : (i x b : ℕ) → i < walkCount N → Inside N Q i x b → FromPlace (network N Q) (ways N Q) (road N Q i) x b
+  inside-place i x b l (onward {d = d} j) = FromPlace.onward d (journey-arrives N Q ok j) (omega arith)
+  inside-place i x b l (straight e h) = let q : near N Q i ≡ Q .offset = ap (near N Q) e ∙ near-asked in FromPlace.straight (omega arith) (omega arith)
+  inside-place i x b l (straight-twin e h) =
+      let n : asked N Q .twin ≢ none = λ z. few i l (e ∙ z) in
+      let q : near N Q i ≡ asked N Q .len - Q .offset = ap (near N Q) e ∙ near-twin n in
+      FromPlace.straight (omega arith) (omega arith)
+  inside-place i x b l (Inside.wait {d = d} h j) = up (inside-place i x d l j)
+    where
+      up : FromPlace (network N Q) (ways N Q) (road N Q i) x d → FromPlace (network N Q) (ways N Q) (road N Q i) x b
+      up (FromPlace.straight a c) = FromPlace.straight a (omega arith)
+      up (FromPlace.onward d′ a c) = FromPlace.onward d′ a (omega arith)
+
+  place-inside : (i x b : ℕ) → i < walkCount N → 0 < x → FromPlace (network N Q) (ways N Q) (road N Q i) x b → Inside N Q i x b
+  place-inside i x b l x0 (FromPlace.straight h k) = go (near-where N Q i (omega arith))
+    where
+      go : (i ≡ Q .walk) ⊎ (i ≡ asked N Q .twin) → Inside N Q i x b
+      go (inl e) =
+          let q : near N Q i ≡ Q .offset = ap (near N Q) e ∙ near-asked in
+          Inside.wait (let z : Q .offset - x ≤ b = omega arith in z) (straight e (omega arith))
+      go (inr e) =
+          let q : near N Q i ≡ asked N Q .len - Q .offset = ap (near N Q) e ∙ near-twin (λ z. few i l (e ∙ z)) in
+          Inside.wait (let z : (asked N Q .len - Q .offset) - x ≤ b = omega arith in z) (straight-twin e (omega arith))
+  place-inside i x b l x0 (FromPlace.onward d j h) =
+      let q : d + (walk N i .len - x) ≤ b = omega arith in
+      Inside.wait q (onward (arrives-journey N Q ok j))
+
+  -- A whole-decimetre place inside a record lies in a listed part exactly if a journey starts there within D.
+  module _ {l : List Settled} (O : Order (Distance N Q) (allowed Q) l) (i x : ℕ) (il : i < walkCount N) (x0 : 0 < x) (xl : x < walk N i .len) where
+    pub covered-inside : Covered (partList N Q l) i x → Inside N Q i x (allowed Q)
+    covered-inside c =
+        place-inside i x (allowed Q) il x0
+        (covers-from (network N Q) (ways N Q) (allowed Q) l (order-first (network N Q) (ways N Q) (laws N Q ok) (order-dist N Q ok O)) (road N Q i) x
+        (c .start, c .end, listed-piece N Q l (λ y j. O .each (y .vertex) (y .distance) j .1) (thePart i (c .start) (c .end)) (c .listed), c .low, c .high))
+
+    pub inside-covered : Inside N Q i x (allowed Q) → Covered (partList N Q l) i x
+    inside-covered j =
+        let c =
+        from-covers (network N Q) (ways N Q) (laws N Q ok) (allowed Q) (allowed-some (ok .query)) (allowed-low N Q ok) l (order-dist N Q ok O .all) (road N Q i) (sound i il) x x0 xl
+        (inside-place i x (allowed Q) il j) in
+        record { start = c .0; end = c .1; listed = piece-listed N Q l i il (few i il) (c .2); low = c .3; high = c .4 }

@@ -1,0 +1,168 @@
+-- What the definitions promise a planner, in the words of document 01. Each theorem says in one sentence what it means. Assumes nothing.
+use mathlib.Core.Path.{_≡_, refl, ap}
+use mathlib.Core.Logic.{_⊎_, inl, inr, ⊎-elim, _↔_, _≢_}
+use mathlib.Core.Bool.{Bool, true, false, not, cond}
+use mathlib.Core.List.{List, [], _∷_, _++_}
+use Prim.Native.Nat.{ℕ, suc, _-_, _≤_, _<_}
+use native.Mathlib.Omega.{arith}
+use lib.ListN.{length, take}
+use borrow.Author.Tests.{eqb-true, eq-eqb, not-true}
+use Rattle.journeys.specs.Counting.{none, In}
+use Rattle.journeys.specs.Tables.{Tables, walk, vertexCount, walkCount}
+use Rattle.journeys.specs.Query.{Query, allowed}
+use Rattle.journeys.specs.Journeys.{Journey, Distance, Inside}
+use Rattle.journeys.specs.Order.{Settled, settled, Order}
+use Rattle.journeys.specs.Network.{Network, Held, distanceIn, within, known, remaining, met, held, row, entry, heldList}
+use Rattle.journeys.specs.Records.{network}
+use Rattle.journeys.specs.Parts.{partList}
+use Rattle.journeys.specs.Answers.{tables}
+use Rattle.journeys.proofs.Tests.{never, and-both, and-true}
+use Rattle.journeys.proofs.Counting.{in-joined, joined-in}
+use Rattle.journeys.proofs.Ways.{Arrives}
+use Rattle.journeys.proofs.Known.{Next, Bound, is-within, within-is}
+use Rattle.journeys.proofs.Firsts.{order-one}
+use Rattle.journeys.proofs.Greedy.{run, arrives-dec, dist-exists}
+use Rattle.journeys.proofs.Settling.{order-exists, order-next, order-end, order-grows, order-state, settled-known}
+use Rattle.journeys.proofs.Held.{Dropped, dropped-stays, dropped-absent}
+use Rattle.journeys.proofs.Valid.{Valid, paired}
+use Rattle.journeys.proofs.Document.{ways, laws, strict, journey-arrives, arrives-journey, dist-distance, order-dist, dist-order, allowed-low}
+use Rattle.journeys.proofs.Coverage.{Covered, covered-inside, inside-covered}
+
+-- ---- journeys and distances
+-- Who could start later can start earlier: one waits.
+pub start-earlier : (N : Tables) (Q : Query) (v d d′ : ℕ) → d ≤ d′ → Journey N Q v d → Journey N Q v d′
+start-earlier N Q v d d′ h j = Journey.wait h j
+
+-- A vertex has one distance.
+pub distance-one : (N : Tables) (Q : Query) (v d d′ : ℕ) → Distance N Q v d → Distance N Q v d′ → d ≡ d′
+distance-one N Q v d d′ x y = omega (arith, x .latest d′ (y .starts), y .latest d (x .starts))
+
+module _ (N : Tables) (Q : Query) (ok : Valid N Q) where
+  -- Whoever has a journey has a latest one.
+  pub distance-exists : (v b : ℕ) → b < none → Journey N Q v b → (d : ℕ) × Distance N Q v d × (d ≤ b)
+  distance-exists v b h j = let x = dist-exists (network N Q) (ways N Q) (laws N Q ok) v b h (journey-arrives N Q ok j) in (x .0, dist-distance N Q ok (x .1), x .2)
+
+  -- Whether there is a journey can be decided.
+  pub journey-decided : (v b : ℕ) → b < none → Dec (Journey N Q v b)
+  journey-decided v b h = go (arrives-dec (network N Q) (ways N Q) (laws N Q ok) v b h)
+    where
+      go : Dec (Arrives (network N Q) (ways N Q) v b) → Dec (Journey N Q v b)
+      go (yes j) = yes (arrives-journey N Q ok j)
+      go (no q) = no (λ j. q (journey-arrives N Q ok j))
+
+  -- ---- the order
+  -- There is an order of settling.
+  unfoldable pub orderOf : List Settled
+  orderOf = run (network N Q) (allowed Q) (vertexCount N) []
+
+  pub order-is : Order (Distance N Q) (allowed Q) orderOf
+  unfolding orderOf
+  order-is = dist-order N Q ok (order-exists (network N Q) (ways N Q) (laws N Q ok) (allowed Q) (allowed-low N Q ok) (strict N Q ok))
+
+  -- It is the only one.
+  pub order-unique : {l l′ : List Settled} → Order (Distance N Q) (allowed Q) l → Order (Distance N Q) (allowed Q) l′ → l ≡ l′
+  order-unique O O′ = order-one (network N Q) (ways N Q) (laws N Q ok) (order-dist N Q ok O) (order-dist N Q ok O′)
+
+  module _ {l : List Settled} (O : Order (Distance N Q) (allowed Q) l) where
+    -- The least known of the vertices outside S, if within D, is the next in the order, with its distance.
+    pub next-settled : (k : ℕ) → k ≤ length l → (v : ℕ) → Next (network N Q) (distanceIn (take k l)) v → known (network N Q) (distanceIn (take k l)) v ≤ allowed Q
+        → (k < length l) × (take (suc k) l ≡ take k l ++ settled v (known (network N Q) (distanceIn (take k l)) v) ∷ [])
+    next-settled = order-next (network N Q) (ways N Q) (laws N Q ok) (allowed Q) (allowed-low N Q ok) (strict N Q ok) (order-dist N Q ok O)
+
+    -- If no vertex outside S is known within D, S is everything within D, and the other way round.
+    pub all-settled : (k : ℕ) → Bound (network N Q) (distanceIn (take k l)) (suc (allowed Q)) ↔ (length l ≤ k)
+    all-settled = order-end (network N Q) (ways N Q) (laws N Q ok) (allowed Q) (allowed-low N Q ok) (strict N Q ok) (order-dist N Q ok O)
+
+    -- ---- demand 2
+    -- A vertex is listed exactly if a journey from it starts within the window and arrives by T.
+    pub listed-exactly : (v : ℕ) → ((d : ℕ) × In (settled v d) l) ↔ ((d : ℕ) × (d ≤ allowed Q) × Journey N Q v d)
+    listed-exactly v = (
+      λ x. let e = O .each v (x .0) (x .1) in (x .0, e .1, e .0 .starts),
+      λ x.
+          let y = distance-exists v (x .0) (omega (arith, allowed-low N Q ok)) (x .2) in
+          (y .0, O .all v (y .0) (y .1) (omega arith)),
+    )
+
+    -- Its figure is T less the latest such start.
+    pub figure-exactly : (v d : ℕ) → In (settled v d) l → Distance N Q v d
+    figure-exactly v d i = O .each v d i .0
+
+    -- A whole-decimetre place inside a walk record lies in a listed part exactly if a journey starts there within the window.
+    pub place-exactly : (i x : ℕ) → i < walkCount N → 0 < x → x < walk N i .len → Covered (partList N Q l) i x ↔ ((d : ℕ) × (d ≤ allowed Q) × Inside N Q i x d)
+    place-exactly i x il x0 xl =
+        (λ c. (allowed Q, omega arith, covered-inside N Q ok O i x il x0 xl c), λ y. inside-covered N Q ok O i x il x0 xl (Inside.wait (y .1) (y .2)))
+
+    -- A point of a road with a twin is covered, by either record, exactly if a journey starts there along either.
+    pub point-exactly : (i x : ℕ) → i < walkCount N → walk N i .twin ≢ none → 0 < x → x < walk N i .len
+        → (Covered (partList N Q l) i x ⊎ Covered (partList N Q l) (walk N i .twin) (walk N i .len - x))
+        ↔ (((d : ℕ) × (d ≤ allowed Q) × Inside N Q i x d) ⊎ ((d : ℕ) × (d ≤ allowed Q) × Inside N Q (walk N i .twin) (walk N i .len - x) d))
+    point-exactly i x il n x0 xl = (go .0, go .1)
+      where
+        j : ℕ
+        j = walk N i .twin
+
+        there : Covered (partList N Q l) j (walk N i .len - x) ↔ ((d : ℕ) × (d ≤ allowed Q) × Inside N Q j (walk N i .len - x) d)
+        there =
+            let p = paired N (ok .tables) i il n in
+            place-exactly j (walk N i .len - x) (p .0) (omega arith) (omega (arith, p .1 .len))
+
+        go : (Covered (partList N Q l) i x ⊎ Covered (partList N Q l) j (walk N i .len - x))
+            ↔ (((d : ℕ) × (d ≤ allowed Q) × Inside N Q i x d) ⊎ ((d : ℕ) × (d ≤ allowed Q) × Inside N Q j (walk N i .len - x) d))
+        go =
+            let here = place-exactly i x il x0 xl in
+            (λ c. ⊎-elim (λ a. inl (here .0 a)) (λ a. inr (there .0 a)) c, λ c. ⊎-elim (λ a. inl (here .1 a)) (λ a. inr (there .1 a)) c)
+
+    -- ---- demand 3
+    -- After k steps the working table lists a vertex exactly if it is held.
+    pub held-exactly : (k v : ℕ) → v < vertexCount N
+        → In (row (network N Q) (distanceIn (take k l)) v) (heldList (network N Q) (distanceIn (take k l))) ↔ (held (network N Q) (distanceIn (take k l)) v ≡ true)
+    unfolding heldList entry row
+    held-exactly k v vn = (λ i. there (joined-in (entry G far) (vertexCount N) (row G far v) i), λ e. in-joined (entry G far) (vertexCount N) v (row G far v) vn (back (held G far v) e))
+      where
+        G : Network
+        G = network N Q
+
+        far : ℕ → ℕ
+        far = distanceIn (take k l)
+
+        here : (u : ℕ) (t : Bool) → held G far u ≡ t → In (row G far v) (cond t (row G far u ∷ []) []) → held G far v ≡ true
+        here u true e (inl p) = let q : v ≡ u = ap (λ (x : Held). x .vertex) p in rw q e
+        here u false e i = absurd i
+
+        there : (u : ℕ) × (u < vertexCount N) × In (row G far v) (cond (held G far u) (row G far u ∷ []) []) → held G far v ≡ true
+        there x = here (x .0) (held G far (x .0)) refl (x .2)
+
+        back : (t : Bool) → t ≡ true → In (row G far v) (cond t (row G far v ∷ []) [])
+        back true e = inl refl
+        back false e = never e refl
+
+    -- It is held exactly if it has been met and is not in S with all its departing records leading into S.
+    pub held-means : (k v : ℕ) → (held (network N Q) (distanceIn (take k l)) v ≡ true)
+        ↔ ((met (network N Q) (distanceIn (take k l)) v ≡ true) × ¬ Dropped (network N Q) (distanceIn (take k l)) v)
+    unfolding held within
+    held-means k v = (
+      λ e. let p = and-both (met G far v) _ e in (p .0, λ g. never (and-true (is-within far v (g .0)) (eq-eqb (remaining G far v) 0 (g .1))) (not-true _ (p .1))),
+      λ p. and-true (p .0) (not-is _ (λ t. let q = and-both (within far v) _ t in p .1 (within-is far v (q .0), eqb-true (remaining G far v) 0 (q .1)))),
+    )
+      where
+        G : Network
+        G = network N Q
+
+        far : ℕ → ℕ
+        far = distanceIn (take k l)
+
+        not-is : (b : Bool) → (b ≡ true → ⊥) → not b ≡ true
+        not-is true h = absurd (h refl)
+        not-is false h = refl
+
+    -- What is known of a settled vertex is its distance.
+    pub known-settled : (k v : ℕ) → v < vertexCount N → distanceIn (take k l) v < none → known (network N Q) (distanceIn (take k l)) v ≡ distanceIn (take k l) v
+    known-settled k v vn h =
+        settled-known (network N Q) (ways N Q) (laws N Q ok) (order-state (network N Q) (ways N Q) (laws N Q ok) (allowed Q) (allowed-low N Q ok) (strict N Q ok) (order-dist N Q ok O) k) v vn h
+
+    -- A dropped vertex is absent at every larger limit.
+    pub dropped-stays-absent : (k k′ : ℕ) → k ≤ k′ → (v : ℕ) → Dropped (network N Q) (distanceIn (take k l)) v → entry (network N Q) (distanceIn (take k′ l)) v ≡ []
+    dropped-stays-absent k k′ h v g =
+        dropped-absent (network N Q) (distanceIn (take k′ l)) v
+        (dropped-stays (network N Q) (distanceIn (take k l)) (distanceIn (take k′ l))
+        (λ u s. omega (arith, order-grows (network N Q) (ways N Q) (laws N Q ok) (allowed Q) (allowed-low N Q ok) (strict N Q ok) (order-dist N Q ok O) k k′ h u s)) v g)

@@ -1,0 +1,228 @@
+-- Document 01's walks and hops are such a network, and its journeys are those of the theory. Assumes nothing.
+use mathlib.Core.Path.{_≡_, refl, sym, ap, subst, _∙_}
+use mathlib.Core.Logic.{_⊎_, inl, inr, ⊎-elim, _≢_}
+use mathlib.Core.Bool.{Bool, true, false, not, cond, _&&_, _||_}
+use Prim.Native.Nat.{ℕ, _+_, _-_, _≤_, _<_}
+use native.Mathlib.Nat.{mul-le-mul-right, mul-lt-mul-of-pos-right}
+use native.Mathlib.Omega.{arith}
+use lib.Dec.{eqb, leb, ltb}
+use borrow.Author.Tests.{eqb-true, eqb-false, leb-true, ltb-true, eq-eqb, ne-eqb, le-leb, lt-ltb, not-true}
+use Rattle.journeys.specs.Counting.{none}
+use Rattle.journeys.specs.Tables.{Tables, walk, hop, vertexCount, walkCount, hopCount}
+use Rattle.journeys.specs.Query.{Query, before, asked, allowed}
+use Rattle.journeys.specs.Journeys.{Journey, from-end, to-end, at-to, by-walk, by-hop, Distance}
+use Rattle.journeys.specs.Order.{Order}
+use Rattle.journeys.specs.Records.{Record, walked, ridden, from, to, offer, recordCount, recordAt, seed, network}
+use Rattle.journeys.proofs.Tests.{split, and-both, and-true, or-cases, or-left, or-right, cond-true, cond-false, le-or-lt}
+use Rattle.journeys.proofs.Ways.{Ways, Arrives, ends, leads, Dist, Laws, Strict, Loopless, arrives-up}
+use Rattle.journeys.proofs.Valid.{Valid, good-walk, good-hop, allowed-high}
+
+-- ---- the meaning of the offers
+abbrev pub End : Tables → Query → ℕ → ℕ → Type 0
+End N Q v b =
+    ((asked N Q .from ≡ v) × (Q .offset ≤ b))
+    ⊎ ((asked N Q .to ≡ v) × ((asked N Q .twin ≢ none) ⊎ (Q .offset ≡ asked N Q .len)) × (asked N Q .len - Q .offset ≤ b))
+
+abbrev pub Lead : Query → Record → ℕ → ℕ → Type 0
+Lead Q (walked w) d b = d + w .len ≤ b
+Lead Q (ridden h) d b = (h .arrival ≤ Q .arrival) × (d ≤ before Q (h .arrival)) × (before Q (h .departure) ≤ b)
+
+abbrev pub ways : Tables → Query → Ways
+ways N Q = record { Ends = End N Q; Leads = λ r. Lead Q (recordAt N r) }
+
+-- ---- a record by its number
+pub data Numbered (N : Tables) (r : ℕ) : Record → Type 0 where
+  of-walk : r < walkCount N → Numbered N r (walked (walk N r))
+  of-hop : (j : ℕ) → j < hopCount N → r ≡ walkCount N + j → Numbered N r (ridden (hop N j))
+
+pub walk-record : (N : Tables) (i : ℕ) → i < walkCount N → recordAt N i ≡ walked (walk N i)
+unfolding recordAt
+walk-record N i l = cond-true (walked (walk N i)) _ (lt-ltb i (walkCount N) l)
+
+pub hop-record : (N : Tables) (j : ℕ) → recordAt N (walkCount N + j) ≡ ridden (hop N j)
+unfolding recordAt
+hop-record N j =
+    let e : (walkCount N + j) - walkCount N ≡ j = omega arith in
+    ⊎-elim (λ (t : ltb (walkCount N + j) (walkCount N) ≡ true). absurd (let z : ⊥ = omega (arith, ltb-true (walkCount N + j) (walkCount N) t) in z))
+    (λ (t : ltb (walkCount N + j) (walkCount N) ≡ false). cond-false (walked (walk N (walkCount N + j))) _ t ∙ ap (λ (k : ℕ). ridden (hop N k)) e)
+    (split _)
+
+pub numbered : (N : Tables) (r : ℕ) → r < recordCount N → Numbered N r (recordAt N r)
+numbered N r l =
+    ⊎-elim
+    (λ (h : walkCount N ≤ r).
+    let e : walkCount N + (r - walkCount N) ≡ r = omega arith in
+    let q : recordAt N r ≡ ridden (hop N (r - walkCount N)) = ap (recordAt N) (sym e) ∙ hop-record N (r - walkCount N) in
+    subst (Numbered N r) (sym q) (of-hop (r - walkCount N) (omega arith) (sym e)))
+    (λ (h : r < walkCount N). subst (Numbered N r) (sym (walk-record N r h)) (of-walk h))
+    (le-or-lt (walkCount N) r)
+
+-- ---- seeds
+module _ (N : Tables) (Q : Query) where
+  seed-le : (v b : ℕ) → End N Q v b → seed N Q v ≤ b
+  unfolding seed
+  seed-le v b (inl x) = omega (arith, cond-true (Q .offset) none (eq-eqb (asked N Q .from) v (x .0)))
+  seed-le v b (inr x) =
+      omega (arith, cond-true (asked N Q .len - Q .offset) none (and-true (eq-eqb (asked N Q .to) v (x .0)) (go (x .1))))
+    where
+      go : (asked N Q .twin ≢ none) ⊎ (Q .offset ≡ asked N Q .len) → (not (eqb (asked N Q .twin) none) || eqb (Q .offset) (asked N Q .len)) ≡ true
+      go (inl n) = or-left (eqb (Q .offset) (asked N Q .len)) (ap not (ne-eqb (asked N Q .twin) none n))
+      go (inr e) = or-right (not (eqb (asked N Q .twin) none)) (eq-eqb (Q .offset) (asked N Q .len) e)
+
+  seed-end : (v b : ℕ) → b < none → seed N Q v ≤ b → End N Q v b
+  unfolding seed
+  seed-end v b l h =
+      go (split (eqb (asked N Q .from) v)) (split (eqb (asked N Q .to) v && (not (eqb (asked N Q .twin) none) || eqb (Q .offset) (asked N Q .len))))
+    where
+      first : ℕ
+      first = cond (eqb (asked N Q .from) v) (Q .offset) none
+
+      test-to : Bool
+      test-to = eqb (asked N Q .to) v && (not (eqb (asked N Q .twin) none) || eqb (Q .offset) (asked N Q .len))
+
+      second : ℕ
+      second = cond test-to (asked N Q .len - Q .offset) none
+
+      at-from : eqb (asked N Q .from) v ≡ true → first ≤ b → End N Q v b
+      at-from t k = inl (eqb-true _ _ t, omega (arith, cond-true (Q .offset) none t))
+
+      at-to-end : test-to ≡ true → second ≤ b → End N Q v b
+      at-to-end t k =
+          let p = and-both (eqb (asked N Q .to) v) _ t in
+          inr (
+            eqb-true _ _ (p .0),
+            ⊎-elim (λ e. inl (eqb-false _ _ (not-true _ e))) (λ e. inr (eqb-true _ _ e)) (or-cases (not (eqb (asked N Q .twin) none)) _ (p .1)),
+            omega (arith, cond-true (asked N Q .len - Q .offset) none t),
+          )
+
+      go : (eqb (asked N Q .from) v ≡ true) ⊎ (eqb (asked N Q .from) v ≡ false) → (test-to ≡ true) ⊎ (test-to ≡ false) → End N Q v b
+      go (inl t) u = ⊎-elim (λ (k : first ≤ b). at-from t k) (λ (k : b < first). second-only k u) (le-or-lt first b)
+        where
+          second-only : b < first → (test-to ≡ true) ⊎ (test-to ≡ false) → End N Q v b
+          second-only k (inl u) = at-to-end u (omega arith)
+          second-only k (inr u) = absurd (omega (arith, cond-false (asked N Q .len - Q .offset) none u))
+      go (inr t) (inl u) = at-to-end u (omega (arith, cond-false (Q .offset) none t))
+      go (inr t) (inr u) = absurd (omega (arith, cond-false (Q .offset) none t, cond-false (asked N Q .len - Q .offset) none u))
+
+-- ---- offers
+before-mono : (Q : Query) (x y : ℕ) → x ≤ y → before Q y ≤ before Q x
+before-mono Q x y h = mul-le-mul-right (Q .speed) (let q : Q .arrival - y ≤ Q .arrival - x = omega arith in q)
+
+before-less : (Q : Query) (x y : ℕ) → 1 ≤ Q .speed → x < y → y ≤ Q .arrival → before Q y < before Q x
+before-less Q x y s h l = mul-lt-mul-of-pos-right (let q : Q .arrival - y < Q .arrival - x = omega arith in q) s
+
+lead-up : (Q : Query) (x : Record) (d b b′ : ℕ) → b ≤ b′ → Lead Q x d b → Lead Q x d b′
+lead-up Q (walked w) d b b′ h o = omega arith
+lead-up Q (ridden w) d b b′ h o = (o .0, o .1, omega (arith, o .2))
+
+lead-down : (Q : Query) (x : Record) (d d′ b : ℕ) → d′ ≤ d → Lead Q x d b → Lead Q x d′ b
+lead-down Q (walked w) d d′ b h o = omega arith
+lead-down Q (ridden w) d d′ b h o = (o .0, omega (arith, o .1), o .2)
+
+offer-le : (Q : Query) (x : Record) (d b : ℕ) → Lead Q x d b → offer Q x d ≤ b
+unfolding offer
+offer-le Q (walked w) d b o = o
+offer-le Q (ridden h) d b o =
+    omega (arith, o .2, cond-true (before Q (h .departure)) none (and-true (le-leb (h .arrival) (Q .arrival) (o .0)) (le-leb d (before Q (h .arrival)) (o .1))))
+
+offer-lead : (Q : Query) (x : Record) (d b : ℕ) → b < none → offer Q x d ≤ b → Lead Q x d b
+unfolding offer
+offer-lead Q (walked w) d b l o = o
+offer-lead Q (ridden h) d b l o = go (split (leb (h .arrival) (Q .arrival) && leb d (before Q (h .arrival))))
+  where
+    rides : Bool
+    rides = leb (h .arrival) (Q .arrival) && leb d (before Q (h .arrival))
+
+    go : (rides ≡ true) ⊎ (rides ≡ false) → (h .arrival ≤ Q .arrival) × (d ≤ before Q (h .arrival)) × (before Q (h .departure) ≤ b)
+    go (inl t) = let p = and-both (leb (h .arrival) (Q .arrival)) _ t in (leb-true _ _ (p .0), leb-true _ _ (p .1), omega (arith, cond-true (before Q (h .departure)) none t))
+    go (inr t) = absurd (omega (arith, cond-false (before Q (h .departure)) none t))
+
+module _ (N : Tables) (Q : Query) (ok : Valid N Q) where
+  record-from : (r : ℕ) {x : Record} → Numbered N r x → from x < vertexCount N
+  record-from r (of-walk l) = good-walk N (ok .tables) r l .from-low
+  record-from r (of-hop j l e) = good-hop N (ok .tables) j l .from-low
+
+  record-strict : (r d b : ℕ) {x : Record} → Numbered N r x → Lead Q x d b → d < b
+  record-strict r d b (of-walk l) o = omega (arith, good-walk N (ok .tables) r l .len-low)
+  record-strict r d b (of-hop j l e) o =
+      omega (arith, o .1, o .2, before-less Q (hop N j .departure) (hop N j .arrival) (ok .query .speed-low) (good-hop N (ok .tables) j l .rides) (o .0))
+
+  record-apart : (r : ℕ) {x : Record} → Numbered N r x → from x ≢ to x
+  record-apart r (of-walk l) = good-walk N (ok .tables) r l .apart
+  record-apart r (of-hop j l e) = good-hop N (ok .tables) j l .apart
+
+  end-low : (v b : ℕ) → End N Q v b → v < vertexCount N
+  end-low v b (inl x) = rw (x .0) at (good-walk N (ok .tables) (Q .walk) (ok .query .walk-low) .from-low)
+  end-low v b (inr x) = rw (x .0) at (good-walk N (ok .tables) (Q .walk) (ok .query .walk-low) .to-low)
+
+  end-up : (v b b′ : ℕ) → b ≤ b′ → End N Q v b → End N Q v b′
+  end-up v b b′ h (inl x) = inl (x .0, omega arith)
+  end-up v b b′ h (inr x) = inr (x .0, x .1, omega (arith, x .2))
+
+  pub laws : Laws (network N Q) (ways N Q)
+  laws =
+      record {
+        from-low = λ r l. record-from r (numbered N r l);
+        ends-low = end-low;
+        ends-up = end-up;
+        leads-up = λ r d b b′ h o. lead-up Q (recordAt N r) d b b′ h o;
+        leads-down = λ r d d′ b h o. lead-down Q (recordAt N r) d d′ b h o;
+        leads-le = λ r d b l o. omega (arith, record-strict r d b (numbered N r l) o);
+        seed-is = λ v b vn l. (seed-le N Q v b, seed-end N Q v b l);
+        offer-is = λ r d b rl l. (offer-le Q (recordAt N r) d b, offer-lead Q (recordAt N r) d b l);
+      }
+
+  pub strict : Strict (network N Q) (ways N Q)
+  strict r d b l o = record-strict r d b (numbered N r l) o
+
+  pub loopless : Loopless (network N Q)
+  loopless r l e = record-apart r (numbered N r l) e
+
+  -- ---- the journeys are those of the theory
+  pub journey-arrives : {v d : ℕ} → Journey N Q v d → Arrives (network N Q) (ways N Q) v d
+  journey-arrives from-end = ends {b = Q .offset} (inl (refl, omega arith))
+  journey-arrives (to-end n) = ends {b = asked N Q .len - Q .offset} (inr (refl, inl n, omega arith))
+  journey-arrives (at-to e) = ends {b = 0} (inr (refl, inr e, omega arith))
+  journey-arrives (by-walk i l {d = d} j) =
+      let q = walk-record N i l in
+      leads {b = d + walk N i .len} i d (omega arith) (ap from q) (rw q (omega arith)) (rw q (journey-arrives j))
+  journey-arrives (by-hop i l a j) =
+      let q = hop-record N i in
+      leads {b = before Q (hop N i .departure)} (walkCount N + i) (before Q (hop N i .arrival)) (omega arith) (ap from q) (rw q (a, omega arith, omega arith)) (rw q (journey-arrives j))
+  journey-arrives (Journey.wait {d′ = d′} h j) = arrives-up (network N Q) (ways N Q) laws d′ h (journey-arrives j)
+
+  ride : (v d b r : ℕ) {x : Record} → Numbered N r x → from x ≡ v → Lead Q x d b → Journey N Q (to x) d → Journey N Q v b
+  ride v d b r (of-walk l) f o j = Journey.wait o (rw f at (by-walk r l j))
+  ride v d b r (of-hop i l e) f o j = Journey.wait (o .2) (rw f at (by-hop i l (o .0) (Journey.wait (o .1) j)))
+
+  end-journey : (v b : ℕ) → End N Q v b → Journey N Q v b
+  end-journey v b (inl x) = let j : Journey N Q (asked N Q .from) (Q .offset) = from-end in Journey.wait (x .1) (rw (x .0) at j)
+  end-journey v b (inr x) = go (x .1)
+    where
+      go : (asked N Q .twin ≢ none) ⊎ (Q .offset ≡ asked N Q .len) → Journey N Q v b
+      go (inl n) = let j : Journey N Q (asked N Q .to) (asked N Q .len - Q .offset) = to-end n in Journey.wait (x .2) (rw (x .0) at j)
+      go (inr e) =
+          let j : Journey N Q (asked N Q .to) 0 = at-to e in
+          let z : 0 ≤ b = omega arith in
+          Journey.wait z (rw (x .0) at j)
+
+  pub arrives-journey : {v b : ℕ} → Arrives (network N Q) (ways N Q) v b → Journey N Q v b
+  arrives-journey {v} {b} (ends s) = end-journey v b s
+  arrives-journey {v} {b} (leads r d l f o j) = ride v d b r (numbered N r l) f o (arrives-journey j)
+
+  pub distance-dist : {v d : ℕ} → Distance N Q v d → Dist (network N Q) (ways N Q) v d
+  distance-dist x = (journey-arrives (x .starts), λ b j. x .latest b (arrives-journey j))
+
+  pub dist-distance : {v d : ℕ} → Dist (network N Q) (ways N Q) v d → Distance N Q v d
+  dist-distance x = record { starts = arrives-journey (x .0); latest = λ b j. x .1 b (journey-arrives j) }
+
+  pub order-dist : {D : ℕ} {l : _} → Order (Distance N Q) D l → Order (Dist (network N Q) (ways N Q)) D l
+  order-dist O =
+      record { ascending = O .ascending; each = λ v d i. (distance-dist (O .each v d i .0), O .each v d i .1); all = λ v d x h. O .all v d (dist-distance x) h }
+
+  pub dist-order : {D : ℕ} {l : _} → Order (Dist (network N Q) (ways N Q)) D l → Order (Distance N Q) D l
+  dist-order O =
+      record { ascending = O .ascending; each = λ v d i. (dist-distance (O .each v d i .0), O .each v d i .1); all = λ v d x h. O .all v d (distance-dist x) h }
+
+  pub allowed-low : allowed Q < none
+  allowed-low = omega (arith, allowed-high (ok .query))

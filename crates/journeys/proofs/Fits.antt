@@ -1,0 +1,222 @@
+-- All figures fit their 4 bytes: under the limits of document 01 every seed, offer, known distance, offset and count is below none. Assumes nothing.
+use mathlib.Core.Path.{_≡_, refl, subst}
+use mathlib.Core.Logic.{_⊎_, inl, inr, ⊎-elim}
+use mathlib.Core.Bool.{Bool, true, false, not, cond, _&&_, _||_}
+use mathlib.Core.List.{List, [], _∷_, flatMap}
+use Prim.Native.Nat.{ℕ, zero, suc, _+_, _-_, _*_, _≤_, _<_, min, max}
+use native.Mathlib.Nat.{mul-le-mul}
+use native.Mathlib.Omega.{arith}
+use lib.Dec.{eqb, leb, ltb}
+use borrow.Author.Tests.{eqb-false, lt-ltb, le-ltb}
+use lib.ListN.{length, take, drop, length-append, take-append-drop}
+use lib.Seq.{take-nil}
+use Rattle.journeys.specs.Counting.{none, count, joined, In}
+use Rattle.journeys.specs.Bytes.{midnight}
+use Rattle.journeys.specs.Tables.{Tables, walk, hop, walkCount}
+use Rattle.journeys.specs.Query.{Query, before, asked, allowed}
+use Rattle.journeys.specs.Journeys.{Distance}
+use Rattle.journeys.specs.Order.{Settled, settled, Earlier, Ascending}
+use Rattle.journeys.specs.Network.{Network, distanceIn, within, known, held, row, entry, heldList}
+use Rattle.journeys.specs.Records.{Record, offer, recordCount, recordAt, seed, network}
+use Rattle.journeys.specs.Parts.{Part, part, near, firstPart, firstParts, partAt, partsAt, partList}
+use Rattle.journeys.proofs.Tests.{Test, same, other, test, le-or-lt}
+use Rattle.journeys.proofs.Counting.{one, is-one, is-zero, count-most, count-join, in-append, in-left, flat-in, joined-in}
+use Rattle.journeys.proofs.Known.{By, known-by, known-seed, known-record}
+use Rattle.journeys.proofs.Firsts.{distance-in}
+use Rattle.journeys.proofs.Valid.{Valid, good-walk, good-hop, paired, allowed-high}
+use Rattle.journeys.proofs.Document.{Numbered, of-walk, of-hop, numbered, ways}
+use Rattle.journeys.proofs.Cover.{Piece, first, later}
+use Rattle.journeys.proofs.Coverage.{road, sound, listed-piece, first-walk, firsts-cases, at-walk}
+
+-- the largest figure: a start at -86,400 s for an arrival at 172,800 s, at 100 dm/s
+abbrev pub largest : ℕ
+largest = 25920000
+
+-- none, or no more than this
+abbrev pub Fits : ℕ → Type 0
+Fits x = (x ≡ none) ⊎ (x ≤ largest)
+
+module _ (N : Tables) (Q : Query) (ok : Valid N Q) where
+  before-fits : (second : ℕ) → midnight - 86400 ≤ second → before Q second ≤ largest
+  before-fits second h =
+      let m : (Q .arrival - second) * Q .speed ≤ 259200 * 100 = mul-le-mul (let q : Q .arrival - second ≤ 259200 = omega (arith, ok .query .arrival-high) in q) (ok .query .speed-high) in
+      omega arith
+
+  -- Every offer at a distance within D.
+  pub offer-fits : (r d : ℕ) → r < recordCount N → d ≤ allowed Q → Fits (offer Q (recordAt N r) d)
+  unfolding offer
+  offer-fits r d l h = go (numbered N r l)
+    where
+      ridden-fits : (b : Bool) (x : ℕ) → x ≤ largest → Fits (cond b x none)
+      ridden-fits true x q = inr q
+      ridden-fits false x q = inl refl
+
+      go : {x : Record} → Numbered N r x → Fits (offer Q x d)
+      go (of-walk i) = inr (omega (arith, good-walk N (ok .tables) r i .len-high, allowed-high (ok .query)))
+      go (of-hop j i e) =
+          ridden-fits (leb (hop N j .arrival) (Q .arrival) && leb d (before Q (hop N j .arrival))) (before Q (hop N j .departure)) (before-fits (hop N j .departure) (good-hop N (ok .tables) j i .departure-low))
+
+  -- Every seed.
+  pub seed-fits : (v : ℕ) → Fits (seed N Q v)
+  unfolding seed
+  seed-fits v =
+      go (eqb (asked N Q .from) v) (eqb (asked N Q .to) v && (not (eqb (asked N Q .twin) none) || eqb (Q .offset) (asked N Q .len)))
+    where
+      long : asked N Q .len ≤ 100000
+      long = good-walk N (ok .tables) (Q .walk) (ok .query .walk-low) .len-high
+
+      go : (a b : Bool) → Fits (min (cond a (Q .offset) none) (cond b (asked N Q .len - Q .offset) none))
+      go true true = inr (omega (arith, long))
+      go true false = inr (omega (arith, long, ok .query .offset-low))
+      go false true = inr (omega (arith, long))
+      go false false = inl (omega arith)
+
+  -- Every known distance, where all that is settled is within D.
+  pub known-fits : (far : ℕ → ℕ) → ((u : ℕ) → far u < none → far u ≤ allowed Q) → (v : ℕ) → known (network N Q) far v < none → known (network N Q) far v ≤ largest
+  known-fits far low v h = go (known-by (network N Q) far v (known (network N Q) far v) h (omega arith))
+    where
+      fits : (x : ℕ) → Fits x → x ≤ known (network N Q) far v → known (network N Q) far v ≤ x → known (network N Q) far v ≤ largest
+      fits x (inl e) a b = absurd (omega arith)
+      fits x (inr e) a b = omega arith
+
+      go : By (network N Q) far v (known (network N Q) far v) → known (network N Q) far v ≤ largest
+      go (inl s) = fits (seed N Q v) (seed-fits v) s (known-seed (network N Q) far v)
+      go (inr x) =
+          let i = x .1 in
+          fits (offer Q (recordAt N (x .0)) (far (network N Q .to (x .0)))) (offer-fits (x .0) (far (network N Q .to (x .0))) (i .0) (low (network N Q .to (x .0)) (i .2))) (x .2)
+          (known-record (network N Q) far v (x .0) i)
+
+  -- Every part: a record of the table, and offsets on it.
+  pub part-fits : (S : List Settled) → ((x : Settled) → In x S → x .distance ≤ allowed Q) → (p : Part) → In p (partList N Q S)
+      → (p .walk < walkCount N) × (p .start ≤ p .end) × (p .end ≤ walk N (p .walk) .len)
+  unfolding partList partsAt
+  part-fits S low p j =
+      let l : p .walk < walkCount N = go (in-append (firstParts N Q) _ p j) in
+      let q = piece-fits (p .walk) l (listed-piece N Q S low p j) in
+      (l, q .0, q .1)
+    where
+      of-first : (i : ℕ) → i < walkCount N → In p (firstPart N Q i) → p .walk < walkCount N
+      of-first i l k = rw (first-walk N Q i p k) l
+
+      by-twin : (t : Bool) → eqb (asked N Q .twin) none ≡ t → In p (cond t [] (firstPart N Q (asked N Q .twin))) → p .walk < walkCount N
+      by-twin true e k = absurd k
+      by-twin false e k = of-first (asked N Q .twin) (paired N (ok .tables) (Q .walk) (ok .query .walk-low) (eqb-false (asked N Q .twin) none e) .0) k
+
+      firsts : In p (firstPart N Q (Q .walk)) ⊎ In p (cond (eqb (asked N Q .twin) none) [] (firstPart N Q (asked N Q .twin))) → p .walk < walkCount N
+      firsts (inl k) = of-first (Q .walk) (ok .query .walk-low) k
+      firsts (inr k) = by-twin (eqb (asked N Q .twin) none) refl k
+
+      go : In p (firstParts N Q) ⊎ In p (flatMap (partsAt N Q) S) → p .walk < walkCount N
+      go (inl k) = firsts (firsts-cases N Q p k)
+      go (inr k) =
+          let x = flat-in (partsAt N Q) S p k in
+          let y = joined-in (λ i. cond (eqb (walk N i .to) (x .0 .vertex)) (partAt N Q (x .0 .distance) i) []) (walkCount N) p (x .2) in
+          rw (at-walk N Q (x .0) (y .0) p (y .2)) (y .1)
+
+      piece-fits : (i : ℕ) → i < walkCount N → {a z : ℕ} → Piece (network N Q) (ways N Q) (allowed Q) S (road N Q i) a z → (a ≤ z) × (z ≤ walk N i .len)
+      piece-fits i l (first m q) = (omega arith, sound N Q ok i l .on)
+      piece-fits i l (later d k m q) = (omega (arith, sound N Q ok i l .on), omega arith)
+
+-- ---- counts
+at-most-one : {A : Type 0} (t : Bool) (x : A) → (length (cond t (x ∷ []) []) ≤ one t) × (length (cond t [] (x ∷ [])) ≤ 1)
+at-most-one true x = (omega arith, omega arith)
+at-most-one false x = (omega arith, omega arith)
+
+part-most : (i a b : ℕ) → length (part i a b) ≤ 1
+unfolding part
+part-most i a b = let p : Part = record { walk = i; start = a; end = b } in at-most-one (eqb a b) p .1
+
+joined-most : {A : Type 0} (f : ℕ → List A) (p : ℕ → Bool) (n : ℕ) → ((i : ℕ) → i < n → length (f i) ≤ one (p i)) → length (joined f n) ≤ count p n
+unfolding joined count
+joined-most f p zero h = omega arith
+joined-most f p (suc n) h = omega (arith, length-append (joined f n) (f n), joined-most f p n (λ i l. h i (omega arith)), h n (omega arith))
+
+-- No more entries are held than there are vertices.
+pub held-most : (G : Network) (far : ℕ → ℕ) → length (heldList G far) ≤ G .vertices
+unfolding heldList entry
+held-most G far =
+    omega (arith, joined-most (entry G far) (held G far) (G .vertices) (λ v l. at-most-one (held G far v) (row G far v) .0), count-most (held G far) (G .vertices))
+
+-- a list that gives each vertex one distance at most
+abbrev pub Distinct : List Settled → Type 0
+Distinct [] = Unit {0}
+Distinct (x ∷ S) = (none ≤ distanceIn S (x .vertex)) × (x .distance < none) × Distinct S
+
+split-one : (S : List Settled) (x : Settled) → none ≤ distanceIn S (x .vertex) → x .distance < none → (v : ℕ)
+    → one (within (distanceIn (x ∷ S)) v) ≡ one (eqb v (x .vertex)) + one (within (distanceIn S) v)
+unfolding within distanceIn
+split-one S x out some v = go (test v (x .vertex))
+  where
+    go : {t : Bool} → Test v (x .vertex) t → one (ltb (cond t (x .distance) (distanceIn S v)) none) ≡ one t + one (ltb (distanceIn S v) none)
+    go (same e) = omega (arith, is-one (lt-ltb (x .distance) none some), is-zero (le-ltb (distanceIn S v) none (rw e out)))
+    go (other q) = omega arith
+
+module _ (N : Tables) (Q : Query) where
+  at-most : (x : Settled) → length (partsAt N Q x) ≤ count (λ i. eqb (walk N i .to) (x .vertex)) (walkCount N)
+  unfolding partsAt partAt
+  at-most x =
+      joined-most (λ i. cond (eqb (walk N i .to) (x .vertex)) (partAt N Q (x .distance) i) []) (λ i. eqb (walk N i .to) (x .vertex)) (walkCount N)
+      (λ i l. go (eqb (walk N i .to) (x .vertex)) i)
+    where
+      go : (t : Bool) (i : ℕ) → length (cond t (part i (max (walk N i .len - (allowed Q - x .distance)) (near N Q i)) (walk N i .len)) []) ≤ one t
+      go true i = part-most i (max (walk N i .len - (allowed Q - x .distance)) (near N Q i)) (walk N i .len)
+      go false i = omega arith
+
+  -- each walk arrives at one vertex
+  parts-of-most : (S : List Settled) → Distinct S → length (flatMap (partsAt N Q) S) ≤ count (λ i. within (distanceIn S) (walk N i .to)) (walkCount N)
+  unfolding flatMap
+  parts-of-most [] h = omega arith
+  parts-of-most (x ∷ S) h =
+      omega (
+        arith,
+        length-append (partsAt N Q x) (flatMap (partsAt N Q) S),
+        at-most x,
+        parts-of-most S (h .2),
+        count-join (λ i. within (distanceIn (x ∷ S)) (walk N i .to)) (λ i. eqb (walk N i .to) (x .vertex)) (λ i. within (distanceIn S) (walk N i .to)) (walkCount N)
+            (λ i l. split-one S x (h .0) (h .1) (walk N i .to)),
+      )
+
+  -- No more parts are written than there are walks, and two for the query's road.
+  pub parts-most : (S : List Settled) → Distinct S → length (partList N Q S) ≤ walkCount N + 2
+  unfolding partList firstParts firstPart
+  parts-most S h =
+      omega (
+        arith,
+        length-append (firstParts N Q) (flatMap (partsAt N Q) S),
+        length-append (firstPart N Q (Q .walk)) (cond (eqb (asked N Q .twin) none) [] (firstPart N Q (asked N Q .twin))),
+        part-most (Q .walk) (near N Q (Q .walk) - allowed Q) (near N Q (Q .walk)),
+        twin (eqb (asked N Q .twin) none),
+        parts-of-most S h,
+        count-most (λ i. within (distanceIn S) (walk N i .to)) (walkCount N),
+      )
+    where
+      twin : (t : Bool) → length (cond t [] (part (asked N Q .twin) (near N Q (asked N Q .twin) - allowed Q) (near N Q (asked N Q .twin)))) ≤ 1
+      twin true = omega arith
+      twin false = part-most (asked N Q .twin) (near N Q (asked N Q .twin) - allowed Q) (near N Q (asked N Q .twin))
+
+-- The order, and each beginning of it, gives each vertex one distance.
+pub distinct : (N : Tables) (Q : Query) → allowed Q < none → (l : List Settled) → Ascending l → ((v d : ℕ) → In (settled v d) l → Distance N Q v d × (d ≤ allowed Q)) → (k : ℕ)
+    → Distinct (take k l)
+distinct N Q D [] a each k = rw take-nil tt
+distinct N Q D (x ∷ l) a each zero = tt
+distinct N Q D (x ∷ l) a each (suc k) = (
+  ⊎-elim (λ (h : none ≤ distanceIn (take k l) (x .vertex)). h)
+      (λ (h : distanceIn (take k l) (x .vertex) < none). absurd (twice (distanceIn (take k l) (x .vertex)) (in-take k l _ (distance-in (take k l) (x .vertex) h))))
+      (le-or-lt none (distanceIn (take k l) (x .vertex))),
+  omega (arith, each (x .vertex) (x .distance) (inl refl) .1),
+  distinct N Q D l (a .1) (λ v d i. each v d (inr i)) k,
+)
+  where
+    in-take : (k : ℕ) (l : List Settled) (y : Settled) → In y (take k l) → In y l
+    in-take k l y i = subst (In y) (take-append-drop k l) (in-left (take k l) (drop k l) y i)
+
+    twice : (d : ℕ) → In (settled (x .vertex) d) l → ⊥
+    twice d i =
+        let p = each (x .vertex) (x .distance) (inl refl) .0 in
+        let q = each (x .vertex) d (inr i) .0 in
+        let e : x .distance ≡ d = omega (arith, p .latest d (q .starts), q .latest (x .distance) (p .starts)) in
+        go (a .0 (settled (x .vertex) d) i) e
+      where
+        go : Earlier x (settled (x .vertex) d) → x .distance ≡ d → ⊥
+        go (inl l) e = omega arith
+        go (inr l) e = omega (arith, l .1)

@@ -1,0 +1,200 @@
+-- What holds of tables and a query that are not refused. Assumes nothing.
+use mathlib.Core.Path.{_≡_}
+use mathlib.Core.Logic.{⊎-elim, _≢_}
+use mathlib.Core.Bool.{true, _&&_}
+use mathlib.Core.List.{List}
+use Prim.Native.Nat.{ℕ, _+_, _-_, _*_, _/_, _≤_, _<_}
+use native.Mathlib.Nat.{mul-le-mul}
+use native.Mathlib.Omega.{arith}
+use lib.Dec.{eqb, leb, ltb}
+use lib.ListN.{length}
+use borrow.Author.Tests.{leb-true, ltb-true, eqb-true, eqb-false, not-true}
+use Rattle.journeys.specs.Counting.{none}
+use Rattle.journeys.specs.Bytes.{midnight}
+use Rattle.journeys.specs.Tables.{Tables, tablesOf, vertexCount, walkCount, hopCount, walk, hop}
+use Rattle.journeys.specs.Query.{Query, asked, allowed}
+use Rattle.journeys.specs.Refusals.{unless, firstBad, wholeOf, tableOf, tableLengths, bufferLengths, endsOk, pairOk, walkOk, hopOk, walkAscends, hopAscends, vertexOk, contents, queryRefusal, check}
+use Rattle.journeys.specs.Answers.{Lent, tables, early}
+use Rattle.journeys.proofs.Tests.{and-both, or-cases}
+use Rattle.journeys.proofs.Refusals.{or-fine, unless-fine, bad-fine}
+use Rattle.journeys.proofs.Decoding.{vertex-count, walk-count, hop-count}
+
+-- ---- the tables
+pub record ValidTables (N : Tables) : Type 0 where
+  pub vertices-some : 1 ≤ vertexCount N
+  pub vertices-few : vertexCount N ≤ 65536
+  pub walks-few : walkCount N ≤ 262144
+  pub hops-few : hopCount N ≤ 262144
+  pub walks : (i : ℕ) → i < walkCount N → walkOk N i ≡ true
+  pub hops : (j : ℕ) → j < hopCount N → hopOk N j ≡ true
+  pub walks-ascend : (i : ℕ) → i < walkCount N → walkAscends N i ≡ true
+  pub hops-ascend : (j : ℕ) → j < hopCount N → hopAscends N j ≡ true
+  pub vertices : (v : ℕ) → v < vertexCount N → vertexOk N v ≡ true
+
+pub record ValidQuery (N : Tables) (Q : Query) : Type 0 where
+  pub walk-low : Q .walk < walkCount N
+  pub offset-low : Q .offset ≤ asked N Q .len
+  pub arrival-low : midnight ≤ Q .arrival
+  pub arrival-high : Q .arrival ≤ midnight + 172800
+  pub duration-low : 1 ≤ Q .duration
+  pub duration-high : Q .duration ≤ 86400
+  pub speed-low : 1 ≤ Q .speed
+  pub speed-high : Q .speed ≤ 100
+
+-- both
+pub record Valid (N : Tables) (Q : Query) : Type 0 where
+  pub tables : ValidTables N
+  pub query : ValidQuery N Q
+
+pub contents-valid : (N : Tables) → 1 ≤ vertexCount N → vertexCount N ≤ 65536 → walkCount N ≤ 262144 → hopCount N ≤ 262144 → contents N .number ≡ 0 → ValidTables N
+unfolding contents
+contents-valid N some few walksFew hopsFew e =
+    let a = or-fine (firstBad 2 (walkOk N) (walkCount N)) _ e in
+    let b = or-fine (firstBad 3 (hopOk N) (hopCount N)) _ (a .1) in
+    let c = or-fine (firstBad 4 (walkAscends N) (walkCount N)) _ (b .1) in
+    let d = or-fine (firstBad 5 (hopAscends N) (hopCount N)) _ (c .1) in
+    record {
+      vertices-some = some;
+      vertices-few = few;
+      walks-few = walksFew;
+      hops-few = hopsFew;
+      walks = bad-fine 2 (walkOk N) (walkCount N) (omega arith) (a .0);
+      hops = bad-fine 3 (hopOk N) (hopCount N) (omega arith) (b .0);
+      walks-ascend = bad-fine 4 (walkAscends N) (walkCount N) (omega arith) (c .0);
+      hops-ascend = bad-fine 5 (hopAscends N) (hopCount N) (omega arith) (d .0);
+      vertices = bad-fine 6 (vertexOk N) (vertexCount N) (omega arith) (d .1);
+    }
+
+pub query-valid : (N : Tables) (Q : Query) → queryRefusal N Q .number ≡ 0 → ValidQuery N Q
+unfolding queryRefusal
+query-valid N Q e =
+    let a = or-fine (unless (ltb (Q .walk) (walkCount N)) 7 0) _ e in
+    let b = or-fine (unless (leb (Q .offset) (asked N Q .len)) 7 1) _ (a .1) in
+    let c = or-fine (unless (leb midnight (Q .arrival) && leb (Q .arrival) (midnight + 172800)) 7 2) _ (b .1) in
+    let d = or-fine (unless (leb 1 (Q .duration) && leb (Q .duration) 86400) 7 3) _ (c .1) in
+    let arrival = and-both (leb midnight (Q .arrival)) _ (unless-fine _ 7 2 (omega arith) (c .0)) in
+    let duration = and-both (leb 1 (Q .duration)) _ (unless-fine _ 7 3 (omega arith) (d .0)) in
+    let speed = and-both (leb 1 (Q .speed)) _ (unless-fine _ 7 4 (omega arith) (d .1)) in
+    record {
+      walk-low = ltb-true _ _ (unless-fine _ 7 0 (omega arith) (a .0));
+      offset-low = leb-true _ _ (unless-fine _ 7 1 (omega arith) (b .0));
+      arrival-low = leb-true _ _ (arrival .0);
+      arrival-high = leb-true _ _ (arrival .1);
+      duration-low = leb-true _ _ (duration .0);
+      duration-high = leb-true _ _ (duration .1);
+      speed-low = leb-true _ _ (speed .0);
+      speed-high = leb-true _ _ (speed .1);
+    }
+
+table-fits : (size low high : ℕ) (b : List ℕ) → tableOf size low high b ≡ true → (low ≤ length b / size) × (length b / size ≤ high)
+unfolding tableOf
+table-fits size low high b e =
+    let p = and-both (wholeOf size b && leb low (length b / size)) _ e in
+    (leb-true _ _ (and-both (wholeOf size b) _ (p .0) .1), leb-true _ _ (p .1))
+
+-- Tables that the check passes are valid.
+pub lengths-valid : (v w h : List ℕ) → tableLengths v w h .number ≡ 0 → contents (tablesOf v w h) .number ≡ 0 → ValidTables (tablesOf v w h)
+unfolding tableLengths
+lengths-valid v w h e f =
+    let a = or-fine (unless (tableOf 12 1 65536 v) 1 0) _ e in
+    let b = or-fine (unless (tableOf 16 0 262144 w) 1 1) _ (a .1) in
+    let p = table-fits 12 1 65536 v (unless-fine _ 1 0 (omega arith) (a .0)) in
+    let q = table-fits 16 0 262144 w (unless-fine _ 1 1 (omega arith) (b .0)) in
+    let r = table-fits 16 0 262144 h (unless-fine _ 1 2 (omega arith) (b .1)) in
+    contents-valid (tablesOf v w h) (omega (arith, vertex-count v w h)) (omega (arith, vertex-count v w h)) (omega (arith, walk-count v w h)) (omega (arith, hop-count v w h)) f
+
+pub check-valid : (v w h : List ℕ) → check v w h .number ≡ 0 → ValidTables (tablesOf v w h)
+unfolding check
+check-valid v w h e = let a = or-fine (tableLengths v w h) _ e in lengths-valid v w h (a .0) (a .1)
+
+-- What the run does not refuse at once is valid.
+pub early-valid : (b : Lent) (Q : Query) → early b Q .number ≡ 0 → Valid (tables b) Q
+unfolding early
+early-valid b Q e =
+    let x = or-fine (tableLengths (b .vertices) (b .walks) (b .hops)) _ e in
+    let y = or-fine (bufferLengths (b .held) (b .settled) (b .parts)) _ (x .1) in
+    let z = or-fine (contents (tables b)) _ (y .1) in
+    record { tables = lengths-valid (b .vertices) (b .walks) (b .hops) (x .0) (z .0); query = query-valid (tables b) Q (z .1) }
+
+-- ---- what a good record says
+pub record GoodWalk (N : Tables) (i : ℕ) : Type 0 where
+  pub from-low : walk N i .from < vertexCount N
+  pub to-low : walk N i .to < vertexCount N
+  pub apart : walk N i .from ≢ walk N i .to
+  pub len-low : 1 ≤ walk N i .len
+  pub len-high : walk N i .len ≤ 100000
+  pub twin : walk N i .twin ≢ none → (walk N i .twin < walkCount N) × (pairOk i (walk N i) (walk N (walk N i .twin)) ≡ true)
+
+pub record GoodHop (N : Tables) (j : ℕ) : Type 0 where
+  pub from-low : hop N j .from < vertexCount N
+  pub to-low : hop N j .to < vertexCount N
+  pub apart : hop N j .from ≢ hop N j .to
+  pub departure-low : midnight - 86400 ≤ hop N j .departure
+  pub rides : hop N j .departure < hop N j .arrival
+  pub arrival-high : hop N j .arrival ≤ midnight + 172800
+
+ends-good : (n from to : ℕ) → endsOk n from to ≡ true → (from < n) × (to < n) × (from ≢ to)
+unfolding endsOk
+ends-good n from to e =
+    let a = and-both (ltb from n && ltb to n) _ e in
+    let b = and-both (ltb from n) _ (a .0) in
+    (ltb-true _ _ (b .0), ltb-true _ _ (b .1), eqb-false _ _ (not-true _ (a .1)))
+
+module _ (N : Tables) (ok : ValidTables N) where
+  pub good-walk : (i : ℕ) → i < walkCount N → GoodWalk N i
+  unfolding walkOk
+  good-walk i l =
+      let a = and-both (endsOk (vertexCount N) (walk N i .from) (walk N i .to) && (leb 1 (walk N i .len) && leb (walk N i .len) 100000)) _ (ok .walks i l) in
+      let b = and-both (endsOk (vertexCount N) (walk N i .from) (walk N i .to)) _ (a .0) in
+      let c = and-both (leb 1 (walk N i .len)) _ (b .1) in
+      let e = ends-good (vertexCount N) (walk N i .from) (walk N i .to) (b .0) in
+      record {
+        from-low = e .0;
+        to-low = e .1;
+        apart = e .2;
+        len-low = leb-true _ _ (c .0);
+        len-high = leb-true _ _ (c .1);
+        twin = λ n.
+            ⊎-elim (λ (t : eqb (walk N i .twin) none ≡ true). absurd (n (eqb-true _ _ t)))
+            (λ t. let p = and-both (ltb (walk N i .twin) (walkCount N)) _ t in (ltb-true _ _ (p .0), p .1))
+            (or-cases (eqb (walk N i .twin) none) _ (a .1));
+      }
+
+  pub good-hop : (j : ℕ) → j < hopCount N → GoodHop N j
+  unfolding hopOk
+  good-hop j l =
+      let a = and-both (endsOk (vertexCount N) (hop N j .from) (hop N j .to)) _ (ok .hops j l) in
+      let b = and-both (leb (midnight - 86400) (hop N j .departure) && ltb (hop N j .departure) (hop N j .arrival)) _ (a .1) in
+      let c = and-both (leb (midnight - 86400) (hop N j .departure)) _ (b .0) in
+      let e = ends-good (vertexCount N) (hop N j .from) (hop N j .to) (a .0) in
+      record {
+        from-low = e .0;
+        to-low = e .1;
+        apart = e .2;
+        departure-low = leb-true _ _ (c .0);
+        rides = ltb-true _ _ (c .1);
+        arrival-high = leb-true _ _ (b .1);
+      }
+
+-- the twin of a record: the same road the other way
+pub record Paired (N : Tables) (i j : ℕ) : Type 0 where
+  pub back : walk N j .twin ≡ i
+  pub from : walk N j .from ≡ walk N i .to
+  pub to : walk N j .to ≡ walk N i .from
+  pub len : walk N j .len ≡ walk N i .len
+
+pub paired : (N : Tables) → ValidTables N → (i : ℕ) → i < walkCount N → walk N i .twin ≢ none → (walk N i .twin < walkCount N) × Paired N i (walk N i .twin)
+unfolding pairOk
+paired N ok i l n =
+    let t = good-walk N ok i l .twin n in
+    let a = and-both (eqb (walk N (walk N i .twin) .twin) i && eqb (walk N (walk N i .twin) .from) (walk N i .to) && eqb (walk N (walk N i .twin) .to) (walk N i .from)) _ (t .1) in
+    let b = and-both (eqb (walk N (walk N i .twin) .twin) i && eqb (walk N (walk N i .twin) .from) (walk N i .to)) _ (a .0) in
+    let c = and-both (eqb (walk N (walk N i .twin) .twin) i) _ (b .0) in
+    (t .0, record { back = eqb-true _ _ (c .0); from = eqb-true _ _ (c .1); to = eqb-true _ _ (b .1); len = eqb-true _ _ (a .1) })
+
+-- D is some, and far below none
+pub allowed-some : {N : Tables} {Q : Query} → ValidQuery N Q → 1 ≤ allowed Q
+allowed-some {N} {Q} q = mul-le-mul {n₁ = 1} {m₁ = 1} (q .duration-low) (q .speed-low)
+
+pub allowed-high : {N : Tables} {Q : Query} → ValidQuery N Q → allowed Q ≤ 8640000
+allowed-high {N} {Q} q = let m : Q .duration * Q .speed ≤ 86400 * 100 = mul-le-mul (q .duration-high) (q .speed-high) in omega arith
