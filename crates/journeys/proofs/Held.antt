@@ -186,7 +186,7 @@ module _ (G : Network) (far : ℕ → ℕ) (v d : ℕ) (out : none ≤ far v) (s
       rw (k, l, within-same far v d v some refl, known-met G far v h)
 
   -- A record that leads from u to v has not been counted before it is gone through.
-  toward-left : (u r : ℕ) → r < G .records → toward G v u r ≡ true → count (toward G v u) r < remaining G far u
+  pub toward-left : (u r : ℕ) → r < G .records → toward G v u r ≡ true → count (toward G v u) r < remaining G far u
   unfolding count
   toward-left u r l e = omega (arith, is-one e, count-grows (toward G v u) (suc r) (G .records) l, remaining-step G far v d out some u)
 
