@@ -1,0 +1,32 @@
+-- `records::arriving` meets its contract: each arm gives the run of its table. Assumes nothing.
+use Rattle.records.specs.Arriving.{tableOf}
+use borrow.Author.Needs.{needs}
+use Rattle.records.proofs.arriving.Statement.{statement}
+use Rattle.records.proofs.arriving.Tie as tie
+
+enum-told : tie.Need-enum-told
+enum-told c = search needs
+
+part-of-requires : tie.Need-part-of-requires
+unfolding tableOf
+part-of-requires c κs = rw (c .enum-told .given .1) at (c .before .before .before .before .pre)
+
+enum-told-2 : tie.Need-enum-told-2
+enum-told-2 c = search needs
+
+part-of-requires-2 : tie.Need-part-of-requires-2
+unfolding tableOf
+part-of-requires-2 c κs = rw (c .enum-told2 .given .1) at (c .before .before .before .before .pre)
+
+returns : tie.Need-returns
+unfolding tableOf
+returns c = rw (c .before .enum-told .given .1) (c .part-of .ensures)
+
+returns-2 : tie.Need-returns-2
+unfolding tableOf
+returns-2 c = rw (c .before .enum-told2 .given .1) (c .part-of2 .ensures)
+
+pub arriving-spec : {M : Type 1} → statement M
+arriving-spec =
+    tie.close
+    (tie.spec enum-told part-of-requires enum-told-2 part-of-requires-2 returns returns-2)

@@ -1,0 +1,75 @@
+-- `records::first_ok` meets its contract: each return is the case of an ascending column that its tests pick. Assumes nothing.
+use mathlib.Core.Path.{sym}
+use mathlib.Core.Logic.{⊎-elim}
+use Prim.Native.Nat.{_-_, _<_}
+use native.Mathlib.Omega.{arith}
+use denote.Ref.{now}
+use Rattle.records.specs.Columns.{toAt}
+use Rattle.records.proofs.Columns.{first-right, first-high, first-past, first-named}
+use borrow.Author.Needs.{needs}
+use Rattle.records.proofs.first_ok.Statement.{statement}
+use Rattle.records.proofs.first_ok.Tie as tie
+
+-- what the first test leaves: the record before is below v
+passed : (j : tie.Joined2) → 0 < j .before .before .before .args .first → toAt (now (j .before .before .before .args .table)) (j .before .before .before .args .first - 1) < j .before .before .before .args .v
+passed j h =
+    ⊎-elim (λ w. rw (w .1 .ensures) at (w .2 .left)) (λ w. absurd (let z : ⊥ = omega arith in z)) (j .if2 .came)
+
+returns : tie.Need-returns
+returns c =
+    let s = c .before .before in
+    sym (first-past (now (s .args .table)) (s .pre) (s .args .v) (s .args .first) (omega arith))
+
+sub-word-at : tie.Need-sub-word-at
+sub-word-at c = search needs
+
+mul-word-at : tie.Need-mul-word-at
+mul-word-at c = search needs
+
+add-word-at : tie.Need-add-word-at
+add-word-at c = search needs
+
+word-at-requires : tie.Need-word-at-requires
+word-at-requires c κs = search needs
+
+returns-2 : tie.Need-returns-2
+returns-2 c =
+    let s = c .before .before .before .before .before in
+    sym (first-high (now (s .args .table)) (s .pre) (s .args .v) (s .args .first) (omega arith) (omega arith) (rw (c .before .word-at .ensures) at (c .if3 .taken)))
+
+mul-word-at-2 : tie.Need-mul-word-at-2
+mul-word-at-2 c = search needs
+
+add-word-at-2 : tie.Need-add-word-at-2
+add-word-at-2 c = search needs
+
+word-at-requires-2 : tie.Need-word-at-requires-2
+word-at-requires-2 c κs = search needs
+
+returns-3 : tie.Need-returns-3
+returns-3 c =
+    let j = c .before .before in
+    let s = j .before .before .before in
+    rw (c .word-at2 .ensures) (first-named (now (s .args .table)) (s .pre) (s .args .v) (s .args .first) (omega arith) (passed j))
+
+returns-4 : tie.Need-returns-4
+returns-4 c =
+    let j = c .before in
+    let s = j .before .before .before in
+    sym (first-right (now (s .args .table)) (s .pre) (s .args .v) (s .args .first) (omega arith) (passed j) (λ h. absurd (omega arith)))
+
+pub first-ok-spec : {M : Type 1} → statement M
+first-ok-spec =
+    tie.close
+    (tie.spec
+    returns
+    sub-word-at
+    mul-word-at
+    add-word-at
+    word-at-requires
+    returns-2
+    mul-word-at-2
+    add-word-at-2
+    word-at-requires-2
+    returns-3
+    returns-4)
