@@ -1,0 +1,114 @@
+-- `audit::block` meets its contract: the vertices up to the first counter that has passed are judged, and that one is bad. Assumes nothing.
+use mathlib.Core.Path.{_≡_, sym, ap, _∙_}
+use Prim.Native.Nat.{ℕ, _-_, _*_, _/_, min}
+use lib.ListN.{length}
+use denote.Ref.{now}
+use Rattle.journeys.specs.Tables.{tablesOf}
+use Rattle.audit.specs.Judging.{vertexRefusals}
+use Rattle.audit.proofs.Scan.{same-number}
+use Rattle.audit.proofs.Vertices.{departs-exact, departs-over, block-found, block-passed}
+use native.Mathlib.Omega.{arith}
+use borrow.Author.Needs.{needs}
+use Rattle.audit.proofs.block.Statement.{statement}
+use Rattle.audit.proofs.block.Tie as tie
+
+mul-base : tie.Need-mul-base
+mul-base c = search needs
+
+sub-least : tie.Need-sub-least
+sub-least c = search needs
+
+least-requires : tie.Need-least-requires
+least-requires c κs = search needs
+
+count-departing-requires : tie.Need-count-departing-requires
+count-departing-requires c κs = search needs
+
+judge-requires : tie.Need-judge-requires
+judge-requires c κs =
+    let counted = c .before .before .before in
+    let s = counted .before .before .before .before .before .before .before in
+    let a = s .args in
+    let own = counted .count-departing .ensures .0 in (
+      s .pre .0,
+      (
+        (omega (arith, own .within, counted .before .before .least .ensures), omega (arith, own .within, counted .before .before .least .ensures, counted .count-departing .kept)),
+        (
+          s .pre .1 .1 .0 .0,
+          (
+            s .pre .1 .1 .0 .1,
+            departs-exact (now (a .vertices)) (now (a .walks)) (now (a .hops)) (counted .count-departing .last .1 .1 .1 .1 .0) (counted .before .before .least .result) (counted .count-departing .result) (1904 * a .g) own,
+          ),
+        ),
+      ),
+    )
+
+same-length : tie.Need-same-length
+same-length c = search needs
+
+returns : tie.Need-returns
+returns c =
+    let found = c .before .before in
+    let counted = found .before .before .before .before in
+    let s = counted .before .before .before .before .before .before .before in
+    let a = s .args in
+    let own = counted .count-departing .ensures .0 in
+    let e = counted .before .before .least .ensures in
+    let n : (vertexRefusals (tablesOf (now (a .vertices)) (now (a .walks)) (now (a .hops))) (counted .count-departing .result) (1904 * a .g) .number ≡ 0 → ⊥) = λ z. c .if1 .taken (same-number (found .judge .ensures) ∙ z) in (
+      found .judge .ensures ∙ block-found (tablesOf (now (a .vertices)) (now (a .walks)) (now (a .hops))) (counted .count-departing .result) (counted .before .before .least .result) (1904 * a .g) (own .within) n ∙ ap (λ (k : ℕ). vertexRefusals (tablesOf (now (a .vertices)) (now (a .walks)) (now (a .hops))) k (1904 * a .g)) e,
+      counted .count-departing .ensures .1,
+    )
+
+add-t18 : tie.Need-add-t18
+add-t18 c = search needs
+
+cast-t19 : tie.Need-cast-t19
+cast-t19 c = search needs
+
+same-length-2 : tie.Need-same-length-2
+same-length-2 c = search needs
+
+returns-2 : tie.Need-returns-2
+returns-2 c =
+    let found = c .before .before .before in
+    let counted = found .before .before .before .before in
+    let s = counted .before .before .before .before .before .before .before in
+    let a = s .args in
+    let own = counted .count-departing .ensures .0 in
+    let e = counted .before .before .least .ensures in
+    let z : vertexRefusals (tablesOf (now (a .vertices)) (now (a .walks)) (now (a .hops))) (counted .count-departing .result) (1904 * a .g) .number ≡ 0 = sym (same-number (found .judge .ensures)) ∙ c .before .if1 .left in
+    let bad = departs-over (now (a .vertices)) (now (a .walks)) (now (a .hops)) _ (counted .before .before .least .result) (counted .count-departing .result) (1904 * a .g) own (c .if2 .taken) (omega (arith, e)) (λ i. omega (arith, counted .before .before .before .before .before .before .shared-slice-known .given i)) in (
+      block-passed (tablesOf (now (a .vertices)) (now (a .walks)) (now (a .hops))) (counted .count-departing .result) (counted .before .before .least .result) (1904 * a .g) (own .within) z (c .if2 .taken) bad ∙ ap (λ (k : ℕ). vertexRefusals (tablesOf (now (a .vertices)) (now (a .walks)) (now (a .hops))) k (1904 * a .g)) e,
+      counted .count-departing .ensures .1,
+    )
+
+same-length-3 : tie.Need-same-length-3
+same-length-3 c = search needs
+
+returns-3 : tie.Need-returns-3
+returns-3 c =
+    let found = c .before .before .before in
+    let counted = found .before .before .before .before in
+    let s = counted .before .before .before .before .before .before .before in
+    let a = s .args in
+    let own = counted .count-departing .ensures .0 in
+    let e : counted .count-departing .result ≡ min 1904 (length (now (a .vertices)) / 12 - 1904 * a .g) = omega (arith, counted .before .before .least .ensures, own .within, c .if2 .left) in
+    (found .judge .ensures ∙ ap (λ (k : ℕ). vertexRefusals (tablesOf (now (a .vertices)) (now (a .walks)) (now (a .hops))) k (1904 * a .g)) e, counted .count-departing .ensures .1)
+
+pub block-spec : {M : Type 1} → statement M
+block-spec =
+    tie.close
+    (tie.spec
+    mul-base
+    sub-least
+    least-requires
+    count-departing-requires
+    judge-requires
+    same-length
+    returns
+    add-t18
+    cast-t19
+    same-length-2
+    returns-2
+    same-length-3
+    returns-3)

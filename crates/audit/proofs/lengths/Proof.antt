@@ -1,0 +1,43 @@
+-- `audit::lengths` meets its contract: each return is the first test that fails. Assumes nothing.
+use Rattle.journeys.specs.Refusals.{tableLengths, orElse, unless}
+use borrow.Author.Tests.{not-true, not-false}
+use borrow.Author.Needs.{needs}
+use Rattle.audit.proofs.lengths.Statement.{statement}
+use Rattle.audit.proofs.lengths.Tie as tie
+
+table-ok-requires : tie.Need-table-ok-requires
+table-ok-requires c κs = search needs
+
+returns : tie.Need-returns
+unfolding tableLengths orElse unless
+returns c = simp (← c .before .table-ok .ensures, not-true (c .before .table-ok .result) (c .if1 .taken))
+
+table-ok-requires-2 : tie.Need-table-ok-requires-2
+table-ok-requires-2 c κs = search needs
+
+returns-2 : tie.Need-returns-2
+unfolding tableLengths orElse unless
+returns-2 c = simp (← c .before .before .before .table-ok .ensures, not-false (c .before .before .before .table-ok .result) (c .before .before .if1 .left), ← c .before .table-ok2 .ensures, not-true (c .before .table-ok2 .result) (c .if2 .taken))
+
+table-ok-requires-3 : tie.Need-table-ok-requires-3
+table-ok-requires-3 c κs = search needs
+
+returns-3 : tie.Need-returns-3
+unfolding tableLengths orElse unless
+returns-3 c = simp (← c .before .before .before .before .before .table-ok .ensures, not-false (c .before .before .before .before .before .table-ok .result) (c .before .before .before .before .if1 .left), ← c .before .before .before .table-ok2 .ensures, not-false (c .before .before .before .table-ok2 .result) (c .before .before .if2 .left), ← c .before .table-ok3 .ensures, not-true (c .before .table-ok3 .result) (c .if3 .taken))
+
+returns-4 : tie.Need-returns-4
+unfolding tableLengths orElse unless
+returns-4 c = simp (← c .before .before .before .before .before .table-ok .ensures, not-false (c .before .before .before .before .before .table-ok .result) (c .before .before .before .before .if1 .left), ← c .before .before .before .table-ok2 .ensures, not-false (c .before .before .before .table-ok2 .result) (c .before .before .if2 .left), ← c .before .table-ok3 .ensures, not-false (c .before .table-ok3 .result) (c .if3 .left))
+
+pub lengths-spec : {M : Type 1} → statement M
+lengths-spec =
+    tie.close
+    (tie.spec
+    table-ok-requires
+    returns
+    table-ok-requires-2
+    returns-2
+    table-ok-requires-3
+    returns-3
+    returns-4)
