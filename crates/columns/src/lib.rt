@@ -1,0 +1,121 @@
+// A lent buffer of r slots of 16 bytes as four columns of numbers, little-endian:
+// words of 8 bytes (r), tree nodes of 2 (2 r), heads of 2 (r), nexts of 2 (r).
+ghost use mathlib.Core.Path.{_≡_};
+ghost use Prim.Native.Nat.{_+_, _*_, _<_};
+ghost use lib.ListN.{length};
+ghost use Rattle.columns.specs.Columns.{dec, enc, cols, at, setW, setT, setH, setN};
+
+fn wide(x: u8) -> u64
+    ensures { λ r. ⌜ (r ≡ x) × (r < 256) ⌝ }
+{
+    x as u64
+}
+
+// A flat sum over the part: it becomes one load.
+fn read8(p: &[u8]) -> u64
+    requires { ⌜ length (now p) ≡ 8 ⌝ }
+    ensures { λ r. ⌜ r ≡ dec 8 (now (p .entry)) 0 ⌝ }
+{
+    wide(p[0])
+        + 256 * wide(p[1])
+        + 65536 * wide(p[2])
+        + 16777216 * wide(p[3])
+        + 4294967296 * wide(p[4])
+        + 1099511627776 * wide(p[5])
+        + 281474976710656 * wide(p[6])
+        + 72057594037927936 * wide(p[7])
+}
+
+fn read2(p: &[u8]) -> usize
+    requires { ⌜ length (now p) ≡ 2 ⌝ }
+    ensures { λ r. ⌜ r ≡ dec 2 (now (p .entry)) 0 ⌝ }
+{
+    (wide(p[0]) + 256 * wide(p[1])) as usize
+}
+
+// Byte by byte, one a line: they become one store.
+fn write8(p: &mut [u8], x: u64)
+    requires { ⌜ length (now p) ≡ 8 ⌝ }
+    ensures { λ _. ⌜ now (p .exit) ≡ enc 8 x ⌝ }
+{
+    p[0] = (x % 256) as u8;
+    p[1] = (x / 256 % 256) as u8;
+    p[2] = (x / 256 / 256 % 256) as u8;
+    p[3] = (x / 256 / 256 / 256 % 256) as u8;
+    p[4] = (x / 256 / 256 / 256 / 256 % 256) as u8;
+    p[5] = (x / 256 / 256 / 256 / 256 / 256 % 256) as u8;
+    p[6] = (x / 256 / 256 / 256 / 256 / 256 / 256 % 256) as u8;
+    p[7] = (x / 256 / 256 / 256 / 256 / 256 / 256 / 256 % 256) as u8;
+}
+
+fn write2(p: &mut [u8], x: usize)
+    requires { ⌜ length (now p) ≡ 2 ⌝ }
+    ensures { λ _. ⌜ now (p .exit) ≡ enc 2 x ⌝ }
+{
+    p[0] = (x % 256) as u8;
+    p[1] = (x / 256 % 256) as u8;
+}
+
+pub fn word(b: &[u8], r: usize, i: usize) -> u64
+    requires { ⌜ (length (now b) ≡ 16 * r) × (i < r) ⌝ }
+    ensures { λ x. ⌜ x ≡ at (cols r (now (b .entry)) .w) i ⌝ }
+{
+    let o = i * 8;
+    read8(&b[o..o + 8])
+}
+
+pub fn tree(b: &[u8], r: usize, i: usize) -> usize
+    requires { ⌜ (length (now b) ≡ 16 * r) × (i < 2 * r) ⌝ }
+    ensures { λ x. ⌜ x ≡ at (cols r (now (b .entry)) .t) i ⌝ }
+{
+    let o = 8 * r + i * 2;
+    read2(&b[o..o + 2])
+}
+
+pub fn head(b: &[u8], r: usize, i: usize) -> usize
+    requires { ⌜ (length (now b) ≡ 16 * r) × (i < r) ⌝ }
+    ensures { λ x. ⌜ x ≡ at (cols r (now (b .entry)) .h) i ⌝ }
+{
+    let o = 12 * r + i * 2;
+    read2(&b[o..o + 2])
+}
+
+pub fn next(b: &[u8], r: usize, i: usize) -> usize
+    requires { ⌜ (length (now b) ≡ 16 * r) × (i < r) ⌝ }
+    ensures { λ x. ⌜ x ≡ at (cols r (now (b .entry)) .n) i ⌝ }
+{
+    let o = 14 * r + i * 2;
+    read2(&b[o..o + 2])
+}
+
+pub fn set_word(b: &mut [u8], r: usize, i: usize, x: u64)
+    requires { ⌜ (length (now b) ≡ 16 * r) × (i < r) ⌝ }
+    ensures { λ _. ⌜ cols r (now (b .exit)) ≡ setW (cols r (now (b .entry))) i x ⌝ }
+{
+    let o = i * 8;
+    write8(&mut b[o..o + 8], x);
+}
+
+pub fn set_tree(b: &mut [u8], r: usize, i: usize, x: usize)
+    requires { ⌜ (length (now b) ≡ 16 * r) × (i < 2 * r) × (x < 65536) ⌝ }
+    ensures { λ _. ⌜ cols r (now (b .exit)) ≡ setT (cols r (now (b .entry))) i x ⌝ }
+{
+    let o = 8 * r + i * 2;
+    write2(&mut b[o..o + 2], x);
+}
+
+pub fn set_head(b: &mut [u8], r: usize, i: usize, x: usize)
+    requires { ⌜ (length (now b) ≡ 16 * r) × (i < r) × (x < 65536) ⌝ }
+    ensures { λ _. ⌜ cols r (now (b .exit)) ≡ setH (cols r (now (b .entry))) i x ⌝ }
+{
+    let o = 12 * r + i * 2;
+    write2(&mut b[o..o + 2], x);
+}
+
+pub fn set_next(b: &mut [u8], r: usize, i: usize, x: usize)
+    requires { ⌜ (length (now b) ≡ 16 * r) × (i < r) × (x < 65536) ⌝ }
+    ensures { λ _. ⌜ cols r (now (b .exit)) ≡ setN (cols r (now (b .entry))) i x ⌝ }
+{
+    let o = 14 * r + i * 2;
+    write2(&mut b[o..o + 2], x);
+}

@@ -1,0 +1,3 @@
+pub mod SortLaws
+pub mod PackLaws
+pub mod SpreadLaws

@@ -1,0 +1,7 @@
+pub mod TreeLaws
+pub mod ReplayLaws
+pub mod RiseLaws
+pub mod ChainLaws
+pub mod SearchLaws
+pub mod LinkLaws
+pub mod BlankLaws

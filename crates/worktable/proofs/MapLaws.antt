@@ -1,0 +1,104 @@
+-- The model map: a changed vertex, how many there are, the ascending records, and the foremost one.
+use mathlib.Core.Path.{_≡_, refl, sym, ap, ap₂, fun-ext, _∙_}
+use mathlib.Core.Logic.{_≢_, _⊎_, inl, inr}
+use mathlib.Core.List.{_++_, append-nil}
+use Prim.Native.Nat.{ℕ, zero, suc, _+_, _<_, _≤_}
+use native.Mathlib.Omega.{arith}
+use native.Mathlib.Decide.{ℕ-discrete}
+use lib.ListN.{length, length-append}
+use Rattle.worktable.specs.Map.{Entry, absent, known, Map, choose, put, one, sizeTo, row, rowsTo, Foremost}
+
+pub choose-yes : {A : Type 0} (d : Dec A) (x y : Entry) → A → choose d x y ≡ x
+unfolding choose
+choose-yes (yes p) x y a = refl
+choose-yes (no p) x y a = absurd (p a)
+
+pub choose-no : {A : Type 0} (d : Dec A) (x y : Entry) → (A → ⊥) → choose d x y ≡ y
+unfolding choose
+choose-no (yes p) x y a = absurd (a p)
+choose-no (no p) x y a = refl
+
+pub put-same : (m : Map) (u : ℕ) (e : Entry) (v : ℕ) → v ≡ u → put m u e v ≡ e
+unfolding put
+put-same m u e v q = choose-yes (ℕ-discrete v u) e (m v) q
+
+pub put-other : (m : Map) (u : ℕ) (e : Entry) (v : ℕ) → v ≢ u → put m u e v ≡ m v
+unfolding put
+put-other m u e v q = choose-no (ℕ-discrete v u) e (m v) q
+
+-- a vertex that gets what it has
+pub put-id : (m : Map) (u : ℕ) (e : Entry) → m u ≡ e → put m u e ≡ m
+put-id m u e q = fun-ext (λ v. go v (ℕ-discrete v u))
+  where
+    go : (v : ℕ) → Dec (v ≡ u) → put m u e v ≡ m v
+    go v (yes p) = put-same m u e v p ∙ sym q ∙ ap m (sym p)
+    go v (no p) = put-other m u e v p
+
+pub absent-known : {d s n : ℕ} → absent ≡ known d s n → ⊥
+unfolding one
+absent-known {d} {s} {n} e = let z : _≡_ {A = ℕ} 0 1 = ap one e in omega arith
+
+pub size-same : (n : ℕ) (m k : Map) → ((u : ℕ) → u < n → m u ≡ k u) → sizeTo n m ≡ sizeTo n k
+unfolding sizeTo
+size-same zero m k f = refl
+size-same (suc n) m k f = ap₂ (λ (x : ℕ) (e : Entry). x + one e) (size-same n m k (λ u h. f u (omega arith))) (f n (omega arith))
+
+pub size-put : (n : ℕ) (m : Map) (u : ℕ) (e : Entry) → u < n → sizeTo n (put m u e) + one (m u) ≡ sizeTo n m + one e
+unfolding sizeTo
+size-put zero m u e h = absurd (omega arith)
+size-put (suc n) m u e h = go (ℕ-discrete u n) (λ k. size-put n m u e k)
+  where
+    go : Dec (u ≡ n) → (u < n → sizeTo n (put m u e) + one (m u) ≡ sizeTo n m + one e) → sizeTo n (put m u e) + one (put m u e n) + one (m u) ≡ sizeTo n m + one (m n) + one e
+    go (yes q) ih =
+        let a = size-same n (put m u e) m (λ v l. put-other m u e v (λ z. absurd (omega arith))) in
+        let b = ap one (put-same m u e n (sym q)) in
+        let d : one (m u) ≡ one (m n) = ap (λ (x : ℕ). one (m x)) q in
+        omega arith
+    go (no q) ih =
+        let a = ih (omega arith) in
+        let b = ap one (put-other m u e n (λ z. q (sym z))) in
+        omega arith
+
+pub size-empty : (n : ℕ) (m : Map) → ((u : ℕ) → m u ≡ absent) → sizeTo n m ≡ 0
+unfolding sizeTo one
+size-empty zero m f = refl
+size-empty (suc n) m f = let a = size-empty n m f in let b : one (m n) ≡ 0 = ap one (f n) in omega arith
+
+-- vertices from k on that are not in the map count nothing and give no record
+pub size-beyond : (n k : ℕ) (m : Map) → ((u : ℕ) → k ≤ u → m u ≡ absent) → k ≤ n → sizeTo n m ≡ sizeTo k m
+unfolding sizeTo one
+size-beyond zero k m f h = let e : k ≡ 0 = omega arith in rw e
+size-beyond (suc n) k m f h = go (ℕ-discrete k (suc n)) (λ l. size-beyond n k m f l)
+  where
+    go : Dec (k ≡ suc n) → (k ≤ n → sizeTo n m ≡ sizeTo k m) → sizeTo n m + one (m n) ≡ sizeTo k m
+    go (yes e) ih = rw e
+    go (no ne) ih = let b : one (m n) ≡ 0 = ap one (f n (omega arith)) in omega (arith, ih (omega arith))
+
+row-length : (u : ℕ) (e : Entry) → length (row u e) ≡ one e
+unfolding row one
+row-length u absent = refl
+row-length u (known d s n) = refl
+
+pub rows-length : (n : ℕ) (m : Map) → length (rowsTo n m) ≡ sizeTo n m
+unfolding rowsTo sizeTo
+rows-length zero m = refl
+rows-length (suc n) m = length-append (rowsTo n m) (row n (m n)) ∙ ap₂ (λ (x y : ℕ). x + y) (rows-length n m) (row-length n (m n))
+
+pub rows-beyond : (n k : ℕ) (m : Map) → ((u : ℕ) → k ≤ u → m u ≡ absent) → k ≤ n → rowsTo n m ≡ rowsTo k m
+unfolding rowsTo row
+rows-beyond zero k m f h = let e : k ≡ 0 = omega arith in rw e
+rows-beyond (suc n) k m f h = go (ℕ-discrete k (suc n)) (λ l. rows-beyond n k m f l)
+  where
+    go : Dec (k ≡ suc n) → (k ≤ n → rowsTo n m ≡ rowsTo k m) → rowsTo n m ++ row n (m n) ≡ rowsTo k m
+    go (yes e) ih = rw e
+    go (no ne) ih = ap (λ (x : Entry). rowsTo n m ++ row n x) (f n (omega arith)) ∙ append-nil (rowsTo n m) ∙ ih (omega arith)
+
+-- there is one foremost vertex at most
+pub foremost-one : {m : Map} {v d w e : ℕ} → Foremost m v d → Foremost m w e → (v ≡ w) × (d ≡ e)
+foremost-one {m} {v} {d} {w} {e} p q = go (p .first w e (q .waits)) (q .first v d (p .waits))
+  where
+    go : (d < e) ⊎ ((d ≡ e) × (v ≤ w)) → (e < d) ⊎ ((e ≡ d) × (w ≤ v)) → (v ≡ w) × (d ≡ e)
+    go (inl a) (inl b) = absurd (omega arith)
+    go (inl a) (inr b) = absurd (omega arith)
+    go (inr a) (inl b) = absurd (omega arith)
+    go (inr a) (inr b) = (omega arith, a .0)

@@ -1,0 +1,187 @@
+-- Words and entries.
+use mathlib.Core.Path.{_≡_, sym, _∙_}
+use mathlib.Core.Logic.{_≢_, inl, inr}
+use Prim.Native.Nat.{ℕ, _-_, _+_, _*_, _/_, _%_, _<_, _≤_, min}
+use native.Mathlib.Omega.{arith}
+use native.Mathlib.Decide.{ℕ-discrete}
+use Rattle.slots.specs.Words.{vacant, vertexIn, key}
+use Rattle.listing.specs.Fields.{distanceIn, stateIn, remainingIn}
+use Rattle.journeys.specs.Counting.{none}
+use Rattle.worktable.specs.Map.{absent, known, Distance}
+use Rattle.worktable.specs.Inside.{wordOf, entryIn}
+use Rattle.worktable.proofs.MapLaws.{choose-yes, choose-no, absent-known}
+
+pub entry-vacant : {w : ℕ} → w ≡ vacant → entryIn w ≡ absent
+unfolding entryIn
+entry-vacant {w} e = choose-yes (ℕ-discrete w vacant) absent (known (distanceIn w) (stateIn w) (remainingIn w)) e
+
+pub entry-used : (w : ℕ) → w ≢ vacant → entryIn w ≡ known (distanceIn w) (stateIn w) (remainingIn w)
+unfolding entryIn
+entry-used w n = choose-no (ℕ-discrete w vacant) absent (known (distanceIn w) (stateIn w) (remainingIn w)) n
+
+pub absent-vacant : (w : ℕ) → entryIn w ≡ absent → w ≡ vacant
+absent-vacant w e = go (ℕ-discrete w vacant)
+  where
+    go : Dec (w ≡ vacant) → w ≡ vacant
+    go (yes p) = p
+    go (no p) = absurd (absent-known (sym e ∙ entry-used w p))
+
+pub vertex-low : (w : ℕ) → vertexIn w < 65536
+unfolding vertexIn
+vertex-low w = omega arith
+
+pub known-is : {d d′ s s′ n n′ : ℕ} → d ≡ d′ → s ≡ s′ → n ≡ n′ → known d s n ≡ known d′ s′ n′
+known-is a b c = rw (a, b, c)
+
+pub key-vacant : (w : ℕ) → key w ≤ key vacant
+unfolding key
+key-vacant w = omega arith
+
+-- a settled word comes last, as the vacant one does
+pub key-settled : (w : ℕ) → 9223372036854775808 ≤ w → key vacant ≡ key w
+unfolding key
+key-settled w h = omega arith
+
+-- a new word
+module _ (u d n : ℕ) (lu : u < 65536) (ld : Distance d) (ln : n < 65536) where
+  pub new-used : wordOf u d n ≢ vacant
+  unfolding wordOf
+  new-used e = omega arith
+
+  pub new-vertex : vertexIn (wordOf u d n) ≡ u
+  unfolding wordOf vertexIn
+  new-vertex = omega arith
+
+  new-distance : Distance d → distanceIn (wordOf u d n) ≡ d
+  unfolding wordOf distanceIn
+  new-distance (inl h) = omega arith
+  new-distance (inr h) = omega arith
+
+  new-state : stateIn (wordOf u d n) ≡ 0
+  unfolding wordOf stateIn
+  new-state = omega arith
+
+  new-remaining : remainingIn (wordOf u d n) ≡ n
+  unfolding wordOf remainingIn
+  new-remaining = omega arith
+
+  pub new-entry : entryIn (wordOf u d n) ≡ known d 0 n
+  new-entry = entry-used (wordOf u d n) new-used ∙ known-is (new-distance ld) new-state new-remaining
+
+-- one less remains
+module _ (w : ℕ) (fit : w < 18446744073709551616) (some : 0 < remainingIn w) where
+  pub less-some : 1 ≤ w
+  unfolding remainingIn
+  less-some = omega arith
+
+  pub less-used : w - 1 ≢ vacant
+  unfolding remainingIn
+  less-used e = omega arith
+
+  pub less-vertex : vertexIn (w - 1) ≡ vertexIn w
+  unfolding vertexIn remainingIn
+  less-vertex = omega arith
+
+  pub less-key : key (w - 1) ≡ key w
+  unfolding key remainingIn
+  less-key = omega arith
+
+  pub less-entry : entryIn (w - 1) ≡ known (distanceIn w) (stateIn w) (remainingIn w - 1)
+  unfolding distanceIn stateIn remainingIn
+  less-entry = entry-used (w - 1) less-used ∙ known-is d s n
+    where
+      half : (w - 1) / 4294967296 ≡ w / 4294967296
+      half = omega arith
+
+      d : distanceIn (w - 1) ≡ distanceIn w
+      d = rw half
+
+      s : stateIn (w - 1) ≡ stateIn w
+      s = omega arith
+
+      n : remainingIn (w - 1) ≡ remainingIn w - 1
+      n = omega arith
+
+-- settled, with a distance
+module _ (w : ℕ) (open-word : stateIn w ≡ 0) (some : distanceIn w < none) where
+  pub settled-fits : w + 9223372036854775808 < 18446744073709551616
+  unfolding stateIn
+  settled-fits = omega arith
+
+  pub settled-used : w + 9223372036854775808 ≢ vacant
+  unfolding stateIn distanceIn
+  settled-used e = omega arith
+
+  pub settled-vertex : vertexIn (w + 9223372036854775808) ≡ vertexIn w
+  unfolding vertexIn
+  settled-vertex = omega arith
+
+  pub settled-entry : entryIn (w + 9223372036854775808) ≡ known (distanceIn w) 1 (remainingIn w)
+  unfolding distanceIn stateIn remainingIn
+  settled-entry = entry-used (w + 9223372036854775808) settled-used ∙ known-is d s n
+    where
+      half : (w + 9223372036854775808) / 4294967296 % 2147483648 ≡ w / 4294967296 % 2147483648
+      half = omega arith
+
+      d : distanceIn (w + 9223372036854775808) ≡ distanceIn w
+      d = rw half
+
+      s : stateIn (w + 9223372036854775808) ≡ 1
+      s = omega arith
+
+      n : remainingIn (w + 9223372036854775808) ≡ remainingIn w
+      n = omega arith
+
+lesser-is : (d q : ℕ) → d < q → q < 2147483648 → d % 2147483648 + d % 2147483648 / 2147483647 * 2147483648 ≡ min d (q % 2147483648 + q % 2147483648 / 2147483647 * 2147483648)
+lesser-is d q h l =
+    let a : d % 2147483648 ≡ d = omega arith in
+    let b : d / 2147483647 ≡ 0 = omega arith in
+    let e : q % 2147483648 ≡ q = omega arith in
+    rw (a, b, e) (plain d q (q / 2147483647 * 2147483648) h)
+  where
+    plain : (d q z : ℕ) → d < q → d + 0 * 2147483648 ≡ min d (q + z)
+    plain d q z h = omega arith
+
+-- a lower distance
+module _ (w d : ℕ) (open-word : stateIn w ≡ 0) (ld : Distance d) where
+  -- the offer is not less than what is known
+  pub no-lower : w / 4294967296 ≤ d → min d (distanceIn w) ≡ distanceIn w
+  unfolding distanceIn stateIn
+  no-lower h = go ld
+    where
+      go : Distance d → min d (w / 4294967296 % 2147483648 + w / 4294967296 % 2147483648 / 2147483647 * 2147483648) ≡ w / 4294967296 % 2147483648 + w / 4294967296 % 2147483648 / 2147483647 * 2147483648
+      go (inl l) = omega arith
+      go (inr l) = omega arith
+
+  module _ (h : d < w / 4294967296) where
+    pub lower-fits : d * 4294967296 + w % 4294967296 < 9223372036854775808
+    unfolding stateIn
+    lower-fits = omega arith
+
+    pub lower-used : d * 4294967296 + w % 4294967296 ≢ vacant
+    unfolding stateIn
+    lower-used e = omega arith
+
+    pub lower-vertex : vertexIn (d * 4294967296 + w % 4294967296) ≡ vertexIn w
+    unfolding vertexIn
+    lower-vertex = omega arith
+
+    pub lower-key : key (d * 4294967296 + w % 4294967296) ≤ key w
+    unfolding key
+    lower-key = omega arith
+
+    pub lower-entry : entryIn (d * 4294967296 + w % 4294967296) ≡ known (min d (distanceIn w)) (stateIn w) (remainingIn w)
+    unfolding distanceIn stateIn remainingIn
+    lower-entry = entry-used (d * 4294967296 + w % 4294967296) lower-used ∙ known-is e s n
+      where
+        half : (d * 4294967296 + w % 4294967296) / 4294967296 ≡ d
+        half = omega arith
+
+        e : distanceIn (d * 4294967296 + w % 4294967296) ≡ min d (distanceIn w)
+        e = rw half (lesser-is d (w / 4294967296) h (omega arith))
+
+        s : stateIn (d * 4294967296 + w % 4294967296) ≡ stateIn w
+        s = omega arith
+
+        n : remainingIn (d * 4294967296 + w % 4294967296) ≡ remainingIn w
+        n = omega arith

@@ -1,0 +1,22 @@
+use borrow.Author.Needs.{needs}
+use mathlib.Core.Path.{sym, _∙_}
+use Rattle.worktable.proofs.TableLaws.{place-low, place-distance}
+use Rattle.worktable.proofs.distance.Statement.{statement}
+use Rattle.worktable.proofs.distance.Tie as tie
+
+word-requires : tie.Need-word-requires
+word-requires c κs =
+    let start = c .before in
+    (start .pre .0 .room .len, place-low (start .pre .0) (start .pre .1))
+
+distance-in-requires : tie.Need-distance-in-requires
+distance-in-requires c κs = search needs
+
+returns : tie.Need-returns
+returns c =
+    let start = c .before .before .before in
+    let after-word = c .before in
+    c .distance-in .ensures ∙ sym (place-distance (start .pre .0) (start .pre .1) (after-word .word .ensures))
+
+pub distance-spec : {M : Type 1} → statement M
+distance-spec = tie.close (tie.spec word-requires distance-in-requires returns)

@@ -1,0 +1,83 @@
+-- `finish`: packed, sorted, zero behind the place of the records, and the words spread to records.
+use borrow.Author.Needs.{needs}
+use native.Mathlib.Omega.{arith}
+use mathlib.Core.Path.{_∙_}
+use Prim.Native.Nat.{_-_, _*_}
+use lib.ListN.{length}
+use borrow.Rule.Slice.PartMut.{same-len-mid}
+use Rattle.columns.specs.Columns.{cols, at}
+use Rattle.worktable.proofs.WordLaws.{vertex-low}
+use Rattle.worktable.proofs.TableLaws.{order-single}
+use Rattle.worktable.proofs.FinishLaws.{lists, finish-count, finish-filled}
+use Rattle.worktable.proofs.finish.Statement.{statement}
+use Rattle.worktable.proofs.finish.Tie as tie
+
+pack-requires : tie.Need-pack-requires
+pack-requires c κs = search needs
+
+sort-requires : tie.Need-sort-requires
+sort-requires c κs =
+    let after-pack = c .before .before .before in
+    let start = c .before .before .before .before .before .before in (
+      after-pack .pack .kept .0 ∙ start .pre .room .len,
+      omega arith,
+      omega (arith, after-pack .pack .ensures .le, start .pre .room .fits),
+      omega arith,
+      λ i a l. (omega arith, vertex-low (at (cols (start .args .t .slots) (after-pack .pack .last .0) .w) i)),
+    )
+
+mul-o : tie.Need-mul-o
+mul-o c = search needs
+
+sub-clear : tie.Need-sub-clear
+sub-clear c = search needs
+
+part-clear-start : tie.Need-part-clear-start
+part-clear-start c = search needs
+
+part-clear-end : tie.Need-part-clear-end
+part-clear-end c = search needs
+
+clear-requires : tie.Need-clear-requires
+clear-requires c κs = search needs
+
+spread-requires : tie.Need-spread-requires
+spread-requires c κs =
+    let after-pack = c .before .before .before .before .before .before .before .before .before .before .before in
+    let after-sort = c .before .before .before .before .before .before .before in
+    let after-clear = c .before .before .before in
+    let start = c .before .before .before .before .before .before .before .before .before .before .before .before .before .before in (
+      same-len-mid (16 * after-pack .pack .result) (length (after-sort .sort .last .0) - 16 * after-pack .pack .result) (after-sort .sort .last .0) (after-clear .clear .last .0) (after-clear .clear .kept .0) ∙ after-sort .sort .kept .0 ∙ after-pack .pack .kept .0 ∙ start .pre .room .len,
+      omega (arith, after-pack .pack .ensures .le, start .pre .room .fits),
+    )
+
+same-length : tie.Need-same-length
+same-length c = search needs
+
+returns : tie.Need-returns
+returns c =
+    let start = c .before .before .before .before .before .before .before .before .before .before .before .before .before .before .before .before .before in
+    let after-pack = c .before .before .before .before .before .before .before .before .before .before .before .before .before .before in
+    let after-sort = c .before .before .before .before .before .before .before .before .before .before in
+    let after-spread = c .before .before in
+    let after-clear = c .before .before .before .before .before .before in
+    let v = lists (order-single (start .pre)) (after-pack .pack .ensures) (after-sort .sort .ensures) in (
+      finish-count (start .pre) v,
+      after-spread .spread .ensures ∙ finish-filled (start .pre) (after-sort .sort .last .0) (after-clear .clear .last .0) v (after-sort .sort .kept .0 ∙ after-pack .pack .kept .0)
+          (omega (arith, after-pack .pack .ensures .le, start .pre .room .fits)) (after-clear .clear .ensures),
+    )
+
+pub finish-spec : {M : Type 1} → statement M
+finish-spec =
+    tie.close
+    (tie.spec
+    pack-requires
+    sort-requires
+    mul-o
+    sub-clear
+    part-clear-start
+    part-clear-end
+    clear-requires
+    spread-requires
+    same-length
+    returns)

@@ -1,0 +1,49 @@
+-- `settle`: the first field becomes 1, and the tree is played again.
+use borrow.Author.Needs.{needs}
+use native.Mathlib.Omega.{arith}
+use mathlib.Core.Path.{_≡_, refl, sym, _∙_}
+use Prim.Native.Nat.{_<_}
+use Rattle.listing.specs.Fields.{stateIn, distanceIn}
+use Rattle.journeys.specs.Counting.{none}
+use Rattle.worktable.proofs.WordLaws.{known-is, settled-fits, settled-used, settled-vertex, settled-entry}
+use Rattle.worktable.proofs.TableLaws.{place-pos, place-distance, place-state, place-remaining, gives-changed}
+use Rattle.worktable.proofs.settle.Statement.{statement}
+use Rattle.worktable.proofs.settle.Tie as tie
+
+word-requires : tie.Need-word-requires
+word-requires c κs = search needs
+
+add-change-word : tie.Need-add-change-word
+add-change-word c =
+    let after-word = c .before in
+    let start = c .before .before .before .before in
+    let ew = after-word .word .ensures in
+    let unsettled : stateIn (after-word .word .result) ≡ 0 = sym (place-state (start .pre .0) (start .pre .1) ew) ∙ start .pre .2 in
+    let some : distanceIn (after-word .word .result) < none = omega (arith, start .pre .3, place-distance (start .pre .0) (start .pre .1) ew) in
+    omega (arith, settled-fits (after-word .word .result) unsettled some)
+
+change-word-requires : tie.Need-change-word-requires
+change-word-requires c κs =
+    let start = c .before .before .before .before in
+    (start .pre .0 .room, start .pre .1 .slot .low, start .pre .0 .parts (place-pos (start .pre .0) (start .pre .1)) .win)
+
+same-length : tie.Need-same-length
+same-length c = search needs
+
+returns : tie.Need-returns
+returns c =
+    let start = c .before .before .before .before .before .before .before in
+    let after-word = c .before .before .before .before in
+    let after-change-word = c .before .before in
+    let o = start .pre .0 in
+    let p = start .pre .1 in
+    let w = after-word .word .result in
+    let ew = after-word .word .ensures in
+    let unsettled : stateIn w ≡ 0 = sym (place-state o p ew) ∙ start .pre .2 in
+    let some : distanceIn w < none = omega (arith, start .pre .3, place-distance o p ew) in
+    gives-changed o p ew (settled-used w unsettled some) (settled-vertex w unsettled some)
+    (settled-entry w unsettled some ∙ sym (known-is (place-distance o p ew) refl (place-remaining o p ew)))
+    (after-change-word .change-word .ensures) (after-change-word .change-word .kept .0)
+
+pub settle-spec : {M : Type 1} → statement M
+settle-spec = tie.close (tie.spec word-requires add-change-word change-word-requires same-length returns)

@@ -1,0 +1,49 @@
+-- `vacate`: an unsettled word leaves its place in the tree, a settled one had none.
+use borrow.Author.Needs.{needs}
+use mathlib.Core.Path.{ap, _∙_}
+use Rattle.columns.proofs.Access.{sized}
+use Rattle.slots.specs.Words.{key}
+use native.Mathlib.Omega.{arith}
+use Rattle.worktable.proofs.WordLaws.{key-settled}
+use Rattle.worktable.proofs.PartsLaws.{same-changed}
+use Rattle.worktable.proofs.vacate.Statement.{statement}
+use Rattle.worktable.proofs.vacate.Tie as tie
+
+word-requires : tie.Need-word-requires
+word-requires c κs = search needs
+
+change-word-requires : tie.Need-change-word-requires
+change-word-requires c κs = search needs
+
+same-length : tie.Need-same-length
+same-length c = search needs
+
+returns : tie.Need-returns
+returns c = search needs
+
+set-word-requires : tie.Need-set-word-requires
+set-word-requires c κs = search needs
+
+same-length-2 : tie.Need-same-length-2
+same-length-2 c = search needs
+
+returns-2 : tie.Need-returns-2
+returns-2 c =
+    let start = c .before .before .before .before .before .before .before .before in
+    let after-word = c .before .before .before .before .before in
+    let else1 = c .before .before .before .before in
+    let after-set-word = c .before .before in
+    same-changed (sized (start .args .r) (start .args .b .now)) (omega (arith, start .pre .1, start .pre .0 .fits))
+    (key-settled (after-word .word .result) (else1 .if1 .left) ∙ ap key (after-word .word .ensures)) (start .pre .2) (after-set-word .set-word .ensures)
+
+pub vacate-spec : {M : Type 1} → statement M
+vacate-spec =
+    tie.close
+    (tie.spec
+    word-requires
+    change-word-requires
+    same-length
+    returns
+    set-word-requires
+    same-length-2
+    returns-2)

@@ -1,0 +1,48 @@
+-- What the buffer holds. Callers use `mapOf`, `InOrder`, `Holds`, `Place` and `Gives` as they stand and never what is inside.
+use mathlib.Core.Path.{_≡_}
+use mathlib.Core.Logic.{_≢_}
+use mathlib.Core.List.{List}
+use Prim.Native.Nat.{ℕ, _+_, _<_}
+use Rattle.columns.specs.Columns.{cols}
+use Rattle.slots.specs.Words.{Room}
+use Rattle.slots.specs.Chains.{At}
+use Rattle.worktable.specs.Map.{absent, Map, size, Foremost, Waits}
+use Rattle.worktable.specs.Inside.{entryIn, lookup, Parts}
+use Rattle.worktable.specs.declared.Table.{Table}
+use Rattle.worktable.specs.declared.Found.{Found}
+use Rattle.worktable.specs.declared.Nearest.{Nearest}
+
+-- the map that the buffer b with the numbers t holds
+unfoldable pub mapOf : Table → List ℕ → Map
+mapOf t b u = entryIn (lookup (t .capacity) (cols (t .slots) b .w) u)
+
+-- the table is in order; a table without slots has no parts
+pub record InOrder (t : Table) (b : List ℕ) : Type 0 where
+  pub room : Room (t .slots) (t .capacity) b
+  pub parts : 0 < t .capacity → Parts t (cols (t .slots) b)
+  pub counted : size (mapOf t b) + t .free ≡ t .capacity
+
+-- the table is in order and holds the map m
+pub record Holds (t : Table) (b : List ℕ) (m : Map) : Type 0 where
+  pub order : InOrder t b
+  pub map : mapOf t b ≡ m
+
+-- s is the slot of u
+pub record Place (t : Table) (b : List ℕ) (u s : ℕ) : Type 0 where
+  pub slot : At (t .capacity) (cols (t .slots) b .w) u s
+
+-- from the numbers t and the bytes b to r and c: the map becomes m, and who stays keeps its slot
+pub record Gives (t r : Table) (b c : List ℕ) (m : Map) : Type 0 where
+  pub holds : Holds r c m
+  pub capacity : r .capacity ≡ t .capacity
+  pub stays : (v s : ℕ) → m v ≢ absent → Place t b v s → Place r c v s
+
+-- the answer of `find`
+unfoldable pub FoundIs : Table → List ℕ → ℕ → Found → Type 0
+FoundIs t b u (Found.At s) = Place t b u s
+FoundIs t b u Found.Absent = mapOf t b u ≡ absent
+
+-- the answer of `least`
+unfoldable pub NearestIs : Table → List ℕ → Nearest → Type 0
+NearestIs t b (Nearest.At s v d) = Place t b v s × Foremost (mapOf t b) v d
+NearestIs t b Nearest.Nothing = (u d : ℕ) → Waits (mapOf t b) u d → ⊥
