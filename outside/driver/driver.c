@@ -1,0 +1,176 @@
+/* Calls the library on the cases of `outside make` (standard input) and writes
+ * what it answers for `outside judge` (standard output). It judges nothing but
+ * the bytes around each slice. Numbers are big-endian, a slice is its length in
+ * four bytes and then its bytes; README.md has the layout. */
+#include <stdio.h>
+#include <stdlib.h>
+#include <string.h>
+
+#include "siltbrow.h"
+
+enum { END = 0, CHECK = 1, RUN = 2 };
+
+/* An odd length, so that no slice begins at an even address by design: the
+ * library may not count on more than bytes. */
+enum { GUARD = 61 };
+
+enum { VERTICES, WALKS, HOPS, HELD, SETTLED, PARTS, ANSWER, SLICES };
+
+typedef struct {
+    uint8_t *block; /* guard, bytes, guard */
+    uint8_t *bytes; /* what the library gets: may be NULL if empty */
+    size_t len;
+    uint8_t *copy; /* a table as it was lent; NULL for a buffer */
+} Slice;
+
+static _Noreturn void fail(const char *message)
+{
+    fprintf(stderr, "driver: %s\n", message);
+    exit(2);
+}
+
+static void read_bytes(uint8_t *bytes, size_t len)
+{
+    if (len != 0 && fread(bytes, 1, len, stdin) != len)
+        fail("the cases are cut");
+}
+
+static void write_bytes(const uint8_t *bytes, size_t len)
+{
+    if (len != 0 && fwrite(bytes, 1, len, stdout) != len)
+        fail("cannot write the answers");
+}
+
+static void flush(void)
+{
+    if (fflush(stdout) != 0)
+        fail("cannot write the answers");
+}
+
+static uint32_t read_number(void)
+{
+    uint8_t b[4];
+    read_bytes(b, sizeof b);
+    return (uint32_t)b[0] << 24 | (uint32_t)b[1] << 16 | (uint32_t)b[2] << 8 | b[3];
+}
+
+static void write_number(uint64_t number, int bytes)
+{
+    uint8_t b[8];
+    for (int i = 0; i < bytes; i++)
+        b[i] = (uint8_t)(number >> 8 * (bytes - 1 - i));
+    write_bytes(b, (size_t)bytes);
+}
+
+static void *allocate(size_t len)
+{
+    void *block = malloc(len);
+    if (block == NULL)
+        fail("no memory");
+    return block;
+}
+
+/* The guard's pattern: no byte is 0, so that zeroing too far shows. */
+static uint8_t guard_byte(size_t i)
+{
+    return (uint8_t)(0x81 + i % 101);
+}
+
+static Slice read_slice(int null, int table)
+{
+    Slice slice = {NULL, NULL, read_number(), NULL};
+    slice.block = allocate(slice.len + 2 * GUARD);
+    for (size_t i = 0; i < GUARD; i++) {
+        slice.block[i] = guard_byte(i);
+        slice.block[GUARD + slice.len + i] = guard_byte(i + 7);
+    }
+    slice.bytes = slice.block + GUARD;
+    read_bytes(slice.bytes, slice.len);
+    if (table && slice.len != 0) {
+        slice.copy = allocate(slice.len);
+        memcpy(slice.copy, slice.bytes, slice.len);
+    }
+    if (null && slice.len == 0)
+        slice.bytes = NULL;
+    return slice;
+}
+
+/* 1 if the library wrote beside a slice, or into a table. */
+static unsigned touched(const Slice *slice)
+{
+    for (size_t i = 0; i < GUARD; i++) {
+        if (slice->block[i] != guard_byte(i))
+            return 1;
+        if (slice->block[GUARD + slice->len + i] != guard_byte(i + 7))
+            return 1;
+    }
+    return slice->copy != NULL && memcmp(slice->copy, slice->bytes, slice->len) != 0;
+}
+
+static void close_slices(Slice *slices, int count)
+{
+    unsigned bits = 0;
+    for (int i = 0; i < count; i++) {
+        bits |= touched(&slices[i]) << i;
+        free(slices[i].copy);
+        free(slices[i].block);
+    }
+    write_number(bits, 1);
+}
+
+static void do_check(Slice *s)
+{
+    uint64_t value = siltbrow_check(s[VERTICES].bytes, s[VERTICES].len, s[WALKS].bytes,
+                                    s[WALKS].len, s[HOPS].bytes, s[HOPS].len);
+    write_number(CHECK, 1);
+    write_number(value, 8);
+    close_slices(s, HELD);
+}
+
+static void do_run(Slice *s, int null)
+{
+    uint32_t number[6];
+    for (int i = 0; i < 6; i++)
+        number[i] = read_number();
+    for (int i = HELD; i < SLICES; i++)
+        s[i] = read_slice(null, 0);
+    int32_t arrival;
+    memcpy(&arrival, &number[2], sizeof arrival);
+    uint32_t value = siltbrow_run(
+        s[VERTICES].bytes, s[VERTICES].len, s[WALKS].bytes, s[WALKS].len, s[HOPS].bytes,
+        s[HOPS].len, number[0], number[1], arrival, number[3], number[4], number[5],
+        s[HELD].bytes, s[HELD].len, s[SETTLED].bytes, s[SETTLED].len, s[PARTS].bytes,
+        s[PARTS].len, s[ANSWER].bytes, s[ANSWER].len);
+    write_number(RUN, 1);
+    write_number(value, 8);
+    for (int i = HELD; i < SLICES; i++) {
+        write_number(s[i].len, 4);
+        write_bytes(s[i].bytes, s[i].len);
+    }
+    close_slices(s, SLICES);
+}
+
+int main(void)
+{
+    for (;;) {
+        uint8_t head[2];
+        read_bytes(head, 1);
+        if (head[0] == END)
+            break;
+        read_bytes(head + 1, 1);
+        Slice slices[SLICES];
+        for (int i = VERTICES; i <= HOPS; i++)
+            slices[i] = read_slice(head[1], 1);
+        if (head[0] == CHECK)
+            do_check(slices);
+        else if (head[0] == RUN)
+            do_run(slices, head[1]);
+        else
+            fail("no such kind of case");
+        /* If the library breaks off, all cases before that are answered. */
+        flush();
+    }
+    write_number(END, 1);
+    flush();
+    return 0;
+}

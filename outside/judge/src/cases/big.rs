@@ -1,0 +1,236 @@
+//! Cases at the limits of the tables, with the refusal known beforehand.
+
+use crate::network::{full_scene, Network, Plan, Scene};
+use crate::outcome::Case;
+use crate::records::{Query, Vertex, NONE};
+
+/// A case and the refusal and place that it is built to give.
+pub struct Big {
+    pub name: &'static str,
+    pub make: fn() -> Case,
+    pub refusal: u32,
+    /// Where held or part room is short, only a run can tell the step.
+    pub place: Option<u32>,
+}
+
+const fn big(name: &'static str, make: fn() -> Case, refusal: u32, place: u32) -> Big {
+    Big {
+        name,
+        make,
+        refusal,
+        place: Some(place),
+    }
+}
+
+const fn somewhere(name: &'static str, make: fn() -> Case, refusal: u32) -> Big {
+    Big {
+        name,
+        make,
+        refusal,
+        place: None,
+    }
+}
+
+impl Big {
+    /// Whether this is the refusal that the case is built for.
+    pub fn fits(&self, (refusal, place): (u32, u32)) -> bool {
+        refusal == self.refusal && self.place.unwrap_or(place) == place
+    }
+}
+
+pub const ALL: &[Big] = &[
+    big("full size", || full().run_case(NONE), 0, 0),
+    big("full size, 1,000 steps", || full().run_case(1_000), 0, 0),
+    big("full size, check", || full().network.check_case(), 0, 0),
+    somewhere(
+        "full size, held room",
+        || short([1_000, 65_536, 262_146]),
+        8,
+    ),
+    big(
+        "full size, settled room",
+        || short([65_536, 150, 262_146]),
+        9,
+        151,
+    ),
+    somewhere("full size, part room", || short([65_536, 65_536, 600]), 10),
+    big("65,537 vertices", || more(1, 0, 0), 1, 0),
+    big("262,145 walks", || more(0, 1, 0), 1, 1),
+    big("262,145 hops", || more(0, 0, 1), 1, 2),
+    big("all three one too long", || more(1, 1, 1), 1, 0),
+    big("walks and hops one too long", || more(0, 1, 1), 1, 1),
+    big("last walk", || broken(last_walk), 2, 262_143),
+    big("last hop", || broken(last_hop), 3, 262_143),
+    big("last walk's order", || broken(walk_order), 4, 262_143),
+    big("last hop's order", || broken(hop_order), 5, 262_143),
+    big("last vertex", || broken(last_vertex), 6, 65_535),
+    big("65,536 vertices, no walk", || lonely(65_536), 7, 0),
+    big("65,537 vertices, no walk", || lonely(65_537), 1, 0),
+    big("65,535 walks depart", || hub(65_535, 0), 0, 0),
+    big("65,536 walks depart", || hub(65_536, 0), 6, 0),
+    big("65,537 walks depart", || hub(65_537, 0), 6, 0),
+    big("65,535 hops depart", || hub(1, 65_534), 0, 0),
+    big("65,535 walks and hops depart", || hub(32_768, 32_767), 0, 0),
+    big("65,536 walks and hops depart", || hub(32_768, 32_768), 6, 0),
+    big("524,288 records depart", || hub(262_144, 262_144), 6, 0),
+    big("200,000 held slots", wide_room, 0, 0),
+    big("a line of 65,536 vertices", || line(65_536), 0, 0),
+    big("262,144 walks into one vertex", funnel, 0, 0),
+];
+
+fn full() -> Scene {
+    full_scene(3_600)
+}
+
+/// The full network and so many records more than it may have.
+fn more(vertices: usize, walks: usize, hops: usize) -> Case {
+    let mut scene = full();
+    let network = &mut scene.network;
+    for _ in 0..vertices {
+        network.vertices.push(Vertex {
+            first_walk: 262_144,
+            first_hop: 262_144,
+            departing: 0,
+            zero: 0,
+        });
+    }
+    for _ in 0..walks {
+        let last = network.walks[network.walks.len() - 1];
+        network.walks.push(last);
+    }
+    for _ in 0..hops {
+        let last = network.hops[network.hops.len() - 1];
+        network.hops.push(last);
+    }
+    scene.run_case(NONE)
+}
+
+/// The full network with so many held, settled and part slots. So few that
+/// `slow` comes to the step that lacks room in a fair time.
+fn short(room: [usize; 3]) -> Case {
+    let mut case = full().run_case(NONE);
+    case.held = vec![0xee; room[0] * 16];
+    case.settled = vec![0xee; room[1] * 8];
+    case.parts = vec![0xee; room[2] * 12];
+    case
+}
+
+fn broken(fault: fn(&mut Network)) -> Case {
+    let mut scene = full();
+    fault(&mut scene.network);
+    scene.run_case(NONE)
+}
+
+fn last_walk(network: &mut Network) {
+    // Its twin goes its own way, or that lower record would be at fault.
+    let twin = network.walks[262_143].twin;
+    network.walks[twin as usize].twin = NONE;
+    network.walks[262_143].twin = 262_144;
+    // Higher numbers everywhere else do not matter.
+    network.hops[0].from = 65_536;
+    network.vertices[0].zero = 1;
+}
+
+fn last_hop(network: &mut Network) {
+    network.hops[262_143].departure = network.hops[262_143].arrival;
+    network.vertices[0].zero = 1;
+}
+
+fn walk_order(network: &mut Network) {
+    let last = network.walks[262_143].to;
+    let before = network.walks.partition_point(|w| w.to < last) - 1;
+    network.swap_walks(before, 262_143);
+    network.hops.swap(0, 262_143);
+}
+
+fn hop_order(network: &mut Network) {
+    let last = network.hops[262_143].to;
+    let before = network.hops.partition_point(|h| h.to < last) - 1;
+    network.hops.swap(before, 262_143);
+    network.vertices[0].departing += 1;
+}
+
+fn last_vertex(network: &mut Network) {
+    network.vertices[65_535].departing += 1;
+}
+
+fn lonely(vertices: usize) -> Case {
+    let plan = Plan {
+        vertices,
+        ..Plan::default()
+    };
+    scene(plan, 1).run_case(NONE)
+}
+
+/// So many records from vertex 0 to vertex 1, and one road to vertex 2.
+fn hub(walks: usize, hops: usize) -> Case {
+    let mut plan = Plan {
+        vertices: 3,
+        ..Plan::default()
+    };
+    plan.one_way(1, 2, 10);
+    for i in 0..walks {
+        plan.one_way(0, 1, 1 + i as u32 % 50);
+    }
+    for i in 0..hops {
+        plan.hop(0, 1, 900 + i as i32 % 60, 960);
+    }
+    let mut scene = scene(plan, 100);
+    scene.query.record = scene.network.walks.len() as u32 - 1;
+    // With 262,144 walks the road is one too many; then it goes.
+    if scene.network.walks.len() > 262_144 {
+        scene.network.walks.pop();
+        scene.network.vertices[1].departing = 0;
+        scene.query.record = 0;
+    }
+    scene.run_case(NONE)
+}
+
+fn wide_room() -> Case {
+    let mut plan = Plan {
+        vertices: 3,
+        ..Plan::default()
+    };
+    plan.road(0, 1, 10);
+    plan.road(1, 2, 10);
+    let mut case = scene(plan, 100).run_case(NONE);
+    case.held = vec![0xee; 200_000 * 16];
+    case.settled = vec![0xee; 300_000 * 8];
+    case.parts = vec![0xee; 300_000 * 12];
+    case
+}
+
+fn line(vertices: usize) -> Case {
+    let mut plan = Plan {
+        vertices,
+        ..Plan::default()
+    };
+    // From the last vertex down, so that one pass of a fixpoint is not enough.
+    for v in 1..vertices {
+        plan.road(v - 1, v, 1 + v as u32 % 7);
+    }
+    scene(plan, 86_400).run_case(NONE)
+}
+
+fn funnel() -> Case {
+    let mut plan = Plan {
+        vertices: 9,
+        ..Plan::default()
+    };
+    for i in 0..262_144 {
+        plan.one_way(i % 8, 8, 1 + (i % 1_000) as u32);
+    }
+    scene(plan, 700).run_case(NONE)
+}
+
+fn scene(plan: Plan, duration: u32) -> Scene {
+    let network = plan.build();
+    let query = Query {
+        record: 0,
+        offset: 1,
+        arrival: 1_000,
+        duration,
+        speed: 2,
+    };
+    Scene { network, query }
+}

@@ -1,0 +1,266 @@
+//! Groups of calls: one network each, varied in one respect.
+
+use super::damage::{any, several, sweep};
+use super::small;
+use crate::mutant::Sound;
+use crate::network::Scene;
+use crate::outcome::{Call, Case};
+use crate::records::{word, Answer, HELD, PART, SETTLED};
+use crate::rng::Rng;
+
+/// The cases of one group; the kind of group follows from its number.
+pub fn group(seed: u64, index: u64) -> Vec<Case> {
+    let mut rng = Rng::new(seed, index);
+    let rng = &mut rng;
+    if index % 80 == 79 {
+        let cases = town(&small::town(rng), rng);
+        return cases.into_iter().map(|case| dress(case, rng)).collect();
+    }
+    let scene = small::scene(rng);
+    let cases = match index % 12 {
+        0..=3 => limits(&scene, rng),
+        4..=7 => rooms(&scene, rng),
+        8 => each_place(&scene, rng),
+        9 => sweep(&one_of_both(&scene, rng), rng),
+        10 => several_faults(&scene, rng),
+        _ if index % 24 == 11 => lengths(&scene, rng),
+        _ => queries(&scene, rng),
+    };
+    cases.into_iter().map(|case| dress(case, rng)).collect()
+}
+
+/// Garbage in whatever is lent, and sometimes NULL for what is empty.
+fn dress(mut case: Case, rng: &mut Rng) -> Case {
+    case.null = rng.chance(50);
+    let lent = [
+        &mut case.held,
+        &mut case.settled,
+        &mut case.parts,
+        &mut case.answer,
+    ];
+    for buffer in lent {
+        match rng.below(4) {
+            0 => buffer.fill(0),
+            1 => buffer.fill(0xff),
+            _ => *buffer = rng.bytes(buffer.len()),
+        }
+    }
+    case
+}
+
+/// A run or a check of the same tables.
+fn one_of_both(scene: &Scene, rng: &mut Rng) -> Case {
+    if rng.chance(40) {
+        scene.network.check_case()
+    } else {
+        scene.run_case(u32::MAX)
+    }
+}
+
+/// What a run with this limit answers when there is room for all.
+fn needs(scene: &Scene, limit: u32) -> Answer {
+    Answer::read(&scene.run_case(limit).fast(Sound).answer)
+}
+
+/// Every limit there is to tell apart, and the far ones.
+fn limits(scene: &Scene, rng: &mut Rng) -> Vec<Case> {
+    let last = needs(scene, u32::MAX).settled;
+    let near = 0..=last + 1;
+    let far = [0x7fff_ffff, 0x8000_0000, u32::MAX];
+    let mut cases: Vec<Case> = near.chain(far).map(|limit| scene.run_case(limit)).collect();
+    for case in &mut cases {
+        let more = rng.below(3);
+        case.held.resize(case.held.len() + more * HELD, 0);
+        case.settled.resize(case.settled.len() + more * SETTLED, 0);
+        case.parts.resize(case.parts.len() + more * PART, 0);
+    }
+    cases.push(scene.network.check_case());
+    cases
+}
+
+/// The room a run needs: the most that is held after any step, and the ends.
+fn exact(scene: &Scene, limit: u32) -> [usize; 3] {
+    let end = needs(scene, limit);
+    let held = (0..=end.settled).map(|k| needs(scene, k).held).max();
+    [
+        held.unwrap_or(0) as usize,
+        end.settled as usize,
+        end.parts as usize,
+    ]
+}
+
+fn with_room(scene: &Scene, limit: u32, room: [usize; 3]) -> Case {
+    let mut case = scene.run_case(limit);
+    case.held = vec![0; room[0] * HELD];
+    case.settled = vec![0; room[1] * SETTLED];
+    case.parts = vec![0; room[2] * PART];
+    case
+}
+
+/// Each buffer exact, one less, none and larger; then mixtures.
+fn rooms(scene: &Scene, rng: &mut Rng) -> Vec<Case> {
+    let all = needs(scene, u32::MAX).settled;
+    let some = rng.range(0, i64::from(all)) as u32;
+    let limit = rng.pick(&[u32::MAX, all, some]);
+    let need = exact(scene, limit);
+    let mut cases = vec![with_room(scene, limit, need)];
+    for i in 0..3 {
+        for room in [0, need[i].saturating_sub(1), need[i] + 1, need[i] + 9] {
+            let mut lent = need;
+            lent[i] = room;
+            cases.push(with_room(scene, limit, lent));
+        }
+    }
+    for _ in 0..12 {
+        let fewer = need.map(|n| rng.range(0, n as i64 + 1) as usize);
+        cases.push(with_room(scene, limit, fewer));
+        let one = need.map(|n| n.saturating_sub(rng.below(2)));
+        cases.push(with_room(scene, limit, one));
+    }
+    cases
+}
+
+/// A larger network: few limits, and held room around what is needed.
+fn town(scene: &Scene, rng: &mut Rng) -> Vec<Case> {
+    let all = needs(scene, u32::MAX).settled;
+    let mut cases = Vec::new();
+    for limit in [u32::MAX, rng.range(0, i64::from(all)) as u32] {
+        let need = exact(scene, limit);
+        cases.push(scene.run_case(limit));
+        cases.push(with_room(scene, limit, need));
+        for i in 0..3 {
+            let mut lent = need;
+            lent[i] = lent[i].saturating_sub(1);
+            cases.push(with_room(scene, limit, lent));
+            let fewer = need.map(|n| rng.range(n as i64 / 2, n as i64) as usize);
+            cases.push(with_room(scene, limit, fewer));
+        }
+    }
+    cases
+}
+
+/// A fault done to every record of its table in turn, checked and run.
+fn each_place(scene: &Scene, rng: &mut Rng) -> Vec<Case> {
+    let mut cases = Vec::new();
+    for _ in 0..2 {
+        let harm = any(rng);
+        for place in 0..harm.places(&scene.network) {
+            let mut scene = scene.clone();
+            harm.put(&mut scene.network, place, rng);
+            cases.push(scene.network.check_case());
+            cases.push(scene.run_case(u32::MAX));
+        }
+    }
+    cases
+}
+
+fn several_faults(scene: &Scene, rng: &mut Rng) -> Vec<Case> {
+    let harmed = |_| {
+        let mut scene = scene.clone();
+        several(&mut scene.network, rng);
+        if rng.chance(30) {
+            scene.query.speed = rng.pick(&[0, 101]);
+        }
+        let mut case = one_of_both(&scene, rng);
+        if rng.chance(30) {
+            let odd = rng.below(6);
+            off_length(&mut case, odd, rng);
+        }
+        case
+    };
+    (0..12).map(harmed).collect()
+}
+
+/// Makes one of the six slices longer or shorter by some bytes.
+fn off_length(case: &mut Case, slice: usize, rng: &mut Rng) {
+    let slices = [
+        &mut case.vertices,
+        &mut case.walks,
+        &mut case.hops,
+        &mut case.held,
+        &mut case.settled,
+        &mut case.parts,
+    ];
+    let Some(bytes) = slices.into_iter().nth(slice) else {
+        return;
+    };
+    let change = rng.pick(&[1, 2, 4, 7, 8, 11, 12, 15]);
+    if rng.chance(50) {
+        bytes.resize(bytes.len() + change, 0);
+    } else {
+        bytes.truncate(bytes.len().saturating_sub(change));
+    }
+}
+
+/// Lengths that are no whole number of records, empty tables, and answer
+/// slices of every other length.
+fn lengths(scene: &Scene, rng: &mut Rng) -> Vec<Case> {
+    let mut cases = Vec::new();
+    for slice in 0..6 {
+        for _ in 0..3 {
+            let mut case = one_of_both(scene, rng);
+            off_length(&mut case, slice, rng);
+            if rng.chance(30) {
+                off_length(&mut case, rng.below(6), rng);
+            }
+            cases.push(case);
+        }
+    }
+    for empty in 0..3 {
+        let mut case = one_of_both(scene, rng);
+        let [vertices, walks, hops] = [&mut case.vertices, &mut case.walks, &mut case.hops];
+        [vertices, walks, hops][empty].clear();
+        cases.push(case);
+    }
+    for len in [0, 1, 4, 20, 23, 25, 28, 48] {
+        let mut case = scene.run_case(rng.below(4) as u32);
+        case.answer = vec![0; len];
+        if rng.chance(30) {
+            off_length(&mut case, rng.below(6), rng);
+        }
+        cases.push(case);
+    }
+    cases
+}
+
+/// Each field of the query at its limits and beyond.
+fn queries(scene: &Scene, rng: &mut Rng) -> Vec<Case> {
+    let case = scene.run_case(u32::MAX);
+    let record = scene.query.record as usize;
+    let at = record * 16 + 8;
+    let length = if case.walks.is_empty() {
+        0
+    } else {
+        word(&case.walks, at)
+    };
+    let mut cases = Vec::new();
+    for field in 0..5 {
+        for value in super::damage::extremes(&case, length, record) {
+            let mut one = case.clone();
+            set(&mut one, field, value);
+            // Mostly one bad field; now and then another with it.
+            if rng.chance(20) {
+                set(&mut one, rng.below(5), rng.draw() as u32);
+            }
+            cases.push(one);
+        }
+    }
+    for value in [0, 1, 99, 100, 101, 127, 128, 255, 256] {
+        let mut one = case.clone();
+        one.query.speed = value;
+        cases.push(one);
+    }
+    cases.retain(|_| rng.chance(25));
+    cases
+}
+
+fn set(case: &mut Case, field: usize, value: u32) {
+    debug_assert!(case.call == Call::Run);
+    match field {
+        0 => case.query.record = value,
+        1 => case.query.offset = value,
+        2 => case.query.arrival = value as i32,
+        3 => case.query.duration = value,
+        _ => case.query.speed = value,
+    }
+}

@@ -1,0 +1,19 @@
+//! Seeded cases: groups of calls on one small network each, jobs, and a few
+//! fixed cases at the limits of the tables.
+
+pub mod big;
+pub mod damage;
+pub mod groups;
+pub mod jobs;
+pub mod small;
+
+use crate::outcome::Case;
+
+/// The cases of a seed, in an order that does not depend on how many are
+/// asked for.
+pub fn stream(seed: u64) -> impl Iterator<Item = Case> {
+    (0..).flat_map(move |index| groups::group(seed, index))
+}
+
+#[cfg(test)]
+mod tests;

@@ -1,0 +1,180 @@
+//! `outside make` and `outside judge`: cases out to the library's driver,
+//! its answers back. Numbers are big-endian; a slice is its length in four
+//! bytes and then its bytes. README.md has the layout.
+
+use std::io::{BufReader, BufWriter, ErrorKind, Read, Write};
+
+use super::Tally;
+use crate::cases::{big, stream};
+use crate::mutant::Sound;
+use crate::outcome::{Call, Case, Outcome};
+use crate::show;
+
+/// Which cases are meant: those of a seed, or the big ones.
+#[derive(Clone, Copy)]
+pub enum Choice {
+    Seed(u64, usize),
+    Big,
+}
+
+impl Choice {
+    fn cases(self) -> Box<dyn Iterator<Item = Case>> {
+        match self {
+            Choice::Seed(seed, count) => Box::new(stream(seed).take(count)),
+            Choice::Big => Box::new(big::ALL.iter().map(|big| (big.make)())),
+        }
+    }
+}
+
+const END: u8 = 0;
+const CHECK: u8 = 1;
+const RUN: u8 = 2;
+
+pub fn make(choice: Choice) -> Result<(), String> {
+    let mut out = BufWriter::with_capacity(1 << 16, std::io::stdout().lock());
+    let written = choice
+        .cases()
+        .try_for_each(|case| write_case(&mut out, &case))
+        .and_then(|()| out.write_all(&[END]))
+        .and_then(|()| out.flush());
+    written.map_err(|error| format!("cannot write the cases: {error}"))
+}
+
+fn write_case(out: &mut impl Write, case: &Case) -> std::io::Result<()> {
+    let kind = match case.call {
+        Call::Check => CHECK,
+        Call::Run => RUN,
+    };
+    out.write_all(&[kind, u8::from(case.null)])?;
+    for table in [&case.vertices, &case.walks, &case.hops] {
+        write_slice(out, table)?;
+    }
+    if case.call == Call::Check {
+        return Ok(());
+    }
+    let q = case.query;
+    let numbers = [
+        q.record,
+        q.offset,
+        q.arrival as u32,
+        q.duration,
+        q.speed,
+        case.limit,
+    ];
+    for number in numbers {
+        out.write_all(&number.to_be_bytes())?;
+    }
+    for buffer in [&case.held, &case.settled, &case.parts, &case.answer] {
+        write_slice(out, buffer)?;
+    }
+    Ok(())
+}
+
+fn write_slice(out: &mut impl Write, bytes: &[u8]) -> std::io::Result<()> {
+    out.write_all(&(bytes.len() as u32).to_be_bytes())?;
+    out.write_all(bytes)
+}
+
+/// What the driver wrote about one case.
+struct Reply {
+    outcome: Outcome,
+    /// One bit for each slice whose surroundings (or, for a table, contents)
+    /// were changed.
+    touched: u8,
+}
+
+pub fn judge(choice: Choice) -> Result<(), String> {
+    let mut input = BufReader::with_capacity(1 << 16, std::io::stdin().lock());
+    let mut tally = Tally::new();
+    for (number, case) in choice.cases().enumerate() {
+        let reply = match read_reply(&mut input, &case) {
+            Ok(reply) => reply,
+            Err(error) => {
+                tally.count(false, || format!("case {number}: no answer ({error})"));
+                tally.close()?;
+                break;
+            }
+        };
+        judge_one(number, &case, &reply, &mut tally);
+    }
+    let mut end = Vec::new();
+    let read = input.read_to_end(&mut end);
+    if read.is_err() || end != [END] {
+        tally.count(false, || "the answers do not end where they should".into());
+    }
+    tally.close()
+}
+
+/// `fast` decides; `slow` has a say wherever it can look at every step.
+fn judge_one(number: usize, case: &Case, reply: &Reply, tally: &mut Tally) {
+    let right = case.fast(Sound);
+    let agreed = !case.small() || case.slow() == right;
+    let good = agreed && reply.outcome == right && reply.touched == 0;
+    tally.count(good, || {
+        let mut text = format!("case {number}\n{}", show::case(case));
+        if !agreed {
+            text += "fast and slow differ here\n";
+        }
+        if reply.touched != 0 {
+            text += &format!("touched beside the slices: {}\n", names(reply.touched));
+        }
+        text += &format!("library\n{}", show::outcome(case, &reply.outcome));
+        text + &format!("expected\n{}", show::outcome(case, &right))
+    });
+}
+
+fn names(touched: u8) -> String {
+    let slices = [
+        "vertices", "walks", "hops", "held", "settled", "parts", "answer", "?",
+    ];
+    let bits = slices.iter().enumerate();
+    let set: Vec<&str> = bits
+        .filter(|(bit, _)| touched >> bit & 1 == 1)
+        .map(|(_, name)| *name)
+        .collect();
+    set.join(", ")
+}
+
+fn read_reply(input: &mut impl Read, case: &Case) -> std::io::Result<Reply> {
+    let [kind] = read_bytes(input)?;
+    let right = match case.call {
+        Call::Check => CHECK,
+        Call::Run => RUN,
+    };
+    if kind != right {
+        let text = format!("kind {kind} instead of {right}");
+        return Err(std::io::Error::new(ErrorKind::InvalidData, text));
+    }
+    let returned = u64::from_be_bytes(read_bytes(input)?);
+    let mut outcome = Outcome {
+        returned,
+        held: case.held.clone(),
+        settled: case.settled.clone(),
+        parts: case.parts.clone(),
+        answer: case.answer.clone(),
+    };
+    if case.call == Call::Run {
+        outcome.held = read_slice(input)?;
+        outcome.settled = read_slice(input)?;
+        outcome.parts = read_slice(input)?;
+        outcome.answer = read_slice(input)?;
+    }
+    let [touched] = read_bytes(input)?;
+    Ok(Reply { outcome, touched })
+}
+
+fn read_bytes<const N: usize>(input: &mut impl Read) -> std::io::Result<[u8; N]> {
+    let mut bytes = [0; N];
+    input.read_exact(&mut bytes)?;
+    Ok(bytes)
+}
+
+fn read_slice(input: &mut impl Read) -> std::io::Result<Vec<u8>> {
+    let len = u32::from_be_bytes(read_bytes(input)?);
+    let mut bytes = Vec::new();
+    let read = input.take(u64::from(len)).read_to_end(&mut bytes)?;
+    if read < len as usize {
+        return Err(ErrorKind::UnexpectedEof.into());
+    }
+    Ok(bytes)
+}

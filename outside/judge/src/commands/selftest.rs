@@ -1,0 +1,104 @@
+//! `outside self`: fast against slow.
+
+use super::Tally;
+use crate::cases::{big, jobs, stream};
+use crate::fast;
+use crate::mutant::{Fault, Sound};
+use crate::outcome::{Call, Case, Outcome};
+use crate::records::{Answer, Walk, WALK};
+use crate::show;
+use crate::slow;
+
+pub fn run<F: Fault>(seed: u64, cases: usize, fault: F) -> Result<(), String> {
+    let mut tally = Tally::new();
+    for (number, case) in stream(seed).take(cases).enumerate() {
+        let (fast, slow) = (case.fast(fault), case.slow());
+        let same = fast == slow;
+        tally.count(same, || {
+            told(&format!("case {number}"), &case, &fast, &slow)
+        });
+        if finished(&case, &slow) {
+            let stray = strayed(&case);
+            tally.count(stray.is_none(), || {
+                let stray = stray.clone().unwrap_or_default();
+                format!("case {number}: {stray}\n{}", show::case(&case))
+            });
+        }
+    }
+    for number in 0..jobs_for(cases) as u64 {
+        let job = jobs::job(seed, number);
+        let (fast, slow) = (fast::print(&job, fault), slow::print(&job));
+        tally.count(fast == slow, || {
+            format!("job {number} of seed {seed}:\nfast\n{fast}slow\n{slow}")
+        });
+    }
+    for big in big::ALL {
+        judge_big(big, fault, &mut tally);
+    }
+    tally.close()
+}
+
+/// `outside show`: one case of a seed and what both programs answer.
+pub fn show_one(seed: u64, number: usize) -> Result<(), String> {
+    let case = stream(seed).nth(number).ok_or("there is no such case")?;
+    print!("{}", show::case(&case));
+    print!("fast\n{}", show::outcome(&case, &case.fast(Sound)));
+    print!("slow\n{}", show::outcome(&case, &case.slow()));
+    Ok(())
+}
+
+/// Jobs go along with the calls, four calls to a job.
+pub fn jobs_for(cases: usize) -> usize {
+    cases / 4
+}
+
+/// Is the answer the one the case was built for, and the one of `slow`?
+fn judge_big<F: Fault>(big: &big::Big, fault: F, tally: &mut Tally) {
+    let case = (big.make)();
+    let (fast, slow) = (case.fast(fault), case.slow());
+    let built = big.fits(refusal(&case, &fast));
+    tally.count(built && fast == slow, || {
+        told(big.name, &case, &fast, &slow)
+    });
+}
+
+pub fn refusal(case: &Case, outcome: &Outcome) -> (u32, u32) {
+    match case.call {
+        Call::Check => ((outcome.returned >> 32) as u32, outcome.returned as u32),
+        Call::Run => {
+            let answer = Answer::read(&outcome.answer);
+            (answer.refusal, answer.place)
+        }
+    }
+}
+
+/// An accepted run to the end.
+fn finished(case: &Case, outcome: &Outcome) -> bool {
+    let whole = case.call == Call::Run && outcome.returned == 0;
+    whole && Answer::read(&outcome.answer).finished == 1
+}
+
+/// Where distances or parts and the journeys themselves disagree. Points are
+/// looked at on short walks only, there are too many on long ones.
+fn strayed(case: &Case) -> Option<String> {
+    if let Some(vertex) = slow::mistimed(case.tables(), case.query) {
+        return Some(format!("the journeys of vertex {vertex} disagree"));
+    }
+    let length = |i| Walk::read(&case.walks, i).length;
+    if (0..case.walks.len() / WALK).any(|i| length(i) > 200) {
+        return None;
+    }
+    let (record, offset) = slow::uncovered(case.tables(), case.query)?;
+    Some(format!(
+        "the journeys on walk {record} at {offset} disagree"
+    ))
+}
+
+pub fn told(name: &str, case: &Case, fast: &Outcome, slow: &Outcome) -> String {
+    format!(
+        "{name}: fast and slow differ\n{}fast\n{}slow\n{}",
+        show::case(case),
+        show::outcome(case, fast),
+        show::outcome(case, slow)
+    )
+}

@@ -1,0 +1,233 @@
+//! Refusals 1 to 7. Each number is judged over the whole of its table before
+//! the next one, since the lowest number wins before the lowest place.
+
+use crate::mutant::{Fault, Mutant};
+use crate::records::{
+    Hop, Query, Refusal, Tables, Vertex, Walk, HELD, HOP, NONE, PART, SETTLED, VERTEX, WALK,
+};
+
+const MOST_VERTICES: usize = 65_536;
+const MOST_RECORDS: usize = 262_144;
+const MOST_LENGTH: u32 = 100_000;
+const FIRST_TIME: i32 = -86_400;
+const LAST_TIME: i32 = 172_800;
+
+/// Lengths in bytes of the held, settled and part buffers.
+pub type Lengths = [usize; 3];
+
+/// The check alone: 1 (places 0 to 2) to 6.
+pub fn check<F: Fault>(tables: Tables, fault: F) -> Option<Refusal> {
+    sizes(tables, fault).or_else(|| contents(tables, fault))
+}
+
+/// Everything that is judged before step 0.
+pub fn judge<F: Fault>(tables: Tables, query: Query, lent: Lengths, fault: F) -> Option<Refusal> {
+    if fault.is(Mutant::QueryFirst) {
+        return sizes(tables, fault)
+            .or_else(|| asked(tables, query, fault))
+            .or_else(|| contents(tables, fault));
+    }
+    if fault.is(Mutant::BuffersLast) {
+        return check(tables, fault)
+            .or_else(|| buffers(tables, lent, fault))
+            .or_else(|| asked(tables, query, fault));
+    }
+    sizes(tables, fault)
+        .or_else(|| buffers(tables, lent, fault))
+        .or_else(|| contents(tables, fault))
+        .or_else(|| asked(tables, query, fault))
+}
+
+fn sizes<F: Fault>(tables: Tables, fault: F) -> Option<Refusal> {
+    let fewest = usize::from(!fault.is(Mutant::NoVertexAccepted));
+    let vertices = MOST_VERTICES + usize::from(fault.is(Mutant::VertexCountLoose));
+    let walks = MOST_RECORDS + usize::from(fault.is(Mutant::WalkCountLoose));
+    let hops = MOST_RECORDS - usize::from(fault.is(Mutant::HopCountTight));
+    let rows = [
+        (tables.vertices.len(), VERTEX, fewest..=vertices),
+        (tables.walks.len(), WALK, 0..=walks),
+        (tables.hops.len(), HOP, 0..=hops),
+    ];
+    let bad = rows
+        .iter()
+        .position(|(len, size, counts)| len % size != 0 || !counts.contains(&(len / size)))?;
+    if fault.is(Mutant::TableCut) && bad == 1 {
+        return None;
+    }
+    Some(Refusal::at(1, bad))
+}
+
+/// The lent buffers have no limits of count, only whole records.
+fn buffers<F: Fault>(tables: Tables, lent: Lengths, fault: F) -> Option<Refusal> {
+    if fault.is(Mutant::HeldCount) && lent[0] / HELD > tables.vertices.len() / VERTEX {
+        return Some(Refusal::at(1, 3));
+    }
+    let sizes = [HELD, SETTLED, PART];
+    let bad = lent
+        .iter()
+        .zip(sizes)
+        .position(|(len, size)| len % size != 0)?;
+    if fault.is(Mutant::BufferCut) && bad == 2 {
+        return None;
+    }
+    Some(Refusal::at(1, 3 + bad))
+}
+
+fn contents<F: Fault>(tables: Tables, fault: F) -> Option<Refusal> {
+    let walks = || order(tables.walks, WALK, 4, fault);
+    if fault.is(Mutant::OrderBeforeHops) {
+        return bad_walk(tables, fault)
+            .or_else(walks)
+            .or_else(|| bad_hop(tables, fault))
+            .or_else(|| order(tables.hops, HOP, 5, fault))
+            .or_else(|| bad_vertex(tables, fault));
+    }
+    bad_walk(tables, fault)
+        .or_else(|| bad_hop(tables, fault))
+        .or_else(walks)
+        .or_else(|| order(tables.hops, HOP, 5, fault))
+        .or_else(|| bad_vertex(tables, fault))
+}
+
+fn bad_walk<F: Fault>(tables: Tables, fault: F) -> Option<Refusal> {
+    let vertices = (tables.vertices.len() / VERTEX) as u32;
+    let count = tables.walks.len() / WALK;
+    let least = u32::from(!fault.is(Mutant::LengthZero));
+    let most = MOST_LENGTH + u32::from(fault.is(Mutant::LengthLoose));
+    let bad = (0..count).find(|&i| {
+        let walk = Walk::read(tables.walks, i);
+        walk.from >= vertices
+            || walk.to >= vertices
+            || (walk.from == walk.to && !fault.is(Mutant::SameEnds))
+            || walk.length < least
+            || walk.length > most
+            || !good_twin(tables.walks, i, walk, fault)
+    })?;
+    Some(Refusal::at(2, bad))
+}
+
+/// A record is judged by its own twin field only.
+fn good_twin<F: Fault>(walks: &[u8], index: usize, walk: Walk, fault: F) -> bool {
+    if fault.is(Mutant::TwinJudgesOther) && named_in_vain(walks, index, walk) {
+        return false;
+    }
+    if walk.twin == NONE {
+        return true;
+    }
+    let mut other = walk.twin as usize;
+    if fault.is(Mutant::TwinWraps) {
+        other = (walk.twin.wrapping_mul(WALK as u32) / WALK as u32) as usize;
+    }
+    if other >= walks.len() / WALK {
+        return fault.is(Mutant::TwinMissingFar);
+    }
+    let twin = Walk::read(walks, other);
+    let ends = twin.from == walk.to && twin.to == walk.from;
+    (ends || fault.is(Mutant::TwinEnds))
+        && (twin.length == walk.length || fault.is(Mutant::TwinLength))
+        && (twin.twin == index as u32 || fault.is(Mutant::TwinNotBack))
+}
+
+/// Only for a mutant: does a record without twin have one that names it?
+fn named_in_vain(walks: &[u8], index: usize, walk: Walk) -> bool {
+    let names = |i: usize| Walk::read(walks, i).twin == index as u32;
+    walk.twin == NONE && (0..walks.len() / WALK).any(names)
+}
+
+fn bad_hop<F: Fault>(tables: Tables, fault: F) -> Option<Refusal> {
+    let vertices = (tables.vertices.len() / VERTEX) as u32;
+    let count = tables.hops.len() / HOP;
+    let last = LAST_TIME - i32::from(fault.is(Mutant::HopTimesTight));
+    let first = FIRST_TIME + i32::from(fault.is(Mutant::HopFirstTight));
+    let bad = (0..count).find(|&i| {
+        let hop = Hop::read(tables.hops, i);
+        let still = hop.departure == hop.arrival && !fault.is(Mutant::HopStill);
+        hop.from >= vertices
+            || hop.to >= vertices
+            || hop.from == hop.to
+            || hop.departure < first
+            || hop.arrival > last
+            || hop.departure > hop.arrival
+            || still
+            || (fault.is(Mutant::HopUnsigned) && hop.departure < 0)
+    })?;
+    Some(Refusal::at(3, bad))
+}
+
+/// "to" stands at byte 4 of walks and hops alike.
+fn order<F: Fault>(table: &[u8], size: usize, number: u32, fault: F) -> Option<Refusal> {
+    let to = |i: usize| crate::records::word(table, i * size + 4);
+    let strict = fault.is(Mutant::OrderStrict);
+    let falls = |i: &usize| to(*i) < to(*i - 1) || (strict && to(*i) == to(*i - 1));
+    let bad = (1..table.len() / size).find(falls)?;
+    let earlier = usize::from(fault.is(Mutant::OrderEarlier));
+    Some(Refusal::at(number, bad - earlier))
+}
+
+/// Both tables ascend by now, so one pass along them gives every first.
+fn bad_vertex<F: Fault>(tables: Tables, fault: F) -> Option<Refusal> {
+    let count = tables.vertices.len() / VERTEX;
+    let (walks, hops) = (tables.walks.len() / WALK, tables.hops.len() / HOP);
+    let departing = departing(tables, count, fault);
+    let (mut walk, mut hop) = (0, 0);
+    let judged = count - usize::from(fault.is(Mutant::LastVertex));
+    for (v, &leaving) in departing.iter().enumerate().take(judged) {
+        while walk < walks && (Walk::read(tables.walks, walk).to as usize) < v {
+            walk += 1;
+        }
+        while hop < hops && (Hop::read(tables.hops, hop).to as usize) < v {
+            hop += 1;
+        }
+        let vertex = Vertex::read(tables.vertices, v);
+        let first_hop = vertex.first_hop as usize == hop || fault.is(Mutant::VertexFirstOnly);
+        let idle = walk == walks || Walk::read(tables.walks, walk).to as usize != v;
+        let first_walk =
+            vertex.first_walk as usize == walk || (idle && fault.is(Mutant::FirstIdle));
+        let good = first_walk
+            && first_hop
+            && u32::from(vertex.departing) == leaving
+            && (vertex.zero == 0 || fault.is(Mutant::ZeroIgnored));
+        if !good {
+            return Some(Refusal::at(6, v));
+        }
+    }
+    None
+}
+
+/// Counted in 32 bits: 65,536 records from one vertex fit no field.
+fn departing<F: Fault>(tables: Tables, count: usize, fault: F) -> Vec<u32> {
+    let mut departing = vec![0; count];
+    for i in 0..tables.walks.len() / WALK {
+        departing[Walk::read(tables.walks, i).from as usize] += 1;
+    }
+    if !fault.is(Mutant::DepartingWalks) {
+        for i in 0..tables.hops.len() / HOP {
+            departing[Hop::read(tables.hops, i).from as usize] += 1;
+        }
+    }
+    if fault.is(Mutant::DepartingModulo) {
+        departing.iter_mut().for_each(|n| *n %= 65_536);
+    }
+    departing
+}
+
+fn asked<F: Fault>(tables: Tables, query: Query, fault: F) -> Option<Refusal> {
+    if query.record as usize >= tables.walks.len() / WALK {
+        return Some(Refusal::at(7, 0));
+    }
+    let length = Walk::read(tables.walks, query.record as usize).length;
+    let tight = fault.is(Mutant::OffsetTight) && query.offset == length;
+    let early = query.arrival < 0 && !fault.is(Mutant::ArrivalUnsigned);
+    let fewest = u32::from(!fault.is(Mutant::DurationZero));
+    let longest = 86_400 + u32::from(fault.is(Mutant::DurationLoose));
+    let latest = LAST_TIME + i32::from(fault.is(Mutant::ArrivalLoose));
+    let fastest = 100 + u32::from(fault.is(Mutant::SpeedLoose));
+    let bad = [
+        query.offset > length || tight,
+        early || query.arrival > latest,
+        !(fewest..=longest).contains(&query.duration),
+        !(1..=fastest).contains(&query.speed),
+    ];
+    let place = bad.iter().position(|&b| b)?;
+    Some(Refusal::at(7, 1 + place))
+}

@@ -1,0 +1,242 @@
+//! The search itself: seeds, the order of steps, offers, held entries.
+
+use std::cmp::Reverse;
+use std::collections::BinaryHeap;
+
+use crate::mutant::{Fault, Mutant};
+use crate::records::{
+    Hop, Lent, Query, Settled, Tables, Vertex, Walk, HOP, NONE, SETTLED, VERTEX, WALK,
+};
+
+/// What is known of a vertex; `is_held` tells whether it is held.
+#[derive(Clone, Copy)]
+pub struct Entry {
+    pub known: u32,
+    pub remaining: u32,
+    pub met: bool,
+    pub settled: bool,
+}
+
+pub struct Search<'a, 'b, F> {
+    pub tables: Tables<'a>,
+    pub query: Query,
+    pub road: Walk,
+    /// The duration in ticks.
+    pub window: u32,
+    pub fault: F,
+    pub entries: Vec<Entry>,
+    /// Distance in the upper half, number in the lower: the least comes first.
+    heap: BinaryHeap<Reverse<u64>>,
+    pub lent: &'a mut Lent<'b>,
+    pub settled: usize,
+    pub parts: usize,
+    pub held: usize,
+    /// Entries dropped by the step under way; only a mutant looks at it.
+    pub dropped: usize,
+}
+
+impl<'a, 'b, F: Fault> Search<'a, 'b, F> {
+    pub fn new(tables: Tables<'a>, query: Query, lent: &'a mut Lent<'b>, fault: F) -> Self {
+        let less = u32::from(fault.is(Mutant::RemainingStart));
+        let entry = |v| Entry {
+            known: NONE,
+            remaining: u32::from(Vertex::read(tables.vertices, v).departing).saturating_sub(less),
+            met: false,
+            settled: false,
+        };
+        Search {
+            tables,
+            query,
+            road: Walk::read(tables.walks, query.record as usize),
+            window: query.duration * query.speed,
+            fault,
+            entries: (0..tables.vertices.len() / VERTEX).map(entry).collect(),
+            heap: BinaryHeap::new(),
+            lent,
+            settled: 0,
+            parts: 0,
+            held: 0,
+            dropped: 0,
+        }
+    }
+
+    /// Step 0: the query's ends and the parts on its own road.
+    pub fn start(&mut self) {
+        let (road, o) = (self.road, self.query.offset);
+        let back = road.length - o;
+        let mut seeds = [Some((road.from, o)), None];
+        let one_way = back == 0 && !self.fault.is(Mutant::SeedOneWay);
+        if road.twin != NONE || one_way {
+            seeds[1] = Some((road.to, back));
+        }
+        if self.fault.is(Mutant::SeedOnVertex) && o == 0 {
+            seeds[1] = None;
+        }
+        for (vertex, distance) in seeds.into_iter().flatten() {
+            let swapped = self.fault.is(Mutant::SeedSwapped);
+            let distance = if swapped {
+                road.length - distance
+            } else {
+                distance
+            };
+            if distance <= self.window || !self.fault.is(Mutant::SeedBeyond) {
+                self.meet(vertex, Some(distance), false);
+            }
+        }
+        self.first_parts(road, o);
+    }
+
+    /// The nearest unsettled vertex within the window. Old heap entries of a
+    /// vertex lie behind its best one, so a settled vertex is simply passed.
+    pub fn nearest(&mut self) -> Option<u32> {
+        while let Some(&Reverse(key)) = self.heap.peek() {
+            let mut vertex = key as u32;
+            if self.fault.is(Mutant::TiesReversed) {
+                vertex = !vertex;
+            }
+            if !self.entries[vertex as usize].settled {
+                return Some(vertex);
+            }
+            self.heap.pop();
+        }
+        None
+    }
+
+    /// One step: the vertex joins S, and every record into it is passed on.
+    pub fn settle(&mut self, vertex: u32) {
+        self.dropped = 0;
+        let distance = self.entries[vertex as usize].known;
+        self.entries[vertex as usize].settled = true;
+        if !self.is_held(vertex) && !self.fault.is(Mutant::DropUnsettled) {
+            self.held -= 1;
+            self.dropped += 1;
+        }
+        let record = Settled { vertex, distance };
+        let mut slots = self.lent.settled.chunks_exact_mut(SETTLED);
+        if let Some(slot) = slots.nth(self.settled) {
+            slot.copy_from_slice(&record.bytes());
+        }
+        self.settled += 1;
+        self.arriving_walks(vertex, distance);
+        self.arriving_hops(vertex, distance);
+    }
+
+    /// The run of the walk table that arrives at a vertex.
+    fn arriving_walks(&mut self, vertex: u32, distance: u32) {
+        let first = |v| Vertex::read(self.tables.vertices, v).first_walk as usize;
+        let next = vertex as usize + 1;
+        let end = if next < self.entries.len() {
+            first(next)
+        } else {
+            self.tables.walks.len() / WALK
+        };
+        let mut before = NONE;
+        for record in first(vertex as usize)..end {
+            let walk = Walk::read(self.tables.walks, record);
+            self.arriving_part(record as u32, walk, distance);
+            let twice = self.fault.is(Mutant::ParallelOnce) && before == walk.from;
+            self.meet(walk.from, Some(distance + walk.length), !twice);
+            before = walk.from;
+        }
+    }
+
+    fn arriving_hops(&mut self, vertex: u32, distance: u32) {
+        let first = |v| Vertex::read(self.tables.vertices, v).first_hop as usize;
+        let next = vertex as usize + 1;
+        let end = if next < self.entries.len() {
+            first(next)
+        } else {
+            self.tables.hops.len() / HOP
+        };
+        for record in first(vertex as usize)..end {
+            let hop = Hop::read(self.tables.hops, record);
+            let offer = self.ride(hop, distance);
+            if offer.is_some() || !self.fault.is(Mutant::MetByOffer) {
+                let counted = offer.is_some() || !self.fault.is(Mutant::LateRemains);
+                self.meet(hop.from, offer, counted);
+            }
+        }
+    }
+
+    /// Seconds are compared in ticks: no distance is rounded.
+    fn ride(&self, hop: Hop, distance: u32) -> Option<u32> {
+        let speed = i64::from(self.query.speed);
+        let arrival = i64::from(self.query.arrival);
+        let mut far = i64::from(distance);
+        if self.fault.is(Mutant::HopFloor) {
+            far = far / speed * speed;
+        }
+        if self.fault.is(Mutant::HopPlace) {
+            far = 0;
+        }
+        let left = arrival * speed - far - i64::from(hop.arrival) * speed;
+        if left < 0 || (left == 0 && self.fault.is(Mutant::StrictArrival)) {
+            return None;
+        }
+        if self.fault.is(Mutant::HopRide) {
+            return Some(distance + ((hop.arrival - hop.departure) as u32) * self.query.speed);
+        }
+        let offer = ((arrival - i64::from(hop.departure)) * speed) as u32;
+        let beyond = self.fault.is(Mutant::OfferBeyond) && offer > self.window;
+        (!beyond).then_some(offer)
+    }
+
+    /// A seed, or a record into S (`record`), reaches a vertex with an offer.
+    fn meet(&mut self, vertex: u32, offer: Option<u32>, record: bool) {
+        let within = offer.is_some_and(|d| d <= self.window);
+        if self.fault.is(Mutant::MetWithin) && record && !within {
+            return;
+        }
+        let held = self.is_held(vertex);
+        let (window, fault) = (self.window, self.fault);
+        let entry = &mut self.entries[vertex as usize];
+        entry.met = true;
+        let offer = offer.unwrap_or(NONE);
+        let late = fault.is(Mutant::FirstOffer) && entry.known != NONE;
+        let better = offer < entry.known && !late;
+        if better {
+            entry.known = offer;
+        }
+        let passed = fault.is(Mutant::RemainingWithin) && entry.known > window;
+        if record && !passed {
+            entry.remaining = entry.remaining.saturating_sub(1);
+        }
+        if better && self.within(offer) {
+            self.push(vertex, offer);
+        }
+        self.count(vertex, held);
+    }
+
+    fn within(&self, distance: u32) -> bool {
+        if self.fault.is(Mutant::WindowFloor) {
+            return distance / self.query.speed <= self.query.duration;
+        }
+        distance < self.window || (distance == self.window && !self.fault.is(Mutant::StrictWindow))
+    }
+
+    fn push(&mut self, vertex: u32, distance: u32) {
+        let reversed = self.fault.is(Mutant::TiesReversed);
+        let low = if reversed { !vertex } else { vertex };
+        let key = u64::from(distance) << 32 | u64::from(low);
+        self.heap.push(Reverse(key));
+    }
+
+    /// Keeps the number of held entries after one of them was touched.
+    fn count(&mut self, vertex: u32, before: bool) {
+        match (before, self.is_held(vertex)) {
+            (false, true) => self.held += 1,
+            (true, false) => {
+                self.held -= 1;
+                self.dropped += 1;
+            }
+            _ => {}
+        }
+    }
+
+    pub fn is_held(&self, vertex: u32) -> bool {
+        let entry = self.entries[vertex as usize];
+        let settled = entry.settled || self.fault.is(Mutant::DropUnsettled);
+        let gone = settled && entry.remaining == 0 && !self.fault.is(Mutant::DropNever);
+        entry.met && !gone
+    }
+}

@@ -1,0 +1,19 @@
+//! The written rules of Siltbrow once more, independent of the library.
+//!
+//! `fast` follows them with a heap and arrays, `slow` computes every answer
+//! straight from the definitions. The two share the record types in `records`
+//! and nothing else, so that one can judge the other, and both the library.
+
+pub mod cases;
+pub mod commands;
+pub mod fast;
+pub mod mutant;
+pub mod network;
+pub mod outcome;
+pub mod records;
+pub mod rng;
+pub mod show;
+pub mod slow;
+
+#[cfg(test)]
+mod marked;

@@ -1,0 +1,103 @@
+//! The command line of the independent judge.
+
+use std::path::Path;
+use std::process::ExitCode;
+
+use outside::commands::exchange::{self, Choice};
+use outside::commands::{bench, jobs, jobtext, mutants, selftest};
+use outside::mutant::{Mutant, Sound};
+
+const USAGE: &str = "usage:
+  outside self [SEED] [CASES]           compare the fast and the slow program
+  outside mutants [SEED] [CASES]        show that wrong versions are caught
+  outside make SEED CASES | big         write cases for the driver
+  outside judge SEED CASES | big        judge the driver's answers
+  outside show SEED NUMBER              print one case and its outcome
+  outside reach                         a job in, its printed lines out
+  outside job [FILE]                    make a binary job from readable lines
+  outside jobs SEED CASES DIR           write jobs DIR/000000.job ...
+  outside judge-jobs SEED CASES DIR     judge the outputs DIR/000000.out ...
+  outside try-jobs SEED CASES PROGRAM [ARGUMENTS]
+                                        run a program on jobs and judge it
+  outside bench [ROUNDS]                time the fast program
+The variable OUTSIDE_MUTANT makes self and reach use a wrong version.";
+
+fn main() -> ExitCode {
+    let words: Vec<String> = std::env::args().skip(1).collect();
+    match command(&words) {
+        Some(Ok(())) => ExitCode::SUCCESS,
+        Some(Err(message)) => {
+            eprintln!("outside: {message}");
+            ExitCode::FAILURE
+        }
+        None => {
+            eprintln!("{USAGE}");
+            ExitCode::from(2)
+        }
+    }
+}
+
+/// None where the words fit no subcommand.
+fn command(words: &[String]) -> Option<Result<(), String>> {
+    let (name, rest) = words.split_first()?;
+    let words: Vec<&str> = rest.iter().map(String::as_str).collect();
+    Some(match (name.as_str(), words.as_slice()) {
+        ("self", rest) => self_test(rest)?,
+        ("mutants", rest) => {
+            let (seed, cases) = seeded(rest, 6_000)?;
+            mutants::run(seed, cases)
+        }
+        ("make", rest) => exchange::make(choice(rest)?),
+        ("judge", rest) => exchange::judge(choice(rest)?),
+        ("show", [seed, number]) => selftest::show_one(seed.parse().ok()?, number.parse().ok()?),
+        ("reach", []) => reach(),
+        ("job", []) => jobtext::run(None),
+        ("job", [file]) => jobtext::run(Some(file)),
+        ("jobs", [seed, cases, dir]) => {
+            jobs::make(seed.parse().ok()?, cases.parse().ok()?, Path::new(dir))
+        }
+        ("judge-jobs", [seed, cases, dir]) => {
+            jobs::judge(seed.parse().ok()?, cases.parse().ok()?, Path::new(dir))
+        }
+        ("try-jobs", [seed, cases, _, ..]) => {
+            jobs::drive(seed.parse().ok()?, cases.parse().ok()?, &rest[2..])
+        }
+        ("bench", []) => bench::run(9),
+        ("bench", [rounds]) => bench::run(rounds.parse().ok()?),
+        _ => return None,
+    })
+}
+
+/// An optional seed and an optional number of cases.
+fn seeded(words: &[&str], cases: usize) -> Option<(u64, usize)> {
+    match words {
+        [] => Some((1, cases)),
+        [seed] => Some((seed.parse().ok()?, cases)),
+        [seed, cases] => Some((seed.parse().ok()?, cases.parse().ok()?)),
+        _ => None,
+    }
+}
+
+fn choice(words: &[&str]) -> Option<Choice> {
+    match words {
+        ["big"] => Some(Choice::Big),
+        [_, _] => seeded(words, 0).map(|(seed, cases)| Choice::Seed(seed, cases)),
+        _ => None,
+    }
+}
+
+fn self_test(words: &[&str]) -> Option<Result<(), String>> {
+    let (seed, cases) = seeded(words, 20_000)?;
+    Some(match Mutant::from_environment() {
+        Ok(None) => selftest::run(seed, cases, Sound),
+        Ok(Some(mutant)) => selftest::run(seed, cases, mutant),
+        Err(message) => Err(message),
+    })
+}
+
+fn reach() -> Result<(), String> {
+    match Mutant::from_environment()? {
+        None => jobs::reach(Sound),
+        Some(mutant) => jobs::reach(mutant),
+    }
+}

@@ -1,0 +1,183 @@
+//! Wrong versions of `fast`, each altered in one place. The self test has to
+//! tell every one of them from `slow`; a survivor shows a hole in the cases.
+
+/// What `fast` asks at each place that a mutant alters.
+pub trait Fault: Copy {
+    fn is(self, mutant: Mutant) -> bool;
+}
+
+/// The right version. Its answer is a constant, so that the compiler removes
+/// every altered place and the speed measured is that of the plain program.
+#[derive(Clone, Copy)]
+pub struct Sound;
+
+impl Fault for Sound {
+    #[inline(always)]
+    fn is(self, _: Mutant) -> bool {
+        false
+    }
+}
+
+impl Fault for Mutant {
+    fn is(self, mutant: Mutant) -> bool {
+        self == mutant
+    }
+}
+
+macro_rules! mutants {
+    ($($name:ident: $note:literal,)*) => {
+        #[derive(Clone, Copy, Debug, PartialEq, Eq)]
+        pub enum Mutant {
+            $(#[doc = $note] $name,)*
+        }
+
+        impl Mutant {
+            pub const ALL: &'static [Mutant] = &[$(Mutant::$name,)*];
+
+            pub fn note(self) -> &'static str {
+                match self {
+                    $(Mutant::$name => $note,)*
+                }
+            }
+        }
+    };
+}
+
+mutants! {
+    // The table check.
+    VertexCountLoose: "65,537 vertices are accepted",
+    WalkCountLoose: "262,145 walks are accepted",
+    HopCountTight: "262,144 hops are refused",
+    NoVertexAccepted: "an empty vertex table is not refused by its count",
+    TableCut: "a cut record at the end of a walk table is passed over",
+    BufferCut: "a cut record at the end of a part buffer is passed over",
+    LengthZero: "a walk of length 0 is accepted",
+    LengthLoose: "a walk of 100,001 dm is accepted",
+    SameEnds: "a walk may end where it begins",
+    TwinWraps: "a twin's byte address wraps at 32 bits",
+    TwinNotBack: "a twin need not name the record back",
+    TwinLength: "a twin may have another length",
+    TwinEnds: "a twin's ends are not compared",
+    TwinJudgesOther: "a record is also faulty when a record that names it is",
+    TwinMissingFar: "a twin number out of range means no twin",
+    HopStill: "departure equal to arrival is accepted",
+    HopUnsigned: "hop times are read unsigned",
+    HopTimesTight: "a hop at the very end of the times is refused",
+    HopFirstTight: "a hop that departs at the first second is refused",
+    OrderBeforeHops: "refusal 4 is judged before 3",
+    OrderStrict: "equal values of 'to' are refused",
+    OrderEarlier: "the place of 4 and 5 is the earlier record",
+    VertexFirstOnly: "the first arriving hop is not judged",
+    FirstIdle: "the first of a vertex at which no walk arrives is not judged",
+    DepartingWalks: "departing hops are not counted",
+    DepartingModulo: "the departing count is compared modulo 65,536",
+    ZeroIgnored: "the zero of a vertex is not judged",
+    LastVertex: "the last vertex is not judged",
+    // The query check and what stands around a run.
+    BuffersLast: "lengths of the lent buffers are judged behind the tables",
+    HeldCount: "more held room than vertices is refused",
+    QueryFirst: "the query is judged before the tables",
+    OffsetTight: "offset equal to length is refused",
+    ArrivalUnsigned: "a negative arrival is accepted",
+    DurationZero: "duration 0 is accepted",
+    DurationLoose: "duration 86,401 is accepted",
+    ArrivalLoose: "arrival 172,801 is accepted",
+    SpeedLoose: "speed 101 is accepted",
+    AnswerLoose: "an answer slice longer than 24 bytes is filled",
+    AnswerLate: "the lent buffers are written though the answer slice is wrong",
+    AnswerOrder: "held and settled counts change places",
+    RefusalKept: "8 to 10 leave the lent buffers as they were",
+    RefusalOwn: "8 to 10 zero only the buffer that is too small",
+    RefusalZeroes: "1 to 7 leave the lent buffers zero",
+    RefusalCounts: "the settled count is told in a refusal",
+    TailKept: "the rest of each lent buffer is not zeroed",
+    // Seeds and distances.
+    SeedOneWay: "no seed at 'to' when o is the length and there is no twin",
+    SeedOnVertex: "o = 0 seeds 'from' alone",
+    SeedSwapped: "the seeds take each other's distance",
+    SeedBeyond: "a seed above D is not met",
+    StrictWindow: "a vertex at exactly D is not settled",
+    WindowFloor: "a distance is rounded down to seconds before D is asked",
+    StrictArrival: "a hop that arrives at the last moment is late",
+    HopFloor: "the far distance is rounded down to seconds",
+    HopPlace: "a hop may arrive up to T, wherever it goes",
+    OfferBeyond: "a hop before the window offers nothing",
+    HopRide: "a hop offers far distance plus riding time",
+    FirstOffer: "the first offer counts instead of the least",
+    TiesReversed: "ties are settled by descending number",
+    // Held.
+    MetByOffer: "a hop that comes too late does not meet its 'from'",
+    MetWithin: "a vertex is met only by an offer within D",
+    RemainingWithin: "remaining is counted from the first offer within D",
+    RemainingStart: "remaining starts one too small",
+    ParallelOnce: "parallel records are taken off remaining once",
+    LateRemains: "a hop that comes too late is not taken off remaining",
+    DropUnsettled: "an unsettled vertex without remaining records is dropped",
+    DropNever: "settled vertices stay held",
+    StateZero: "state is always 0",
+    HeldReversed: "held records descend",
+    // Parts.
+    PartFar: "a part's start is measured from the far vertex",
+    PartOtherEnd: "a part begins at the far vertex",
+    PartOnce: "one part per record",
+    PartEmpty: "parts with start equal to end are kept",
+    PartUnsettled: "walks from settled vertices give no part",
+    ClipParallel: "a walk beside e is held back to o as e is",
+    PartTwinFirst: "step 0 writes the twin's part first",
+    PartTwinOffset: "the twin's part of step 0 ends at o",
+    ClipNone: "on e the start is not held back to o",
+    ClipTwin: "on the twin the start is not held back to length - o",
+    PartsAlways: "step 0 gives the twin's part to a road without twin",
+    // Room, limits and the end.
+    HeldRoomTight: "one more held slot is asked for",
+    HeldRoomLoose: "one held slot less is asked for",
+    SettledRoomTight: "one more settled slot is asked for",
+    SettledRoomLoose: "one settled slot less is asked for",
+    PartRoomTight: "one more part slot is asked for",
+    PartRoomLoose: "one part slot less is asked for",
+    AddBeforeDrop: "room is judged before entries are dropped",
+    RoomAtEnd: "held room is judged after the last step only",
+    RoomZeroStep: "room is not judged at step 0",
+    NineBeforeEight: "9 wins over 8 in one step",
+    TenBeforeNine: "10 wins over 9 in one step",
+    NumberBeforeStep: "among 8 to 10 the number decides before the step",
+    LimitSigned: "the limit is read signed",
+    LimitZero: "limit 0 means no limit",
+    LimitLate: "one step more than the limit is taken",
+    StepOff: "the place of 8 to 10 counts steps from 1",
+    FinishedLimit: "finished means that the limit was not reached",
+    // The job.
+    JobEqualKind: "kinds must ascend strictly",
+    JobOrder: "kinds in any order are accepted",
+    JobPad: "the four zero bytes of a vertex are not judged",
+    JobCut: "a cut last record is passed over",
+    JobTrailing: "records after the query are passed over",
+    JobMissing: "a missing query is answered with the last record",
+    JobTooMany: "513 vertices are accepted",
+    JobManyHops: "1,025 hops are accepted",
+    JobKindByte: "only the last byte of a kind is read",
+    JobWalkLimit: "1,024 walks are too many",
+    JobWideSpeed: "duration takes two bytes and speed two",
+    JobRefusalEnd: "a refusal prints its end line too",
+}
+
+impl Mutant {
+    pub fn named(name: &str) -> Option<Mutant> {
+        let same = |m: &&Mutant| format!("{m:?}").eq_ignore_ascii_case(name);
+        Mutant::ALL.iter().find(same).copied()
+    }
+
+    /// The mutant that the variable OUTSIDE_MUTANT names, if it is set.
+    pub fn from_environment() -> Result<Option<Mutant>, String> {
+        let Ok(name) = std::env::var("OUTSIDE_MUTANT") else {
+            return Ok(None);
+        };
+        if name.is_empty() {
+            return Ok(None);
+        }
+        match Mutant::named(&name) {
+            Some(mutant) => Ok(Some(mutant)),
+            None => Err(format!("OUTSIDE_MUTANT: there is no mutant {name}")),
+        }
+    }
+}

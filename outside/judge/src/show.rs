@@ -1,0 +1,129 @@
+//! Cases and outcomes in readable form; tables in the words of `outside job`.
+
+use std::fmt::Write;
+
+use crate::outcome::{Call, Case, Outcome};
+use crate::records::{
+    Answer, Held, Hop, Part, Settled, Vertex, Walk, ANSWER, HELD, HOP, NONE, PART, SETTLED, VERTEX,
+    WALK,
+};
+
+/// More records than this are only counted.
+const MOST_SHOWN: usize = 60;
+
+fn hex(bytes: &[u8]) -> String {
+    bytes.iter().map(|b| format!("{b:02x}")).collect()
+}
+
+/// One line per record; what is behind the last whole record in hex.
+fn table(text: &mut String, bytes: &[u8], size: usize, line: impl Fn(usize) -> String) {
+    let count = bytes.len() / size;
+    for i in 0..count.min(MOST_SHOWN) {
+        let _ = writeln!(text, "{}", line(i));
+    }
+    if count > MOST_SHOWN {
+        let _ = writeln!(text, "# ... {count} records in all");
+    }
+    let rest = &bytes[count * size..];
+    if !rest.is_empty() {
+        let _ = writeln!(text, "# and {} bytes more: {}", rest.len(), hex(rest));
+    }
+}
+
+fn vertex_line(v: Vertex) -> String {
+    let zero = match v.zero {
+        0 => String::new(),
+        zero => format!(" {zero}"),
+    };
+    format!(
+        "vertex {} {} {}{zero}",
+        v.first_walk, v.first_hop, v.departing
+    )
+}
+
+fn walk_line(w: Walk) -> String {
+    let twin = match w.twin {
+        NONE => "-".to_string(),
+        twin => twin.to_string(),
+    };
+    format!("walk {} {} {} {twin}", w.from, w.to, w.length)
+}
+
+fn hop_line(h: Hop) -> String {
+    format!("hop {} {} {} {}", h.from, h.to, h.departure, h.arrival)
+}
+
+pub fn case(case: &Case) -> String {
+    let mut text = String::new();
+    table(&mut text, &case.vertices, VERTEX, |i| {
+        vertex_line(Vertex::read(&case.vertices, i))
+    });
+    table(&mut text, &case.walks, WALK, |i| {
+        walk_line(Walk::read(&case.walks, i))
+    });
+    table(&mut text, &case.hops, HOP, |i| {
+        hop_line(Hop::read(&case.hops, i))
+    });
+    if case.call == Call::Check {
+        text += "# the check alone\n";
+        return text;
+    }
+    let q = case.query;
+    let _ = writeln!(
+        text,
+        "query {} {} {} {} {}",
+        q.record, q.offset, q.arrival, q.duration, q.speed
+    );
+    let _ = writeln!(
+        text,
+        "# limit {}, bytes lent: held {}, settled {}, parts {}, answer {}",
+        case.limit,
+        case.held.len(),
+        case.settled.len(),
+        case.parts.len(),
+        case.answer.len()
+    );
+    text
+}
+
+/// The outcome of a call; of a refusal or a wrong call only what was changed.
+pub fn outcome(case: &Case, after: &Outcome) -> String {
+    if case.call == Call::Check {
+        let (number, place) = (after.returned >> 32, after.returned & 0xffff_ffff);
+        return format!("  check {number} {place}\n");
+    }
+    let mut text = format!("  returned {}\n", after.returned);
+    if after.answer.len() == ANSWER {
+        let _ = writeln!(text, "  {:?}", Answer::read(&after.answer));
+    }
+    let changed = |name: &str, before: &[u8], now: &[u8], list: String| match now {
+        now if now == before => format!("  {name}: as it was lent\n"),
+        now if now.iter().all(|&b| b == 0) => format!("  {name}: all zero\n"),
+        _ => format!("  {name}:{list}\n"),
+    };
+    let held = rows(&after.held, HELD, |i| {
+        let h = Held::read(&after.held, i);
+        format!(" ({} {} {} {})", h.vertex, h.distance, h.state, h.remaining)
+    });
+    let settled = rows(&after.settled, SETTLED, |i| {
+        let s = Settled::read(&after.settled, i);
+        format!(" ({} {})", s.vertex, s.distance)
+    });
+    let parts = rows(&after.parts, PART, |i| {
+        let p = Part::read(&after.parts, i);
+        format!(" ({} {} {})", p.record, p.start, p.end)
+    });
+    text += &changed("held", &case.held, &after.held, held);
+    text += &changed("settled", &case.settled, &after.settled, settled);
+    text += &changed("parts", &case.parts, &after.parts, parts);
+    text
+}
+
+fn rows(bytes: &[u8], size: usize, row: impl Fn(usize) -> String) -> String {
+    let count = bytes.len() / size;
+    let mut text: String = (0..count.min(MOST_SHOWN)).map(row).collect();
+    if count > MOST_SHOWN {
+        let _ = write!(text, " ... {count} in all");
+    }
+    text
+}

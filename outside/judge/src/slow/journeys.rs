@@ -1,0 +1,45 @@
+//! Distances against the journeys themselves, tick by tick: a third look that
+//! knows nothing of offers, only of standing at a vertex at a moment.
+
+use super::model::Model;
+use crate::records::{Query, Tables};
+
+/// How many ticks before T are looked at.
+const SPAN: i64 = 400;
+
+/// The first vertex whose distance is not the least number of ticks before T
+/// at which one can still set out there. For tables and query in order.
+pub fn mistimed(tables: Tables, query: Query) -> Option<usize> {
+    let model = Model::new(tables, query);
+    let mut able: Vec<Vec<bool>> = Vec::new();
+    for before in 0..=SPAN {
+        let row = (0..model.vertices).map(|v| in_time(&model, &able, v, before));
+        let row = row.collect();
+        able.push(row);
+    }
+    (0..model.vertices).find(|&v| {
+        let least = able.iter().position(|row| row[v]);
+        let least = least.map(|ticks| ticks as i64);
+        least != model.distance[v].filter(|&d| d <= SPAN)
+    })
+}
+
+/// Can one who stands at `vertex` so many ticks before T be at the place by T?
+/// `able` has the answer for all later moments.
+fn in_time(model: &Model, able: &[Vec<bool>], vertex: usize, before: i64) -> bool {
+    let later = |at: u32, ticks: i64| ticks >= 0 && able[ticks as usize][at as usize];
+    let straight = model
+        .seeds()
+        .iter()
+        .any(|&(v, d)| v == vertex && d <= before);
+    let waits = before > 0 && later(vertex as u32, before - 1);
+    let walks = model.walks.iter().any(|walk| {
+        walk.from as usize == vertex && later(walk.to, before - i64::from(walk.length))
+    });
+    let rides = model.hops.iter().any(|hop| {
+        let until = |seconds: i32| model.ticks(i64::from(model.query.arrival - seconds));
+        let boards = hop.from as usize == vertex && until(hop.departure) <= before;
+        boards && later(hop.to, until(hop.arrival))
+    });
+    straight || waits || walks || rides
+}

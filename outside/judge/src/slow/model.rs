@@ -1,0 +1,223 @@
+//! Distances, order, and the sets of a step, as the text defines them.
+//! Ticks are 64-bit here, so that no sum can pass its type.
+
+use super::check;
+use crate::records::{Held, Hop, Part, Query, Tables, Walk, NONE};
+
+pub struct Model {
+    pub vertices: usize,
+    pub walks: Vec<Walk>,
+    pub hops: Vec<Hop>,
+    pub query: Query,
+    /// The distance of each vertex, the window left aside.
+    pub distance: Vec<Option<i64>>,
+    /// All vertices within D, in the order in which they are settled.
+    pub order: Vec<usize>,
+}
+
+impl Model {
+    pub fn new(tables: Tables, query: Query) -> Self {
+        let mut model = Model {
+            vertices: check::vertices(tables).len(),
+            walks: check::walks(tables),
+            hops: check::hops(tables),
+            query,
+            distance: Vec::new(),
+            order: Vec::new(),
+        };
+        model.distance = model.distances();
+        model.order = model.ordered();
+        model
+    }
+
+    pub fn place(&self) -> Walk {
+        self.walks[self.query.record as usize]
+    }
+
+    pub fn offset(&self) -> i64 {
+        i64::from(self.query.offset)
+    }
+
+    /// From the place back to the far end, the way the twin counts.
+    pub fn back(&self) -> i64 {
+        i64::from(self.place().length) - self.offset()
+    }
+
+    pub fn ticks(&self, seconds: i64) -> i64 {
+        seconds * i64::from(self.query.speed)
+    }
+
+    pub fn window(&self) -> i64 {
+        self.ticks(i64::from(self.query.duration))
+    }
+
+    /// The query ends: how far the place is from each end that may reach it.
+    pub fn seeds(&self) -> Vec<(usize, i64)> {
+        let place = self.place();
+        let mut seeds = vec![(place.from as usize, self.offset())];
+        if place.twin != NONE || self.back() == 0 {
+            seeds.push((place.to as usize, self.back()));
+        }
+        seeds
+    }
+
+    pub fn walk_offer(&self, walk: &Walk, far: i64) -> i64 {
+        far + i64::from(walk.length)
+    }
+
+    /// Board at the departure, if the arrival is not after T less `far`.
+    pub fn hop_offer(&self, hop: &Hop, far: i64) -> Option<i64> {
+        let end = self.ticks(i64::from(self.query.arrival));
+        let arrival = self.ticks(i64::from(hop.arrival));
+        let departure = self.ticks(i64::from(hop.departure));
+        (arrival <= end - far).then_some(end - departure)
+    }
+
+    /// The least solution: seeds, then every record again and again until
+    /// none offers less. A latest start is all a journey needs to know of the
+    /// journeys behind it, since waiting is free.
+    fn distances(&self) -> Vec<Option<i64>> {
+        let mut distance = vec![None; self.vertices];
+        for (vertex, seed) in self.seeds() {
+            lower(&mut distance, vertex, Some(seed));
+        }
+        loop {
+            let mut changed = false;
+            for walk in &self.walks {
+                let far = distance[walk.to as usize];
+                let offer = far.map(|far| self.walk_offer(walk, far));
+                changed |= lower(&mut distance, walk.from as usize, offer);
+            }
+            for hop in &self.hops {
+                let far = distance[hop.to as usize];
+                let offer = far.and_then(|far| self.hop_offer(hop, far));
+                changed |= lower(&mut distance, hop.from as usize, offer);
+            }
+            if !changed {
+                return distance;
+            }
+        }
+    }
+
+    fn ordered(&self) -> Vec<usize> {
+        let within = |v: &usize| self.distance[*v].is_some_and(|d| d <= self.window());
+        let mut order: Vec<usize> = (0..self.vertices).filter(within).collect();
+        order.sort_by_key(|&v| (self.distance[v], v));
+        order
+    }
+
+    /// Whether each vertex is among the first k.
+    fn first(&self, k: usize) -> Vec<bool> {
+        let mut inside = vec![false; self.vertices];
+        self.order[..k].iter().for_each(|&v| inside[v] = true);
+        inside
+    }
+
+    /// The held records after k steps.
+    pub fn held(&self, k: usize) -> Vec<Held> {
+        let inside = self.first(k);
+        let mut known = vec![None; self.vertices];
+        let mut met = vec![false; self.vertices];
+        let mut outside = vec![0; self.vertices];
+        for (vertex, seed) in self.seeds() {
+            met[vertex] = true;
+            lower(&mut known, vertex, Some(seed));
+        }
+        for (from, to, offer) in self.offers(&inside) {
+            if inside[to] {
+                met[from] = true;
+                lower(&mut known, from, offer);
+            } else {
+                outside[from] += 1;
+            }
+        }
+        let held = |v: &usize| met[*v] && !(inside[*v] && outside[*v] == 0);
+        let record = |v: usize| Held {
+            vertex: v as u32,
+            distance: known[v].map_or(NONE, |d: i64| d as u32),
+            state: u32::from(inside[v]),
+            remaining: outside[v],
+        };
+        (0..self.vertices).filter(held).map(record).collect()
+    }
+
+    /// Every record with its ends and what it offers if it leads into S.
+    fn offers<'a>(
+        &'a self,
+        inside: &'a [bool],
+    ) -> impl Iterator<Item = (usize, usize, Option<i64>)> + 'a {
+        let far = |to: u32| self.distance[to as usize].filter(|_| inside[to as usize]);
+        let walks = self.walks.iter().map(move |w| {
+            let offer = far(w.to).map(|far| self.walk_offer(w, far));
+            (w.from as usize, w.to as usize, offer)
+        });
+        let hops = self.hops.iter().map(move |h| {
+            let offer = far(h.to).and_then(|far| self.hop_offer(h, far));
+            (h.from as usize, h.to as usize, offer)
+        });
+        walks.chain(hops)
+    }
+
+    /// The parts that step k writes.
+    pub fn parts(&self, k: usize) -> Vec<Part> {
+        let mut parts = Vec::new();
+        if k == 0 {
+            self.first_parts(&mut parts);
+            return parts;
+        }
+        let vertex = self.order[k - 1];
+        let left = self.window() - self.distance[vertex].unwrap_or(0);
+        let first = self.walks.partition_point(|w| (w.to as usize) < vertex);
+        let arriving = self.walks.iter().enumerate().skip(first);
+        for (record, walk) in arriving.take_while(|(_, w)| w.to as usize == vertex) {
+            let length = i64::from(walk.length);
+            let start = (length - left).max(0).max(self.clip(record));
+            put(&mut parts, record as u32, start, length);
+        }
+        parts
+    }
+
+    fn first_parts(&self, parts: &mut Vec<Part>) {
+        let start = |end: i64| (end - self.window()).max(0);
+        let (o, back) = (self.offset(), self.back());
+        put(parts, self.query.record, start(o), o);
+        if self.place().twin != NONE {
+            put(parts, self.place().twin, start(back), back);
+        }
+    }
+
+    /// No part at a vertex begins before the place itself on the query's road.
+    fn clip(&self, record: usize) -> i64 {
+        if record == self.query.record as usize {
+            self.offset()
+        } else if record as u32 == self.place().twin {
+            self.back()
+        } else {
+            0
+        }
+    }
+}
+
+/// A part with start equal to end is left out.
+fn put(parts: &mut Vec<Part>, record: u32, start: i64, end: i64) {
+    if start != end {
+        parts.push(Part {
+            record,
+            start: start as u32,
+            end: end as u32,
+        });
+    }
+}
+
+/// Takes an offer that is less than what is there; tells whether it was.
+fn lower(values: &mut [Option<i64>], at: usize, offer: Option<i64>) -> bool {
+    let less = match (offer, values[at]) {
+        (Some(new), Some(old)) => new < old,
+        (Some(_), None) => true,
+        (None, _) => false,
+    };
+    if less {
+        values[at] = offer;
+    }
+    less
+}
