@@ -1,0 +1,229 @@
+-- Lists of parts, one behind the other. Assumes nothing.
+use mathlib.Core.Path.{_≡_, refl, sym, ap, subst, _∙_}
+use mathlib.Core.Bool.{cond}
+use mathlib.Core.List.{List, [], _∷_, _++_, flatMap, append-nil, append-assoc}
+use Prim.Native.Nat.{ℕ, zero, suc, _+_, _-_, _*_, _/_, _≤_, _<_, max}
+use native.Mathlib.Omega.{arith}
+use lib.Dec.{eqb}
+use lib.ListN.{length, take, drop, take-append-drop, length-append}
+use borrow.Author.Tests.{eq-eqb, ne-eqb}
+use Rattle.journeys.specs.Counting.{none, joined}
+use Rattle.journeys.specs.Bytes.{be32}
+use Rattle.journeys.specs.Tables as tables
+use Rattle.journeys.specs.Tables.{walkAt}
+use Rattle.journeys.specs.Parts.{Part, part}
+use Rattle.journeys.specs.Answers.{partBytes}
+use Rattle.records.specs.Written.{written, partOf}
+use Rattle.records.specs.Meaning.{walkOf}
+use Rattle.records.specs.declared.Walk.{Walk}
+use Rattle.records.proofs.Filling.{length-part, length-written, written-next}
+use Rattle.parts.specs.Listing.{Behind, Overfull, ListedIs, roadOf, nearOn, firstOn, partOn, partsOn}
+use Rattle.parts.specs.declared.Listed.{Listed}
+use Rattle.parts.specs.declared.Listed.the-variants.{Fits, NoRoom}
+use Rattle.parts.specs.declared.Road.{Road}
+
+-- a part, or none
+pub part-none : (i a z : ℕ) → a ≡ z → part i a z ≡ []
+unfolding part
+part-none i a z e = rw (eq-eqb a z e)
+
+pub part-some : (i a z : ℕ) → (a ≡ z → ⊥) → part i a z ≡ partOf i a z ∷ []
+unfolding part
+part-some i a z n = rw (ne-eqb a z n)
+
+flat-length : (ps : List Part) → length (flatMap partBytes ps) ≡ 12 * length ps
+unfolding flatMap
+flat-length [] = refl
+flat-length (p ∷ ps) = omega (arith, length-append (partBytes p) (flatMap partBytes ps), length-part p, flat-length ps)
+
+flat-append : (ps qs : List Part) → flatMap partBytes (ps ++ qs) ≡ flatMap partBytes ps ++ flatMap partBytes qs
+unfolding flatMap
+flat-append [] qs = refl
+flat-append (p ∷ ps) qs = ap (λ (x : List ℕ). partBytes p ++ x) (flat-append ps qs) ∙ sym (append-assoc (partBytes p) (flatMap partBytes ps) (flatMap partBytes qs))
+
+-- nothing listed
+pub behind-none : (count : ℕ) (b : List ℕ) → count ≤ length b / 12 → Behind count [] b b count
+unfolding written flatMap
+behind-none count b h = record { counted = omega arith; room = h; bytes = sym (ap (λ (x : List ℕ). x ++ drop (12 * count + 0) b) (append-nil (take (12 * count) b)) ∙ ap (λ (k : ℕ). take (12 * count) b ++ drop k b) (let e : 12 * count + 0 ≡ 12 * count = omega arith in e) ∙ take-append-drop (12 * count) b) }
+
+-- more listed behind what is listed
+pub behind-more : {count c c′ : ℕ} {ps qs : List Part} {b b′ b″ : List ℕ} → count ≤ length b / 12 → Behind count ps b b′ c → Behind c qs b′ b″ c′ → Behind count (ps ++ qs) b b″ c′
+behind-more {count} {c} {c′} {ps} {qs} {b} {b′} {b″} h x y =
+    let fit : 12 * count + length (flatMap partBytes ps) ≤ length b = omega (arith, flat-length ps, x .counted, x .room) in
+    let e : 12 * c ≡ 12 * count + length (flatMap partBytes ps) = omega (arith, flat-length ps, x .counted) in
+    record {
+      counted = omega (arith, x .counted, y .counted, length-append ps qs);
+      room = subst (λ (k : ℕ). c′ ≤ k / 12) (ap length (x .bytes) ∙ length-written b (12 * count) (flatMap partBytes ps) fit) (y .room);
+      bytes = y .bytes
+          ∙ ap (λ (z : List ℕ). written z (12 * c) (flatMap partBytes qs)) (x .bytes)
+          ∙ ap (λ (k : ℕ). written (written b (12 * count) (flatMap partBytes ps)) k (flatMap partBytes qs)) e
+          ∙ written-next b (12 * count) (flatMap partBytes ps) fit (flatMap partBytes qs)
+          ∙ ap (written b (12 * count)) (sym (flat-append ps qs));
+    }
+
+pub over-more : {count c : ℕ} {ps qs : List Part} {b b′ b″ : List ℕ} → count ≤ length b / 12 → Behind count ps b b′ c → Overfull c qs b′ b″ → Overfull count (ps ++ qs) b b″
+over-more {count} {c} {ps} {qs} {b} {b′} {b″} h x y =
+    let fit : 12 * count + length (flatMap partBytes ps) ≤ length b = omega (arith, flat-length ps, x .counted, x .room) in
+    let e : length b′ ≡ length b = ap length (x .bytes) ∙ length-written b (12 * count) (flatMap partBytes ps) fit in
+    record { over = omega (arith, ap (λ (k : ℕ). k / 12) e, y .over, x .counted, length-append ps qs); same = y .same ∙ e }
+
+pub over-later : {count : ℕ} {ps : List Part} (qs : List Part) {b b′ : List ℕ} → Overfull count ps b b′ → Overfull count (ps ++ qs) b b′
+over-later {count} {ps} qs {b} {b′} x = record { over = omega (arith, x .over, length-append ps qs); same = x .same }
+
+-- ---- the offset on a record
+pub near-walk : (e : Road) (i : ℕ) → i ≡ e .walk → e .near ≡ nearOn e i
+unfolding nearOn
+near-walk e i p = rw (eq-eqb i (e .walk) p)
+
+pub near-twin : (e : Road) (i : ℕ) → (i ≡ e .walk → ⊥) → i ≡ e .twin → e .back ≡ nearOn e i
+unfolding nearOn
+near-twin e i n p = rw (ne-eqb i (e .walk) n, eq-eqb i (e .twin) p)
+
+pub near-none : (e : Road) (i : ℕ) → (i ≡ e .walk → ⊥) → (i ≡ e .twin → ⊥) → 0 ≡ nearOn e i
+unfolding nearOn
+near-none e i n m = rw (ne-eqb i (e .walk) n, ne-eqb i (e .twin) m)
+
+-- ---- what listing one part answers
+module _ (count i a z : ℕ) (b : List ℕ) (h : count ≤ length b / 12) where
+  pub listed-none : a ≡ z → ListedIs count (part i a z) b b (Fits count)
+  unfolding ListedIs
+  listed-none e = rw (part-none i a z e) (behind-none count b h)
+
+  pub listed-full : (a ≡ z → ⊥) → count ≡ length b / 12 → ListedIs count (part i a z) b b NoRoom
+  unfolding ListedIs
+  listed-full n e = rw (part-some i a z n) (record { over = omega arith; same = refl })
+
+  pub listed-one : (b′ : List ℕ) → (a ≡ z → ⊥) → (count ≡ length b / 12 → ⊥) → b′ ≡ written b (12 * count) (partBytes (partOf i a z)) → ListedIs count (part i a z) b b′ (Fits (count + 1))
+  unfolding ListedIs flatMap
+  listed-one b′ n m e =
+      rw (part-some i a z n)
+      (record { counted = omega arith; room = omega arith; bytes = e ∙ ap (written b (12 * count)) (sym (append-nil (partBytes (partOf i a z)))) })
+
+-- ---- one list behind another
+pub listed-over : (count : ℕ) (ps qs : List Part) (b b′ : List ℕ) → ListedIs count ps b b′ NoRoom → ListedIs count (ps ++ qs) b b′ NoRoom
+unfolding ListedIs
+listed-over count ps qs b b′ x = over-later qs x
+
+module _ (count : ℕ) (ps : List Part) (b b′ : List ℕ) (h : count ≤ length b / 12) where
+  pub listed-more : (c : ℕ) (qs : List Part) (b″ : List ℕ) (r : Listed) → ListedIs count ps b b′ (Fits c) → ListedIs c qs b′ b″ r → ListedIs count (ps ++ qs) b b″ r
+  unfolding ListedIs
+  listed-more c qs b″ (Fits c′) x y = behind-more h x y
+  listed-more c qs b″ NoRoom x y = over-more h x y
+
+  pub listed-room : (c : ℕ) → ListedIs count ps b b′ (Fits c) → c ≤ length b′ / 12
+  unfolding ListedIs
+  listed-room c x =
+      let fit : 12 * count + length (flatMap partBytes ps) ≤ length b = omega (arith, flat-length ps, x .counted, x .room) in
+      subst (λ (k : ℕ). c ≤ k / 12) (sym (ap length (x .bytes) ∙ length-written b (12 * count) (flatMap partBytes ps) fit)) (x .room)
+
+  pub listed-end : (c : ℕ) → ListedIs count ps b b′ (Fits c) → ListedIs count (ps ++ []) b b′ (Fits c)
+  listed-end c x = subst (λ (q : List Part). ListedIs count q b b′ (Fits c)) (sym (append-nil ps)) x
+
+-- step 0 without and with a twin
+pub first-alone : (e : Road) (allowed : ℕ) → e .twin ≡ none → part (e .walk) (e .near - allowed) (e .near) ++ [] ≡ firstOn e allowed
+unfolding firstOn
+first-alone e allowed q = rw (eq-eqb (e .twin) none q)
+
+pub first-both : (e : Road) (allowed : ℕ) → (e .twin ≡ none → ⊥)
+    → part (e .walk) (e .near - allowed) (e .near) ++ part (e .twin) (e .back - allowed) (e .back) ≡ firstOn e allowed
+unfolding firstOn
+first-both e allowed q = rw (ne-eqb (e .twin) none q)
+
+-- whatever comes behind, the first part alone is too much
+pub first-over : (e : Road) (allowed : ℕ) (b b′ : List ℕ) → ListedIs 0 (part (e .walk) (e .near - allowed) (e .near)) b b′ NoRoom → ListedIs 0 (firstOn e allowed) b b′ NoRoom
+unfolding firstOn
+first-over e allowed b b′ x = listed-over 0 (part (e .walk) (e .near - allowed) (e .near)) (cond (eqb (e .twin) none) [] (part (e .twin) (e .back - allowed) (e .back))) b b′ x
+
+joined-add : (f : ℕ → List Part) (m n : ℕ) → (ps : List Part) × (joined f (m + n) ≡ joined f m ++ ps)
+unfolding joined
+joined-add f m zero = ([], ap (joined f) (let e : m + 0 ≡ m = omega arith in e) ∙ sym (append-nil (joined f m)))
+joined-add f m (suc n) =
+    let r = joined-add f m n in
+    let e : m + suc n ≡ suc (m + n) = omega arith in
+    (r .0 ++ f (m + n), ap (joined f) e ∙ ap (λ (x : List Part). x ++ f (m + n)) (r .1) ∙ append-assoc (joined f m) (r .0) (f (m + n)))
+
+-- one walk more
+pub parts-more : (w : List ℕ) (e : Road) (left first i : ℕ) → first ≤ i → partsOn w e left first (i - first) ++ partOn w e left i ≡ partsOn w e left first (i + 1 - first)
+unfolding partsOn joined
+parts-more w e left first i h =
+    let n : i + 1 - first ≡ suc (i - first) = omega arith in
+    let k : first + (i - first) ≡ i = omega arith in
+    ap (λ (x : ℕ). joined (λ k. partOn w e left (first + k)) (i - first) ++ partOn w e left x) (sym k)
+    ∙ ap (joined (λ k. partOn w e left (first + k))) (sym n)
+
+-- the walks that are left may only be too many
+pub parts-over : (w : List ℕ) (e : Road) (left first i end : ℕ) → first ≤ i → i < end → (ps : List Part) × (partsOn w e left first (end - first) ≡ partsOn w e left first (i + 1 - first) ++ ps)
+unfolding partsOn
+parts-over w e left first i end h l = go (end - (i + 1)) (let z : (i + 1 - first) + (end - (i + 1)) ≡ end - first = omega arith in z)
+  where
+    f : ℕ → List Part
+    f k = partOn w e left (first + k)
+
+    go : (n : ℕ) → (i + 1 - first) + n ≡ end - first → (ps : List Part) × (joined f (end - first) ≡ joined f (i + 1 - first) ++ ps)
+    go n e = let r = joined-add f (i + 1 - first) n in (r .0, ap (joined f) (sym e) ∙ r .1)
+
+-- ---- in the code's terms
+pub listed-as : (count : ℕ) (ps qs : List Part) (b b′ : List ℕ) (r : Listed) → ps ≡ qs → ListedIs count ps b b′ r → ListedIs count qs b b′ r
+listed-as count ps qs b b′ r e x = subst (λ (z : List Part). ListedIs count z b b′ r) e x
+
+pub part-on : (w : List ℕ) (e : Road) (left i len a near start : ℕ) → len ≡ be32 w (16 * i + 8) → a ≡ len - left → near ≡ nearOn e i → start ≡ max a near → part i start len ≡ partOn w e left i
+unfolding partOn walkAt
+part-on w e left i len a near start p q r s = rw (s, q, r, p)
+
+-- before the first walk
+pub parts-start : (w : List ℕ) (e : Road) (left first count : ℕ) (b : List ℕ) → count ≤ length b / 12 → ListedIs count (partsOn w e left first (first - first)) b b (Fits count)
+unfolding partsOn joined ListedIs
+parts-start w e left first count b h = let z : first - first ≡ 0 = omega arith in rw z (behind-none count b h)
+
+-- too many with walk i are too many with all
+pub parts-full : (w : List ℕ) (e : Road) (left first i end count : ℕ) (b b′ : List ℕ) → first ≤ i → i < end
+    → ListedIs count (partsOn w e left first (i - first) ++ partOn w e left i) b b′ NoRoom → ListedIs count (partsOn w e left first (end - first)) b b′ NoRoom
+parts-full w e left first i end count b b′ h l x =
+    let o = parts-over w e left first i end h l in
+    let y = listed-as count _ _ b b′ NoRoom (parts-more w e left first i h) x in
+    listed-as count _ _ b b′ NoRoom (sym (o .1)) (listed-over count (partsOn w e left first (i + 1 - first)) (o .0) b b′ y)
+
+pub listed-is : (count : ℕ) (ps : List Part) (b b′ : List ℕ) (r r′ : Listed) → r ≡ r′ → ListedIs count ps b b′ r → ListedIs count ps b b′ r′
+listed-is count ps b b′ r r′ e x = subst (λ (z : Listed). ListedIs count ps b b′ z) e x
+
+-- the buffer keeps its length
+pub listed-length : (count : ℕ) (ps : List Part) (b b′ : List ℕ) (c : ℕ) → ListedIs count ps b b′ (Fits c) → length b′ ≡ length b
+unfolding ListedIs
+listed-length count ps b b′ c x =
+    let fit : 12 * count + length (flatMap partBytes ps) ≤ length b = omega (arith, flat-length ps, x .counted, x .room) in
+    ap length (x .bytes) ∙ length-written b (12 * count) (flatMap partBytes ps) fit
+
+module _ (e : Road) (allowed x : ℕ) (q : x ≡ e .near - allowed) (b b′ : List ℕ) (r : Listed) (one : ListedIs 0 (part (e .walk) x (e .near)) b b′ r) where
+  first-as : ListedIs 0 (part (e .walk) (e .near - allowed) (e .near)) b b′ r
+  first-as = listed-as 0 _ _ b b′ r (ap (λ (z : ℕ). part (e .walk) z (e .near)) q) one
+
+  pub first-full : r ≡ NoRoom → ListedIs 0 (firstOn e allowed) b b′ NoRoom
+  first-full s = first-over e allowed b b′ (listed-is 0 _ b b′ r NoRoom s first-as)
+
+  pub first-room : (c : ℕ) → r ≡ Fits c → c ≤ length b′ / 12
+  first-room c s = listed-room 0 _ b b′ (omega arith) c (listed-is 0 _ b b′ r (Fits c) s first-as)
+
+  pub first-one : (c : ℕ) → r ≡ Fits c → e .twin ≡ none → ListedIs 0 (firstOn e allowed) b b′ (Fits c)
+  first-one c s t =
+      listed-as 0 _ _ b b′ (Fits c) (first-alone e allowed t) (listed-end 0 _ b b′ (omega arith) c (listed-is 0 _ b b′ r (Fits c) s first-as))
+
+  pub first-two : (c : ℕ) → r ≡ Fits c → (e .twin ≡ none → ⊥) → (y : ℕ) → y ≡ e .back - allowed → (b″ : List ℕ) (r′ : Listed) → ListedIs c (part (e .twin) y (e .back)) b′ b″ r′
+      → ListedIs 0 (firstOn e allowed) b b″ r′
+  first-two c s t y p b″ r′ two =
+      listed-as 0 _ _ b b″ r′ (first-both e allowed t)
+      (listed-more 0 _ b b′ (omega arith) c _ b″ r′ (listed-is 0 _ b b′ r (Fits c) s first-as)
+      (listed-as c _ _ b′ b″ r′ (ap (λ (z : ℕ). part (e .twin) z (e .back)) p) two))
+
+pub parts-end : (w : List ℕ) (e : Road) (left first i end count : ℕ) (b b′ : List ℕ) (r : Listed) → i ≡ end → ListedIs count (partsOn w e left first (i - first)) b b′ r
+    → ListedIs count (partsOn w e left first (end - first)) b b′ r
+parts-end w e left first i end count b b′ r q x = subst (λ (k : ℕ). ListedIs count (partsOn w e left first (k - first)) b b′ r) q x
+
+-- ---- the road as it is read
+pub road-is : (i offset : ℕ) (w : tables.Walk) (r : Walk) → r ≡ walkOf w → record { walk = i; twin = r .twin; near = offset; back = r .len .0 - offset } ≡ roadOf i w offset
+road-is i offset w r e = ap (λ (x : Walk). roadIn x) e
+  where
+    roadIn : Walk → Road
+    roadIn x = record { walk = i; twin = x .twin; near = offset; back = x .len .0 - offset }
+
+pub len-is : (w : tables.Walk) (r : Walk) → r ≡ walkOf w → r .len .0 ≡ w .len
+len-is w r e = ap (λ (x : Walk). x .len .0) e

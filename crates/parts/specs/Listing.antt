@@ -1,0 +1,48 @@
+-- The parts that a step lists, by the numbers of the query's road. Assumes nothing.
+use mathlib.Core.Path.{_≡_}
+use mathlib.Core.Bool.{cond}
+use mathlib.Core.List.{List, [], _++_, flatMap}
+use Prim.Native.Nat.{ℕ, _+_, _-_, _*_, _/_, _<_, _≤_, max}
+use lib.Dec.{eqb}
+use lib.ListN.{length}
+use Rattle.journeys.specs.Counting.{none, joined}
+use Rattle.journeys.specs.Tables.{Walk, walkAt}
+use Rattle.journeys.specs.Parts.{Part, part}
+use Rattle.journeys.specs.Answers.{partBytes}
+use Rattle.records.specs.Written.{written}
+use Rattle.parts.specs.declared.Listed.{Listed}
+use Rattle.parts.specs.declared.Listed.the-variants.{Fits, NoRoom}
+use Rattle.parts.specs.declared.Road.{Road}
+
+-- the road of the query: record i, an offset on it
+abbrev pub roadOf : ℕ → Walk → ℕ → Road
+roadOf i w offset = record { walk = i; twin = w .twin; near = offset; back = w .len - offset }
+
+-- the offset of the query place on record i
+unfoldable pub nearOn : Road → ℕ → ℕ
+nearOn e i = cond (eqb i (e .walk)) (e .near) (cond (eqb i (e .twin)) (e .back) 0)
+
+-- step 0
+unfoldable pub firstOn : Road → ℕ → List Part
+firstOn e allowed = part (e .walk) (e .near - allowed) (e .near) ++ cond (eqb (e .twin) none) [] (part (e .twin) (e .back - allowed) (e .back))
+
+-- the part of walk i where `left` ticks are left at its end; those of n walks from `first` on
+unfoldable pub partOn : List ℕ → Road → ℕ → ℕ → List Part
+partOn w e left i = part i (max (walkAt w i .len - left) (nearOn e i)) (walkAt w i .len)
+
+unfoldable pub partsOn : List ℕ → Road → ℕ → ℕ → ℕ → List Part
+partsOn w e left first n = joined (λ k. partOn w e left (first + k)) n
+
+-- What listing parts behind `count` others answers and leaves: all of them behind these, or that there is no room for all.
+pub record Behind (count : ℕ) (ps : List Part) (b b′ : List ℕ) (c : ℕ) : Type 0 where
+  pub counted : c ≡ count + length ps
+  pub room : c ≤ length b / 12
+  pub bytes : b′ ≡ written b (12 * count) (flatMap partBytes ps)
+
+pub record Overfull (count : ℕ) (ps : List Part) (b b′ : List ℕ) : Type 0 where
+  pub over : length b / 12 < count + length ps
+  pub same : length b′ ≡ length b
+
+unfoldable pub ListedIs : ℕ → List Part → List ℕ → List ℕ → Listed → Type 0
+ListedIs count ps b b′ (Fits c) = Behind count ps b b′ c
+ListedIs count ps b b′ NoRoom = Overfull count ps b b′
