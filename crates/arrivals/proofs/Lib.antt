@@ -1,0 +1,9 @@
+pub mod Entries
+pub mod Sizes
+pub mod Changes
+pub mod Bits
+pub mod Halves
+pub mod Offers
+pub mod Steps
+pub mod Ends
+pub mod Determined

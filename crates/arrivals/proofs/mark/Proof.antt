@@ -1,0 +1,74 @@
+-- `arrivals::mark` meets its contract: adding a power sets one bit that was not set. Assumes nothing.
+use Rattle.arrivals.proofs.Bits.{is-marked, not-marked, mark-fits, mark-sets, marked-again, power-above-zero}
+use Rattle.journeys.proofs.Tests.{cond-true, cond-false}
+use Prim.Native.Nat.{_/_}
+use native.Mathlib.Omega.{arith}
+use mathlib.Core.Path.{sym}
+use borrow.Author.Needs.{needs}
+use Rattle.arrivals.proofs.mark.Statement.{statement}
+use Rattle.arrivals.proofs.mark.Tie as tie
+
+mul-p : tie.Need-mul-p
+mul-p c = search needs
+
+array-read-p : tie.Need-array-read-p
+array-read-p c = search needs
+
+mul-if1 : tie.Need-mul-if1
+mul-if1 c = search needs
+
+slice-read-if1 : tie.Need-slice-read-if1
+slice-read-if1 c = search needs
+
+div-if1 : tie.Need-div-if1
+div-if1 c =
+    power-above-zero (c .before .args .marks .now) (c .before .args .k)
+
+returns : tie.Need-returns
+returns c =
+    let a = c .before .before .args in
+    let h = is-marked (a .marks .now) (a .k) (c .if1 .taken) in
+    (sym (cond-true 0 1 h), λ i l. marked-again (a .marks .now) (a .k) h i)
+
+mul-marks : tie.Need-mul-marks
+mul-marks c = search needs
+
+slice-read-marks : tie.Need-slice-read-marks
+slice-read-marks c = search needs
+
+add-marks : tie.Need-add-marks
+add-marks c =
+    let a = c .before .before .before .args in
+    record { fits = mark-fits (a .marks .now) (a .k) (c .before .if1 .left) (omega (arith, c .slice-known2 .given (a .k / 16))) }
+
+mul-marks-2 : tie.Need-mul-marks-2
+mul-marks-2 c = search needs
+
+slice-write-marks : tie.Need-slice-write-marks
+slice-write-marks c = search needs
+
+same-length : tie.Need-same-length
+same-length c = search needs
+
+returns-2 : tie.Need-returns-2
+returns-2 c =
+    let a = c .before .before .before .args in
+    (sym (cond-false 0 1 (not-marked (a .marks .now) (a .k) (c .before .if1 .left))), λ i l. mark-sets (a .marks .now) (a .k) (c .before .if1 .left) (omega (arith, c .before .before .before .pre)) i)
+
+pub mark-spec : {M : Type 1} → statement M
+mark-spec =
+    tie.close
+    (tie.spec
+    mul-p
+    array-read-p
+    mul-if1
+    slice-read-if1
+    div-if1
+    returns
+    mul-marks
+    slice-read-marks
+    add-marks
+    mul-marks-2
+    slice-write-marks
+    same-length
+    returns-2)

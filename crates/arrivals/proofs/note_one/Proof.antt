@@ -1,0 +1,67 @@
+-- `arrivals::note_one` meets its contract. Assumes nothing.
+use borrow.Author.Needs.{needs}
+use mathlib.Core.Path.{sym, ap, _∙_}
+use mathlib.Core.Bool.{Bool, _&&_, _||_}
+use Prim.Native.Nat.{_/_, _%_}
+use native.Mathlib.Omega.{arith}
+use lib.Dec.{eqb}
+use borrow.Author.Tests.{eq-eqb, ne-eqb}
+use Rattle.journeys.proofs.Tests.{and-left, and-right}
+use Rattle.worktable.specs.Table.{mapOf}
+use Rattle.arrivals.specs.Passing.{left}
+use Rattle.arrivals.specs.Marks.{bit}
+use Rattle.arrivals.specs.Phases.{inHalf, missing}
+use Rattle.arrivals.proofs.Changes as ch
+use Rattle.arrivals.proofs.note_one.Statement.{statement}
+use Rattle.arrivals.proofs.note_one.Tie as tie
+
+find-requires : tie.Need-find-requires
+find-requires c κs = search needs
+
+enum-told : tie.Need-enum-told
+enum-told c = search needs
+
+enum-told-2 : tie.Need-enum-told-2
+enum-told-2 c = search needs
+
+mark-requires : tie.Need-mark-requires
+mark-requires c κs =
+    let s = c .before .before .before .before .before .before .before in (omega arith, s .pre .1)
+
+same-length : tie.Need-same-length
+same-length c = search needs
+
+returns : tie.Need-returns
+returns c =
+    let s = c .before .before .before .before .before .before .before .before .before .before in
+    let a = s .args in
+    let m = mapOf (a .t) (a .held .now) in
+    let z = ch.at-none (a .t) (a .held .now) (a .u) (c .before .before .before .before .before .before .find .ensures) (c .before .before .before .before .enum-told2 .given .1) in
+    let t = eq-eqb (a .u / 32768) (a .half) (c .before .before .before .before .before .before .before .if1 .taken) in
+    λ i h. c .before .before .mark .ensures .1 i h ∙ ap (λ (b : Bool). bit (a .marks .now) i || b) (ch.and-missing (eqb (a .u % 32768) i) (m (a .u)) z ∙ ap (λ (b : Bool). b && (eqb (a .u % 32768) i && missing (m (a .u)))) (sym t))
+
+returns-2 : tie.Need-returns-2
+returns-2 c =
+    let s = c .before .before .before .before .before .before in
+    let a = s .args in
+    let p = ch.at-place (c .before .before .find .ensures) (c .enum-told .given .1) in
+    λ i h. ch.or-nothing (bit (a .marks .now) i) (and-right (inHalf (a .half) (a .u)) (and-right (eqb (a .u % 32768) i) (ch.here-held (s .pre .0) p)))
+
+returns-3 : tie.Need-returns-3
+returns-3 c =
+    let s = c .before .before .before in
+    let a = s .args in
+    λ i h. ch.or-nothing (bit (a .marks .now) i) (and-left (eqb (a .u % 32768) i && missing (mapOf (a .t) (a .held .now) (a .u))) (ne-eqb (a .u / 32768) (a .half) (c .if1 .left)))
+
+pub note-one-spec : {M : Type 1} → statement M
+note-one-spec =
+    tie.close
+    (tie.spec
+    find-requires
+    enum-told
+    enum-told-2
+    mark-requires
+    same-length
+    returns
+    returns-2
+    returns-3)

@@ -1,0 +1,72 @@
+-- `arrivals::offer_at` meets its contract; an offer is none or far below the limit of an entry. Assumes nothing.
+use Rattle.arrivals.proofs.Offers.{hop-distance}
+use Rattle.arrivals.specs.Runs.{recordOf}
+use Rattle.journeys.proofs.Seconds.{clocked}
+use Rattle.journeys.specs.Records.{offer}
+use Rattle.journeys.specs.Tables.{walkAt, hopAt}
+use borrow.Author.Tests.{lt-ltb, le-ltb}
+use native.Mathlib.Omega.{arith}
+use Prim.Native.Nat.{_+_, _-_, _<_}
+use mathlib.Core.Logic.{inl}
+use borrow.Author.Needs.{needs}
+use Rattle.arrivals.proofs.offer_at.Statement.{statement}
+use Rattle.arrivals.proofs.offer_at.Tie as tie
+
+add-word-at : tie.Need-add-word-at
+add-word-at c = search needs
+
+mul-word-at : tie.Need-mul-word-at
+mul-word-at c = search needs
+
+add-word-at-2 : tie.Need-add-word-at-2
+add-word-at-2 c = search needs
+
+word-at-requires : tie.Need-word-at-requires
+word-at-requires c κs = search needs
+
+add-result : tie.Need-add-result
+unfolding walkAt
+add-result c =
+    let s = c .before .before .before .before .before .before .before .before in
+    record { fits = omega (arith, s .pre .0 .lengths (s .args .j) (c .before .before .before .if1 .taken), s .pre .0 .distance, c .before .word-at .ensures) }
+
+returns : tie.Need-returns
+unfolding offer recordOf walkAt
+returns c =
+    let s = c .before .before .before .before .before .before .before .before in
+    let d : s .args .run .distance + c .before .word-at .result < 2147483647 = omega (arith, s .pre .0 .lengths (s .args .j) (c .before .before .before .if1 .taken), s .pre .0 .distance, c .before .word-at .ensures) in
+    (rw (lt-ltb (s .args .j) (s .args .run .walks) (c .before .before .before .if1 .taken), c .before .word-at .ensures), inl d)
+
+add-hop-offer : tie.Need-add-hop-offer
+add-hop-offer c = search needs
+
+hop-offer-requires : tie.Need-hop-offer-requires
+hop-offer-requires c κs =
+    let s = c .before .before .before .before .before .before .before .before in
+    let r = s .args .run in
+    let i : s .args .j - r .walks < r .hops = omega (arith, s .pre .1, c .before .before .before .if1 .left) in
+    (omega (arith, s .pre .0 .hops), s .pre .0 .times (s .args .j - r .walks) i, s .pre .0 .arrival, s .pre .0 .speed)
+
+returns-2 : tie.Need-returns-2
+unfolding recordOf
+returns-2 c =
+    let s = c .before .before .before .before .before .before .before .before .before in
+    let r = s .args .run in
+    let i : s .args .j - r .walks < r .hops = omega (arith, s .pre .1, c .before .before .before .before .if1 .left) in (
+      rw (le-ltb (s .args .j) (r .walks) (c .before .before .before .before .if1 .left), c .hop-offer .ensures),
+      rw (c .hop-offer .ensures) (hop-distance (hopAt (s .args .hops .now) (r .«first_hop» + (s .args .j - r .walks))) (clocked (r .arrival .0)) (r .speed) (r .distance) (s .pre .0 .times (s .args .j - r .walks) i .departure) (s .pre .0 .arrival) (s .pre .0 .speed)),
+    )
+
+pub offer-at-spec : {M : Type 1} → statement M
+offer-at-spec =
+    tie.close
+    (tie.spec
+    add-word-at
+    mul-word-at
+    add-word-at-2
+    word-at-requires
+    add-result
+    returns
+    add-hop-offer
+    hop-offer-requires
+    returns-2)
