@@ -1,0 +1,10 @@
+pub mod HeldMap
+pub mod Early
+pub mod Opening
+pub mod Stepping
+pub mod Arriving
+pub mod Passing
+pub mod Table
+pub mod OneStep
+pub mod Listed
+pub mod Going

@@ -1,0 +1,82 @@
+use Prim.Native.Nat.{_/_, _≤_, _<_}
+use native.Mathlib.Omega.{arith}
+use lib.ListN.{length}
+use Rattle.journeys.specs.Tables.{walkAt}
+use Rattle.parts.proofs.Laws.{len-is}
+use Rattle.search.specs.Asked.{queryOf}
+use borrow.Author.Tests.{not-true, not-false}
+use Rattle.search.proofs.Early.{both-fail, both-pass, walk-fault, offset-fault, arrival-fault, duration-fault, speed-fault, no-fault}
+use borrow.Author.Needs.{needs}
+use Rattle.search.proofs.query_fault.Statement.{statement}
+use Rattle.search.proofs.query_fault.Tie as tie
+use Rattle.records.proofs.not_after.Reads as not-after-reads
+use Rattle.records.proofs.walk_at.Reads as walk-at-reads
+
+cast-e : tie.Need-cast-e
+cast-e c = search needs
+
+returns : tie.Need-returns
+returns c =
+    let a = c .before .before .before .args in
+    walk-fault (a .walks .now) (queryOf (a .q)) (omega (arith, c .if1 .taken))
+
+walk-at-requires : tie.Need-walk-at-requires
+walk-at-requires c κs = search needs
+
+returns-2 : tie.Need-returns-2
+returns-2 c =
+    let a = c .before .before .before .before .before .before .before .args in
+    offset-fault (a .walks .now) (queryOf (a .q)) (omega (arith, c .before .before .before .before .if1 .left)) (omega (arith, len-is _ _ (c .before .before .before .walk-at .ensures), c .if2 .taken))
+
+not-after-requires : tie.Need-not-after-requires
+not-after-requires c κs = search needs
+
+not-after-requires-2 : tie.Need-not-after-requires-2
+not-after-requires-2 c κs = search needs
+
+returns-3 : tie.Need-returns-3
+returns-3 c =
+    let a = c .before .before .before .before .before .before .before .before .before .before .before .args in
+    let Q = queryOf (a .q) in
+    let l : Q .walk < length (a .walks .now) / 16 = omega (arith, c .before .before .before .before .before .before .before .before .if1 .left) in
+    let o : Q .offset ≤ walkAt (a .walks .now) (Q .walk) .len = omega (arith, len-is _ _ (c .before .before .before .before .before .before .before .walk-at .ensures), c .before .before .before .before .if2 .left) in
+    arrival-fault (a .walks .now) Q l o (both-fail _ _ _ _ (c .before .before .not-after .ensures) (c .before .not-after2 .ensures) (c .if3 .taken))
+
+returns-4 : tie.Need-returns-4
+returns-4 c =
+    let a = c .before .before .before .before .before .before .before .before .before .before .before .before .before .before .args in
+    let Q = queryOf (a .q) in
+    let l : Q .walk < length (a .walks .now) / 16 = omega (arith, c .before .before .before .before .before .before .before .before .before .before .before .if1 .left) in
+    let o : Q .offset ≤ walkAt (a .walks .now) (Q .walk) .len = omega (arith, len-is _ _ (c .before .before .before .before .before .before .before .before .before .before .walk-at .ensures), c .before .before .before .before .before .before .before .if2 .left) in
+    duration-fault (a .walks .now) Q l o (both-pass _ _ _ _ (c .before .before .before .before .before .not-after .ensures) (c .before .before .before .before .not-after2 .ensures) (c .before .before .before .if3 .left)) (not-true _ (c .if4 .taken))
+
+returns-5 : tie.Need-returns-5
+returns-5 c =
+    let a = c .before .before .before .before .before .before .before .before .before .before .before .before .before .before .before .before .before .args in
+    let Q = queryOf (a .q) in
+    let l : Q .walk < length (a .walks .now) / 16 = omega (arith, c .before .before .before .before .before .before .before .before .before .before .before .before .before .before .if1 .left) in
+    let o : Q .offset ≤ walkAt (a .walks .now) (Q .walk) .len = omega (arith, len-is _ _ (c .before .before .before .before .before .before .before .before .before .before .before .before .before .walk-at .ensures), c .before .before .before .before .before .before .before .before .before .before .if2 .left) in
+    speed-fault (a .walks .now) Q l o (both-pass _ _ _ _ (c .before .before .before .before .before .before .before .before .not-after .ensures) (c .before .before .before .before .before .before .before .not-after2 .ensures) (c .before .before .before .before .before .before .if3 .left)) (not-false _ (c .before .before .before .if4 .left)) (not-true _ (c .if5 .taken))
+
+returns-6 : tie.Need-returns-6
+returns-6 c =
+    let a = c .before .before .before .before .before .before .before .before .before .before .before .before .before .before .before .before .before .args in
+    let Q = queryOf (a .q) in
+    let l : Q .walk < length (a .walks .now) / 16 = omega (arith, c .before .before .before .before .before .before .before .before .before .before .before .before .before .before .if1 .left) in
+    let o : Q .offset ≤ walkAt (a .walks .now) (Q .walk) .len = omega (arith, len-is _ _ (c .before .before .before .before .before .before .before .before .before .before .before .before .before .walk-at .ensures), c .before .before .before .before .before .before .before .before .before .before .if2 .left) in
+    no-fault (a .walks .now) Q l o (both-pass _ _ _ _ (c .before .before .before .before .before .before .before .before .not-after .ensures) (c .before .before .before .before .before .before .before .not-after2 .ensures) (c .before .before .before .before .before .before .if3 .left)) (not-false _ (c .before .before .before .if4 .left)) (not-false _ (c .if5 .left))
+
+pub query-fault-spec : {M : Type 1} → statement M
+query-fault-spec =
+    tie.close
+    (tie.spec
+    cast-e
+    returns
+    walk-at-requires
+    returns-2
+    not-after-requires
+    not-after-requires-2
+    returns-3
+    returns-4
+    returns-5
+    returns-6)

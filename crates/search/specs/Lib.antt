@@ -1,0 +1,3 @@
+pub mod Model
+pub mod Asked
+pub mod Progress
