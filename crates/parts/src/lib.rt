@@ -3,7 +3,7 @@
 // Rests on: the readers and the part writer of `records`, which is lent the unfilled rest of the buffer.
 use records::Offset;
 ghost use mathlib.Core.Path.{_≡_};
-ghost use Prim.Native.Nat.{ℕ, _-_, _/_, _<_, _≤_, max};
+ghost use Prim.Native.Nat.{_-_, _/_, _<_, _≤_, max};
 ghost use lib.ListN.{length};
 ghost use Rattle.journeys.specs.Tables.{walkAt};
 ghost use Rattle.journeys.specs.Parts.{part};

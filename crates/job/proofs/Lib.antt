@@ -1,0 +1,9 @@
+pub mod Seconds
+pub mod Scan
+pub mod Written
+pub mod Bodies
+pub mod Decimal
+pub mod Lines
+pub mod Told
+pub mod Determined
+pub mod Document

@@ -1,0 +1,87 @@
+-- `job::asked_at` meets its contract: each field is the callee's word, and the arrival is read back from its bits. Assumes nothing.
+use Prim.Native.Nat.{ℕ, _+_, _*_}
+use native.Mathlib.Omega.{arith}
+use mathlib.Core.Path.{_≡_, ap, _∙_}
+use denote.Ref.{now}
+use mir.Syntax.{w32}
+use mir.Val.{toZ, ofZ}
+use mir.ValLaws.{toZ-ofZ}
+use Rattle.journeys.specs.Bytes.{be32, clock}
+use Rattle.records.specs.declared.Seconds.{Seconds}
+use Rattle.records.specs.Meaning.{secondsOf}
+use Rattle.job.specs.Job.{seconds, questionAt}
+use Rattle.job.proofs.Seconds.{seconds-is}
+use borrow.Author.Needs.{needs}
+use Rattle.job.proofs.asked_at.Statement.{statement}
+use Rattle.job.proofs.asked_at.Tie as tie
+
+mul-at : tie.Need-mul-at
+mul-at c = search needs
+
+add-word-at : tie.Need-add-word-at
+add-word-at c = search needs
+
+word-at-requires : tie.Need-word-at-requires
+word-at-requires c κs = search needs
+
+add-word-at-2 : tie.Need-add-word-at-2
+add-word-at-2 c = search needs
+
+word-at-requires-2 : tie.Need-word-at-requires-2
+word-at-requires-2 c κs = search needs
+
+add-word-at-3 : tie.Need-add-word-at-3
+add-word-at-3 c = search needs
+
+word-at-requires-3 : tie.Need-word-at-requires-3
+word-at-requires-3 c κs = search needs
+
+seconds-of-requires : tie.Need-seconds-of-requires
+seconds-of-requires c κs = search needs
+
+add-three-bytes : tie.Need-add-three-bytes
+add-three-bytes c = search needs
+
+three-bytes-requires : tie.Need-three-bytes-requires
+three-bytes-requires c κs = search needs
+
+add-wide : tie.Need-add-wide
+add-wide c = search needs
+
+shared-slice-read-wide : tie.Need-shared-slice-read-wide
+shared-slice-read-wide c = search needs
+
+wide-requires : tie.Need-wide-requires
+wide-requires c κs = search needs
+
+returns : tie.Need-returns
+unfolding questionAt
+returns c =
+    let told = c .before .before .before .before in
+    let b = told .before .before .before .before .before in
+    let s = now (b .args .s) in
+    let at = 20 * b .args .i in
+    let bits = be32 s (at + 12) in
+    let e : told .seconds-of .result ≡ secondsOf (clock bits) = told .seconds-of .ensures ∙ ap (λ (n : ℕ). secondsOf (clock n)) (told .before .word-at3 .ensures) in
+    let a : toZ w32 (ofZ w32 (told .seconds-of .result .0)) ≡ seconds bits =
+    toZ-ofZ w32 _ (record { sfits = omega (arith, c .struct-told .given) }) ∙ ap (λ (t : Seconds). t .0) e ∙ seconds-is bits in
+    cc
+
+pub asked-at-spec : {M : Type 1} → statement M
+asked-at-spec =
+    tie.close
+    (tie.spec
+    mul-at
+    add-word-at
+    word-at-requires
+    add-word-at-2
+    word-at-requires-2
+    add-word-at-3
+    word-at-requires-3
+    seconds-of-requires
+    add-three-bytes
+    three-bytes-requires
+    add-wide
+    shared-slice-read-wide
+    wide-requires
+    returns)

@@ -1,0 +1,41 @@
+-- `answer_line` meets its contract: a word, two fields and LF, one behind the other. Assumes nothing.
+use native.Mathlib.Omega.{arith}
+use mathlib.Core.Path.{ap, _∙_}
+use Rattle.job.proofs.Written.{both}
+use Rattle.job.specs.Text.{line, answerWord}
+use Rattle.job.proofs.Lines.{as-text, line-is, two-fields}
+use borrow.Author.Needs.{needs}
+use Rattle.job.proofs.text.answer_line.Statement.{statement}
+use Rattle.job.proofs.text.answer_line.Tie as tie
+
+slice-aggregate-put : tie.Need-slice-aggregate-put
+slice-aggregate-put c = search needs
+
+put-requires : tie.Need-put-requires
+put-requires c κs = search needs
+
+pair-requires : tie.Need-pair-requires
+pair-requires c κs = search needs
+
+newline-requires : tie.Need-newline-requires
+newline-requires c κs = search needs
+
+same-length : tie.Need-same-length
+same-length c = search needs
+
+returns : tie.Need-returns
+returns c =
+    let s = c .before .before .before .before .before .before .before .before .before .before .before .before .before .before in
+    let p = c .before .before .before .before .before .before .before .before .before .before .put in
+    let q = c .before .before .before .before .before .before .pair in
+    let n = c .before .before .newline in
+    let e = ap (line answerWord) (two-fields (s .args .refusal) (s .args .place)) in
+    let a = both (omega (arith, p .ensures .next, s .pre)) (p .ensures) (q .ensures .0) in (
+      as-text (line-is answerWord _ ∙ e) (both (omega (arith, p .ensures .next, q .ensures .1, s .pre)) a (n .ensures)),
+      omega (arith, p .ensures .next, q .ensures .1, n .ensures .next),
+    )
+
+pub answer-line-spec : {M : Type 1} → statement M
+answer-line-spec =
+    tie.close
+    (tie.spec slice-aggregate-put put-requires pair-requires newline-requires same-length returns)

@@ -1,0 +1,36 @@
+-- `field` meets its contract: a space and at most ten digits. Assumes nothing.
+use native.Mathlib.Omega.{arith}
+use Rattle.job.proofs.Written.{both}
+use Rattle.job.proofs.Decimal.{length-32}
+use Rattle.job.proofs.Lines.{as-text, field-is}
+use borrow.Author.Needs.{needs}
+use Rattle.job.proofs.text.field.Statement.{statement}
+use Rattle.job.proofs.text.field.Tie as tie
+
+slice-aggregate-put : tie.Need-slice-aggregate-put
+slice-aggregate-put c = search needs
+
+put-requires : tie.Need-put-requires
+put-requires c κs = search needs
+
+number-requires : tie.Need-number-requires
+number-requires c κs =
+    let s = c .before .before .before .before .before .before .before in
+    let p = c .before .before .before .put in
+    omega (arith, length-32 (s .args .x) (s .fits .x .fits), p .ensures .next, p .kept .0, s .pre)
+
+same-length : tie.Need-same-length
+same-length c = search needs
+
+returns : tie.Need-returns
+returns c =
+    let s = c .before .before .before .before .before .before .before .before .before .before in
+    let p = c .before .before .before .before .before .before .put in
+    let q = c .before .before .number in (
+      as-text (field-is (s .args .x)) (both (omega (arith, p .ensures .next, s .pre)) (p .ensures) (q .ensures)),
+      omega (arith, length-32 (s .args .x) (s .fits .x .fits), p .ensures .next, q .ensures .next),
+    )
+
+pub field-spec : {M : Type 1} → statement M
+field-spec =
+    tie.close (tie.spec slice-aggregate-put put-requires number-requires same-length returns)

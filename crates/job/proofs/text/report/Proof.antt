@@ -1,0 +1,51 @@
+-- `report` meets its contract: with room the whole text, else nothing. Assumes nothing.
+use lib.ListN.{length}
+use denote.Ref.{now}
+use Rattle.journeys.specs.Answers.{Answer}
+use Rattle.job.specs.Text.{given, fits, report}
+use Rattle.job.proofs.Written.{text-shown, none-shown}
+use Rattle.job.proofs.Lines.{text-fits, text-lacks}
+use borrow.Author.Needs.{needs}
+use Rattle.job.proofs.text.report.Statement.{statement}
+use Rattle.job.proofs.text.report.Tie as tie
+
+abbrev asked : tie.Start → Answer
+asked c = given (c .args .refusal) (c .args .place) (c .args .settled-count) (c .args .part-count) (c .args .held-count) (c .args .finished) (now (c .args .settled)) (now (c .args .parts)) (now (c .args .held))
+
+add-room : tie.Need-add-room
+add-room c = search needs
+
+add-room-2 : tie.Need-add-room-2
+add-room-2 c = search needs
+
+add-room-3 : tie.Need-add-room-3
+add-room-3 c = search needs
+
+mul-room : tie.Need-mul-room
+mul-room c = search needs
+
+whole-requires : tie.Need-whole-requires
+unfolding fits
+whole-requires c κs = c .before .if1 .taken
+
+same-length : tie.Need-same-length
+same-length c = search needs
+
+returns : tie.Need-returns
+unfolding fits
+returns c =
+    let s = c .before .before .before .before .before .before .before .before .before in
+    let n = length (now (s .args .out)) in
+    text-shown (report (asked s) n) (text-fits (asked s) n (c .before .before .before .before .if1 .taken)) (c .before .before .whole .ensures)
+
+returns-2 : tie.Need-returns-2
+unfolding fits
+returns-2 c =
+    let s = c .before .before .before .before .before in
+    let d = now (s .args .out) in
+    none-shown d (report (asked s) (length d)) (text-lacks (asked s) (length d) (c .if1 .left))
+
+pub report-spec : {M : Type 1} → statement M
+report-spec =
+    tie.close
+    (tie.spec add-room add-room-2 add-room-3 mul-room whole-requires same-length returns returns-2)

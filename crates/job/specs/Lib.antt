@@ -1,0 +1,4 @@
+pub mod Job
+pub mod Steps
+pub mod Write
+pub mod Text
