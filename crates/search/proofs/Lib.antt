@@ -8,3 +8,7 @@ pub mod Table
 pub mod OneStep
 pub mod Listed
 pub mod Going
+pub mod Onward
+pub mod Nexts
+pub mod Staying
+pub mod Firstly

@@ -1,6 +1,6 @@
-// The pieces of a run: the lengths of the lent buffers, the query, the seeds, and one whole step.
-// Promises: each refusal is that of document 01; the seeds and one step leave in the working table and in both lists what the definitions give, or
-// the lowest refusal for room.
+// The pieces of a run: the lengths of the lent buffers, the query, the seeds, and the steps up to a limit.
+// Promises: each refusal is that of document 01; the seeds and the steps leave in the working table and in both lists what the definitions give, or
+// the first step that lacks room, with the lowest number.
 // Rests on: the working table (`worktable`), `arrivals` and `parts` for one step, the readers and writers of `records`. From step to step there are
 // the held buffer, plain numbers and the lists written, which are not read back.
 use arrivals::Arrived;
@@ -8,9 +8,11 @@ use arrivals::Run;
 use audit::Refusal;
 use parts::Listed;
 use parts::Road;
+use records::Kind;
 use records::Offset;
 use records::Seconds;
 use records::Ticks;
+use worktable::Nearest;
 use worktable::Table;
 ghost use mathlib.Core.Path.{_≡_};
 ghost use mathlib.Core.Logic.{_≢_};
@@ -19,18 +21,23 @@ ghost use mathlib.Core.List.{List, []};
 ghost use Prim.Native.Nat.{_+_, _-_, _*_, _/_, _%_, _<_, _≤_, min};
 ghost use lib.ListN.{length, replicate};
 ghost use Rattle.journeys.specs.Counting.{none};
-ghost use Rattle.journeys.specs.Tables.{tablesOf, vertexAt};
+ghost use Rattle.journeys.specs.Tables.{tablesOf, vertexAt, walkAt};
 ghost use Rattle.journeys.specs.Refusals.{bufferLengths, queryRefusal};
+ghost use Rattle.journeys.specs.Answers.{early};
 ghost use Rattle.audit.specs.Judging.{told};
 ghost use Rattle.worktable.specs.Map.{known, stateOf, distanceOf};
 ghost use Rattle.worktable.specs.Table.{mapOf, InOrder, Place};
 ghost use Rattle.arrivals.specs.Answer.{Leads};
 ghost use Rattle.arrivals.specs.Passing.{passed, Enough};
 ghost use Rattle.arrivals.specs.Runs.{passes, rowOf, Sound};
-ghost use Rattle.parts.specs.Listing.{partsOn};
+ghost use Rattle.parts.specs.Listing.{roadOf, partsOn};
 ghost use Rattle.search.specs.Asked.{queryOf};
-ghost use Rattle.search.specs.Model.{seedMap, settledNow};
-ghost use Rattle.search.specs.Progress.{SeededIs, StepIs};
+ghost use Rattle.records.specs.Arriving.{firstOf, endOf};
+ghost use Rattle.records.specs.declared.Kind.the-variants.{Walks, Hops};
+ghost use Rattle.search.specs.Model.{seedMap, settledNow, runAt};
+ghost use Rattle.search.specs.Progress.{SeededIs, StepIs, NextIs, lent, Stands, Ends};
+ghost use Rattle.journeys.specs.Query as query;
+ghost use Rattle.journeys.proofs.Valid.{Valid};
 
 // A walk record, an offset on it, the arrival, the duration in seconds, the speed in decimetres a second.
 pub struct Query {
@@ -110,6 +117,34 @@ fn query_fault(walks: &[u8], q: Query) -> Refusal
         number: 0,
         place: 0,
     }
+}
+
+// Refusals 1 to 7: lengths first, of tables and of buffers, then the contents of the tables, then the query.
+fn input_fault(
+    vertices: &[u8],
+    walks: &[u8],
+    hops: &[u8],
+    held: &[u8],
+    settled: &[u8],
+    parts: &[u8],
+    q: Query,
+    scratch: &mut [u16; 2048],
+) -> Refusal
+    ensures { λ r. ⌜ told r ≡ early (lent (now (vertices .entry)) (now (walks .entry)) (now (hops .entry)) (now (held .entry)) (now (settled .entry)) (now (parts .entry))) (queryOf q) ⌝ }
+    ensures { λ _. ⌜ now (scratch .exit) ≡ replicate 2048 0 ⌝ }
+{
+    let checked = audit::check(vertices, walks, hops, scratch);
+    if checked.number == 1 {
+        return checked;
+    }
+    let cut = buffers(held, settled, parts);
+    if cut.number != 0 {
+        return cut;
+    }
+    if checked.number != 0 {
+        return checked;
+    }
+    query_fault(walks, q)
 }
 
 // The table with the seeds in it, or that it has too few slots.
@@ -235,4 +270,103 @@ fn step(
         settled: p.settled + 1,
         parts: listed,
     })
+}
+
+// The least entry within the ticks allowed, or nothing.
+fn next(held: &[u8], t: Table, allowed: u32) -> Nearest
+    requires { ⌜ InOrder t (now held) ⌝ }
+    ensures { λ r. ⌜ NextIs t (now (held .entry)) allowed r ⌝ }
+{
+    let Nearest::At(slot, v, d) = worktable::least(held, t) else {
+        return Nearest::Nothing;
+    };
+    if allowed < d {
+        return Nearest::Nothing;
+    }
+    Nearest::At(slot, v, d)
+}
+
+// The records that arrive at x, which is settled at d.
+fn run_at(
+    vertices: &[u8],
+    walks: &[u8],
+    hops: &[u8],
+    x: usize,
+    d: u32,
+    arrival: Seconds,
+    speed: u32,
+) -> Run
+    requires { ⌜ (x < length (now vertices) / 12) × (firstOf Walks (vertexAt (now vertices) x) ≤ endOf Walks (now vertices) (length (now walks) / 16) x) × (firstOf Hops (vertexAt (now vertices) x) ≤ endOf Hops (now vertices) (length (now hops) / 16) x) ⌝ }
+    ensures { λ r. ⌜ r ≡ runAt (now (vertices .entry)) (now (walks .entry)) (now (hops .entry)) x d arrival speed ⌝ }
+{
+    let first_walk = records::first_arriving(vertices, Kind::Walks, x);
+    let first_hop = records::first_arriving(vertices, Kind::Hops, x);
+    Run {
+        first_walk: first_walk,
+        walks: records::end_arriving(vertices, Kind::Walks, x, walks.len() / 16) - first_walk,
+        first_hop: first_hop,
+        hops: records::end_arriving(vertices, Kind::Hops, x, hops.len() / 16) - first_hop,
+        distance: d,
+        arrival: arrival,
+        speed: speed,
+    }
+}
+
+// The end of the steps: how far they went and whether nothing is left, or the refusal and its step.
+enum Ended {
+    Done(Progress, u32),
+    Refused(u32, usize),
+}
+
+// Steps up to the limit: as many as it and the order allow, or the first that lacks room.
+fn steps(
+    vertices: &[u8],
+    walks: &[u8],
+    hops: &[u8],
+    held: &mut [u8],
+    settled: &mut [u8],
+    parts: &mut [u8],
+    scratch: &mut [u16],
+    start: Progress,
+    q: Query,
+    road: Road,
+    allowed: u32,
+    limit: u32,
+) -> Ended
+    requires { ⌜ Valid (tablesOf (now vertices) (now walks) (now hops)) (queryOf q) × (allowed ≡ query.allowed (queryOf q)) × (road ≡ roadOf (q .walk) (walkAt (now walks) (q .walk)) (q .offset .0)) × (now scratch ≡ replicate 2048 0) × (start .settled ≡ 0) ⌝ }
+    requires { ⌜ Stands (lent (now vertices) (now walks) (now hops) (now held) (now settled) (now parts)) (queryOf q) (start .parts) start (now held) (now settled) (now parts) ⌝ }
+    ensures { λ r. ⌜ Ends (lent (now (vertices .entry)) (now (walks .entry)) (now (hops .entry)) (now (held .entry)) (now (settled .entry)) (now (parts .entry))) (queryOf q) limit (start .parts) (now (held .exit)) (now (settled .exit)) (now (parts .exit)) r ⌝ }
+    ensures { λ _. ⌜ now (scratch .exit) ≡ replicate 2048 0 ⌝ }
+{
+    let mut p = start;
+    while p.settled < limit as usize {
+        let table = p.table;
+        let Nearest::At(slot, x, d) = next(held, table, allowed) else {
+            return Ended::Done(p, 1);
+        };
+        let run = run_at(vertices, walks, hops, x, d, q.arrival, q.speed);
+        match step(
+            vertices,
+            walks,
+            hops,
+            held,
+            settled,
+            parts,
+            scratch,
+            p,
+            x,
+            slot,
+            run,
+            road,
+            allowed - d,
+        ) {
+            Stepped::Next(more) => p = more,
+            Stepped::Full(n) => return Ended::Refused(n, p.settled + 1),
+        }
+    }
+    let table = p.table;
+    let Nearest::At(slot, x, d) = next(held, table, allowed) else {
+        return Ended::Done(p, 1);
+    };
+    Ended::Done(p, 0)
 }

@@ -1,0 +1,49 @@
+use borrow.Author.Needs.{needs}
+use Rattle.search.proofs.Firstly.{by-lengths, by-buffers, by-contents, by-query}
+use Rattle.search.proofs.input_fault.Statement.{statement}
+use Rattle.search.proofs.input_fault.Tie as tie
+use Rattle.audit.proofs.check.Reads as check-reads
+use Rattle.search.proofs.buffers.Reads as buffers-reads
+use Rattle.search.proofs.query_fault.Reads as query-fault-reads
+
+check-requires : tie.Need-check-requires
+check-requires c κs = search needs
+
+returns : tie.Need-returns
+returns c = (by-lengths _ _ _ (c .before .before .check .ensures .0) (c .if1 .taken), c .before .before .check .ensures .1)
+
+buffers-requires : tie.Need-buffers-requires
+buffers-requires c κs = search needs
+
+returns-2 : tie.Need-returns-2
+returns-2 c = (
+  by-buffers _ _ _ (c .before .before .before .before .before .check .ensures .0) (c .before .before .before .if1 .left) _ (c .before .before .buffers .ensures) (c .if2 .taken),
+  c .before .before .before .before .before .check .ensures .1,
+)
+
+returns-3 : tie.Need-returns-3
+returns-3 c = (
+  by-contents _ _ _ (c .before .before .before .before .before .before .before .check .ensures .0) (c .before .before .before .before .before .if1 .left) _ (c .before .before .before .before .buffers .ensures) (c .before .before .if2 .left) (c .if3 .taken),
+  c .before .before .before .before .before .before .before .check .ensures .1,
+)
+
+query-fault-requires : tie.Need-query-fault-requires
+query-fault-requires c κs = search needs
+
+returns-4 : tie.Need-returns-4
+returns-4 c = (
+  by-query _ _ _ (c .before .before .before .before .before .before .before .before .check .ensures .0) (c .before .before .before .before .before .before .if1 .left) _ (c .before .before .before .before .before .buffers .ensures) (c .before .before .before .if2 .left) (c .before .if3 .left) _ (c .query-fault .ensures),
+  c .before .before .before .before .before .before .before .before .check .ensures .1,
+)
+
+pub input-fault-spec : {M : Type 1} → statement M
+input-fault-spec =
+    tie.close
+    (tie.spec
+    check-requires
+    returns
+    buffers-requires
+    returns-2
+    returns-3
+    query-fault-requires
+    returns-4)

@@ -1,0 +1,27 @@
+use borrow.Author.Needs.{needs}
+use Rattle.search.proofs.Nexts.{next-none, next-beyond, next-at}
+use Rattle.search.proofs.next.Statement.{statement}
+use Rattle.search.proofs.next.Tie as tie
+use Rattle.worktable.proofs.least.Reads as least-reads
+
+least-requires : tie.Need-least-requires
+least-requires c κs = search needs
+
+enum-known-slot : tie.Need-enum-known-slot
+enum-known-slot c = search needs
+
+enum-told : tie.Need-enum-told
+enum-told c = search needs
+
+returns : tie.Need-returns
+returns c = next-none _ _ _ _ (c .before .before .least .ensures) (c .enum-told .given .1)
+
+returns-2 : tie.Need-returns-2
+returns-2 c = next-beyond _ _ _ _ (c .before .before .before .before .least .ensures) _ _ _ (c .before .before .slot .given .1) (c .if1 .taken)
+
+returns-3 : tie.Need-returns-3
+returns-3 c = next-at _ _ _ _ (c .before .before .before .before .least .ensures) _ _ _ (c .before .before .slot .given .1) (c .if1 .left)
+
+pub next-spec : {M : Type 1} → statement M
+next-spec =
+    tie.close (tie.spec least-requires enum-known-slot enum-told returns returns-2 returns-3)
