@@ -12,3 +12,5 @@ pub mod Onward
 pub mod Nexts
 pub mod Staying
 pub mod Firstly
+pub mod Beginning
+pub mod Closing

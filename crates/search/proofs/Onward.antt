@@ -47,12 +47,12 @@ unfolding flatMap
 flat-snoc f [] y = append-nil (f y)
 flat-snoc f (x ∷ xs) y = ap (λ z. f x ++ z) (flat-snoc f xs y) ∙ sym (append-assoc (f x) (flatMap f xs) (f y))
 
-flat-append : {A B : Type 0} (f : A → List B) (xs ys : List A) → flatMap f (xs ++ ys) ≡ flatMap f xs ++ flatMap f ys
+pub flat-append : {A B : Type 0} (f : A → List B) (xs ys : List A) → flatMap f (xs ++ ys) ≡ flatMap f xs ++ flatMap f ys
 unfolding flatMap
 flat-append f [] ys = refl
 flat-append f (x ∷ xs) ys = ap (λ z. f x ++ z) (flat-append f xs ys) ∙ sym (append-assoc (f x) (flatMap f xs) (flatMap f ys))
 
-flat-length : {A B : Type 0} (f : A → List B) (n : ℕ) → ((x : A) → length (f x) ≡ n) → (xs : List A) → length (flatMap f xs) ≡ n * length xs
+pub flat-length : {A B : Type 0} (f : A → List B) (n : ℕ) → ((x : A) → length (f x) ≡ n) → (xs : List A) → length (flatMap f xs) ≡ n * length xs
 unfolding flatMap
 flat-length f n e [] = omega arith
 flat-length f n e (x ∷ xs) = simp length-append (omega (arith, e x, flat-length f n e xs))

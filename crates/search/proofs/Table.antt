@@ -112,5 +112,14 @@ module _ (from : ℕ) (x : Entry) (to : ℕ) (y : Entry) (c : ℕ) where
   seeded-two r p b b2 two z k e h g q l =
       rw e (record { order = g .holds .order; map = g .holds .map ∙ ap (λ (m : Map). put m to z) (h .map) ∙ ap (put (put empty from x) to) k }, g .capacity ∙ q, l)
 
+-- there are one or two of them
+pub size-first : (from d n to e k : ℕ) → from < 65536 → to < 65536 → from ≢ to → (two : Bool) → size (seedMap from (known d 0 n) to (known e 0 k) two) ≡ cond two 2 1
+unfolding seedMap size one empty
+size-first from d n to e k a b ne false = size-one from (known d 0 n) a (one-known d 0 n)
+size-first from d n to e k a b ne true =
+    let m = put empty from (known d 0 n) in
+    let gone : one (m to) ≡ 0 = ap one (put-other empty from (known d 0 n) to (λ z. ne (sym z))) in
+    omega (arith, size-put 65536 m to (known e 0 k) b, size-one from (known d 0 n) a (one-known d 0 n), one-known e 0 k, gone)
+
 pub known-same : (d n n′ : ℕ) → n ≡ n′ → known d 0 n ≡ known d 0 n′
 known-same d n n′ e = ap (λ (k : ℕ). known d 0 k) e

@@ -7,10 +7,8 @@ use Rattle.search.specs.Asked.{queryOf}
 use borrow.Author.Tests.{not-true, not-false}
 use Rattle.search.proofs.Early.{both-fail, both-pass, walk-fault, offset-fault, arrival-fault, duration-fault, speed-fault, no-fault}
 use borrow.Author.Needs.{needs}
-use Rattle.search.proofs.query_fault.Statement.{statement}
-use Rattle.search.proofs.query_fault.Tie as tie
-use Rattle.records.proofs.not_after.Reads as not-after-reads
-use Rattle.records.proofs.walk_at.Reads as walk-at-reads
+use Rattle.search.proofs.fault.query_fault.Statement.{statement}
+use Rattle.search.proofs.fault.query_fault.Tie as tie
 
 cast-e : tie.Need-cast-e
 cast-e c = search needs

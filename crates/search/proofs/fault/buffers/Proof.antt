@@ -1,6 +1,6 @@
 use Rattle.search.proofs.Early.{held-cut, settled-cut, parts-cut, none-cut}
-use Rattle.search.proofs.buffers.Statement.{statement}
-use Rattle.search.proofs.buffers.Tie as tie
+use Rattle.search.proofs.fault.buffers.Statement.{statement}
+use Rattle.search.proofs.fault.buffers.Tie as tie
 
 returns : tie.Need-returns
 returns c = held-cut _ _ _ (c .if1 .taken)

@@ -1,8 +1,7 @@
 use borrow.Author.Needs.{needs}
 use Rattle.search.proofs.Nexts.{next-none, next-beyond, next-at}
-use Rattle.search.proofs.next.Statement.{statement}
-use Rattle.search.proofs.next.Tie as tie
-use Rattle.worktable.proofs.least.Reads as least-reads
+use Rattle.search.proofs.step.next.Statement.{statement}
+use Rattle.search.proofs.step.next.Tie as tie
 
 least-requires : tie.Need-least-requires
 least-requires c κs = search needs

@@ -1,10 +1,7 @@
 use Rattle.search.proofs.Table.{still-there, settled-gone, settled-stays}
 use borrow.Author.Needs.{needs}
-use Rattle.search.proofs.settle_next.Statement.{statement}
-use Rattle.search.proofs.settle_next.Tie as tie
-use Rattle.worktable.proofs.drop.Reads as drop-reads
-use Rattle.worktable.proofs.remaining.Reads as remaining-reads
-use Rattle.worktable.proofs.settle.Reads as settle-reads
+use Rattle.search.proofs.step.settle_next.Statement.{statement}
+use Rattle.search.proofs.step.settle_next.Tie as tie
 
 settle-requires : tie.Need-settle-requires
 settle-requires c κs = search needs

@@ -7,11 +7,8 @@ use Rattle.search.specs.Asked.{queryOf}
 use Rattle.search.specs.Progress.{lent, Stands, StepIs}
 use Rattle.search.proofs.Nexts.{next-nothing, next-found}
 use Rattle.search.proofs.Staying.{table-order, counts-fit, whole, near, more-left, waits-first, run-fits, x-small, sound-as, enough-as, step-as, one-counted, stands-on, stops}
-use Rattle.search.proofs.steps.Statement.{statement}
-use Rattle.search.proofs.steps.Tie as tie
-use Rattle.search.proofs.next.Reads as next-reads
-use Rattle.search.proofs.run_at.Reads as run-at-reads
-use Rattle.search.proofs.step.Reads as step-reads
+use Rattle.search.proofs.step.steps.Statement.{statement}
+use Rattle.search.proofs.step.steps.Tie as tie
 
 abbrev Inv-loop : tie.InvT-loop
 Inv-loop vertices walks hops held₀ settled₀ parts₀ scratch₀ q road allowed limit p₀ held settled parts scratch p =

@@ -1,9 +1,7 @@
 use borrow.Author.Needs.{needs}
 use Rattle.search.proofs.Nexts.{run-is}
-use Rattle.search.proofs.run_at.Statement.{statement}
-use Rattle.search.proofs.run_at.Tie as tie
-use Rattle.records.proofs.end_arriving.Reads as end-arriving-reads
-use Rattle.records.proofs.first_arriving.Reads as first-arriving-reads
+use Rattle.search.proofs.step.run_at.Statement.{statement}
+use Rattle.search.proofs.step.run_at.Tie as tie
 
 first-arriving-requires : tie.Need-first-arriving-requires
 first-arriving-requires c κs = search needs

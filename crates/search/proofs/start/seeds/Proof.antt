@@ -3,12 +3,8 @@ use native.Mathlib.Omega.{arith}
 use borrow.Author.Tests.{not-true, not-false}
 use Rattle.search.proofs.Table.{first-seed, after-first, second-seed, seeded-none, seeded-one, seeded-few, seeded-two, known-same}
 use borrow.Author.Needs.{needs}
-use Rattle.search.proofs.seeds.Statement.{statement}
-use Rattle.search.proofs.seeds.Tie as tie
-use Rattle.search.proofs.departing_at.Reads as departing-at-reads
-use Rattle.worktable.proofs.capacity.Reads as capacity-reads
-use Rattle.worktable.proofs.insert.Reads as insert-reads
-use Rattle.worktable.proofs.start.Reads as start-reads
+use Rattle.search.proofs.start.seeds.Statement.{statement}
+use Rattle.search.proofs.start.seeds.Tie as tie
 
 start-requires : tie.Need-start-requires
 start-requires c κs = search needs

@@ -1,10 +1,7 @@
 use borrow.Author.Needs.{needs}
 use Rattle.search.proofs.Firstly.{by-lengths, by-buffers, by-contents, by-query}
-use Rattle.search.proofs.input_fault.Statement.{statement}
-use Rattle.search.proofs.input_fault.Tie as tie
-use Rattle.audit.proofs.check.Reads as check-reads
-use Rattle.search.proofs.buffers.Reads as buffers-reads
-use Rattle.search.proofs.query_fault.Reads as query-fault-reads
+use Rattle.search.proofs.fault.input_fault.Statement.{statement}
+use Rattle.search.proofs.fault.input_fault.Tie as tie
 
 check-requires : tie.Need-check-requires
 check-requires c κs = search needs

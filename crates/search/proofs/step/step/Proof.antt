@@ -1,12 +1,8 @@
 use native.Mathlib.Omega.{arith}
 use Rattle.search.proofs.OneStep.{enough-then, arrive-fits, arrive-full, full-held, full-settled, full-parts, one-more}
 use borrow.Author.Needs.{needs}
-use Rattle.search.proofs.step.Statement.{statement}
-use Rattle.search.proofs.step.Tie as tie
-use Rattle.arrivals.proofs.arrive.Reads as arrive-reads
-use Rattle.parts.proofs.list_arriving.Reads as list-arriving-reads
-use Rattle.records.proofs.add_settled.Reads as add-settled-reads
-use Rattle.search.proofs.settle_next.Reads as settle-next-reads
+use Rattle.search.proofs.step.step.Statement.{statement}
+use Rattle.search.proofs.step.step.Tie as tie
 
 settle-next-requires : tie.Need-settle-next-requires
 settle-next-requires c κs = search needs

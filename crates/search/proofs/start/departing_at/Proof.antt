@@ -1,8 +1,7 @@
 use Rattle.search.proofs.Table.{field-low}
 use borrow.Author.Needs.{needs}
-use Rattle.search.proofs.departing_at.Statement.{statement}
-use Rattle.search.proofs.departing_at.Tie as tie
-use Rattle.records.proofs.half_at.Reads as half-at-reads
+use Rattle.search.proofs.start.departing_at.Statement.{statement}
+use Rattle.search.proofs.start.departing_at.Tie as tie
 
 mul-half-at : tie.Need-mul-half-at
 mul-half-at c = search needs
