@@ -1,9 +1,19 @@
 // What the map server in C calls: include/siltbrow.h declares it.
 // Promises: the numbers that document 01 gives, for every byte string of every length; the tables are only read.
-// Rests on: `audit`, whose scratch it lends.
+// Rests on: `audit`, whose scratch it lends, and `search`, which has the run.
+use records::Offset;
+use records::Seconds;
+use records::put_word;
+use search::Answer;
+use search::Query;
 ghost use mathlib.Core.Path.{_≡_};
 ghost use Rattle.journeys.specs.Refusals.{check};
+ghost use mathlib.Core.List.{_++_};
+ghost use lib.ListN.{length};
+ghost use Rattle.journeys.specs.Bytes.{word};
+ghost use Rattle.search.specs.Progress.{lent};
 ghost use Rattle.siltbrow.specs.Packed.{packed};
+ghost use Rattle.siltbrow.specs.Ran.{query, Ran};
 
 // The check alone, refusal times 2^32 plus place.
 #[no_mangle]
@@ -13,4 +23,51 @@ pub extern "C" fn siltbrow_check(vertices: &[u8], walks: &[u8], hops: &[u8]) -> 
     let mut scratch = [0u16; 2048];
     let refusal = audit::check(vertices, walks, hops, &mut scratch);
     (refusal.number as u64) * 4294967296 + (refusal.place as u64)
+}
+
+// The six numbers of an answer, 4 bytes each.
+fn put_answer(out: &mut [u8], a: Answer)
+    requires { ⌜ length (now out) ≡ 24 ⌝ }
+    ensures { λ _. ⌜ now (out .exit) ≡ word (a .refusal) ++ word (a .place) ++ word (a .settled) ++ word (a .parts) ++ word (a .held) ++ word (a .finished) ⌝ }
+{
+    put_word(out, 0, a.refusal);
+    put_word(out, 4, a.place);
+    put_word(out, 8, a.settled);
+    put_word(out, 12, a.parts);
+    put_word(out, 16, a.held);
+    put_word(out, 20, a.finished);
+}
+
+// The run. The answer slice gets its six numbers; 1 where it is not 24 bytes, and then nothing is written.
+#[no_mangle]
+pub extern "C" fn siltbrow_run(
+    vertices: &[u8],
+    walks: &[u8],
+    hops: &[u8],
+    record_number: u32,
+    offset: u32,
+    arrival: i32,
+    duration: u32,
+    speed: u32,
+    limit: u32,
+    held: &mut [u8],
+    settled: &mut [u8],
+    parts: &mut [u8],
+    answer: &mut [u8],
+) -> u32
+    ensures { λ r. ⌜ Ran (lent (now (vertices .entry)) (now (walks .entry)) (now (hops .entry)) (now (held .entry)) (now (settled .entry)) (now (parts .entry))) (query «record_number» offset arrival duration speed) limit (now (answer .entry)) (now (held .exit)) (now (settled .exit)) (now (parts .exit)) (now (answer .exit)) r ⌝ }
+{
+    if answer.len() != 24 {
+        return 1;
+    }
+    let q = Query {
+        walk: record_number,
+        offset: Offset(offset),
+        arrival: Seconds(arrival),
+        duration: duration,
+        speed: speed,
+    };
+    let a = search::run(vertices, walks, hops, held, settled, parts, q, limit);
+    put_answer(answer, a);
+    0
 }

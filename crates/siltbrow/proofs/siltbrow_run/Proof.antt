@@ -1,0 +1,49 @@
+use denote.Ref.{now}
+use Rattle.search.specs.Progress.{lent}
+use mir.Syntax.{w32}
+use mir.Val.{toZ, ofZ}
+use mir.ValLaws.{toZ-ofZ}
+use mathlib.Core.Path.{refl}
+use Rattle.siltbrow.proofs.Words.{ran}
+use borrow.Author.Needs.{needs}
+use Rattle.siltbrow.proofs.siltbrow_run.Statement.{statement}
+use Rattle.siltbrow.proofs.siltbrow_run.Tie as tie
+
+returns : tie.Need-returns
+returns c = record { untouched = λ n. (refl, refl, refl, refl, refl); answered = λ e. absurd (c .if1 .taken e) }
+
+run-requires : tie.Need-run-requires
+run-requires c κs = search needs
+
+put-answer-requires : tie.Need-put-answer-requires
+put-answer-requires c κs = search needs
+
+same-length : tie.Need-same-length
+same-length c = search needs
+
+same-length-2 : tie.Need-same-length-2
+same-length-2 c = search needs
+
+same-length-3 : tie.Need-same-length-3
+same-length-3 c = search needs
+
+same-length-4 : tie.Need-same-length-4
+same-length-4 c = search needs
+
+returns-2 : tie.Need-returns-2
+returns-2 c =
+    let a = c .before .before .before .before .before .before .before .before .before .before .before .before .before .before .before .before .before .before .before .before .before .before in
+    ran (lent (now (a .args .vertices)) (now (a .args .walks)) (now (a .args .hops)) (now (a .args .held)) (now (a .args .settled)) (now (a .args .parts))) (a .args .record-number) (a .args .offset) (a .args .arrival) (toZ w32 (ofZ w32 (a .args .arrival))) (a .args .duration) (a .args .speed) (a .args .limit) (now (a .args .answer)) _ _ _ _ _ (toZ-ofZ w32 (a .args .arrival) (a .fits .arrival)) (c .before .before .before .before .before .before .before .before .before .before .before .before .before .before .if1 .left) (c .before .before .before .before .before .before .before .before .before .before .run .ensures) (c .before .before .put-answer .ensures)
+
+pub siltbrow-run-spec : {M : Type 1} → statement M
+siltbrow-run-spec =
+    tie.close
+    (tie.spec
+    returns
+    run-requires
+    put-answer-requires
+    same-length
+    same-length-2
+    same-length-3
+    same-length-4
+    returns-2)

@@ -1,0 +1,25 @@
+-- What a run called from C answers and leaves in every lent byte. Assumes nothing.
+use mathlib.Core.Path.{_≡_}
+use mathlib.Core.Logic.{_≢_}
+use mathlib.Core.List.{List, _++_}
+use Prim.Native.Nat.{ℕ}
+use lib.IntN.{ℤ}
+use lib.ListN.{length}
+use Rattle.journeys.specs.Bytes.{word}
+use Rattle.journeys.specs.Query.{Query}
+use Rattle.journeys.specs.Answers.{Lent, Answer, Allowed}
+use Rattle.journeys.proofs.Seconds.{clocked}
+
+-- the query by its five numbers; the arrival is a signed second
+abbrev pub query : ℕ → ℕ → ℤ → ℕ → ℕ → Query
+query walk offset arrival duration speed = record { walk = walk; offset = offset; arrival = clocked arrival; duration = duration; speed = speed }
+
+-- the 24 bytes of an answer
+abbrev pub answerBytes : Answer → List ℕ
+answerBytes a = word (a .refusal) ++ word (a .place) ++ word (a .settledCount) ++ word (a .partCount) ++ word (a .heldCount) ++ word (a .finished)
+
+-- `slice` is the answer slice as it was lent, and behind it stand the four written slices after the call. A slice that is not 24 bytes gets nothing,
+-- and then nothing else is written either; in 24 bytes stands an answer that document 01 allows, and in the buffers what goes with it.
+pub record Ran (b : Lent) (Q : Query) (limit : ℕ) (slice held settled parts slice′ : List ℕ) (r : ℕ) : Type 0 where
+  pub untouched : length slice ≢ 24 → (r ≡ 1) × (held ≡ b .held) × (settled ≡ b .settled) × (parts ≡ b .parts) × (slice′ ≡ slice)
+  pub answered : length slice ≡ 24 → (r ≡ 0) × ((a : Answer) × Allowed b Q limit a × (held ≡ a .held) × (settled ≡ a .settled) × (parts ≡ a .parts) × (slice′ ≡ answerBytes a))
