@@ -1,8 +1,12 @@
 # make run: the program on the base job. make test: the gate.
-.PHONY: run test
+# make soak: millions of cases through the C calls, SEED=.. CASES=.. if given. It prints the seed: with it a failure comes again.
+.PHONY: run test soak
 
 run:
 	@rt check figures >/dev/null && cat crates/figures/stdout
 
 test:
 	@bash .ci/run
+
+soak:
+	@bash tests/run/run $(or $(SEED),$(shell date +%s)) $(or $(CASES),3000000)

@@ -7,6 +7,7 @@
 pub mod cases;
 pub mod commands;
 pub mod fast;
+pub mod marked;
 pub mod mutant;
 pub mod network;
 pub mod outcome;
@@ -14,6 +15,3 @@ pub mod records;
 pub mod rng;
 pub mod show;
 pub mod slow;
-
-#[cfg(test)]
-mod marked;

@@ -10,8 +10,10 @@ use outside::mutant::{Mutant, Sound};
 const USAGE: &str = "usage:
   outside self [SEED] [CASES]           compare the fast and the slow program
   outside mutants [SEED] [CASES]        show that wrong versions are caught
-  outside make SEED CASES | big         write cases for the driver
-  outside judge SEED CASES | big        judge the driver's answers
+  outside make SEED CASES | big | marked
+                                        write cases for the driver
+  outside judge SEED CASES | big | marked
+                                        judge the driver's answers
   outside show SEED NUMBER              print one case and its outcome
   outside reach                         a job in, its printed lines out
   outside job [FILE]                    make a binary job from readable lines
@@ -81,6 +83,7 @@ fn seeded(words: &[&str], cases: usize) -> Option<(u64, usize)> {
 fn choice(words: &[&str]) -> Option<Choice> {
     match words {
         ["big"] => Some(Choice::Big),
+        ["marked"] => Some(Choice::Marked),
         [_, _] => seeded(words, 0).map(|(seed, cases)| Choice::Seed(seed, cases)),
         _ => None,
     }

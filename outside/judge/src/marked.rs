@@ -1,28 +1,129 @@
-//! The marked cases M1 to M10 and the base job, for `fast` and for `slow`.
+//! The marked cases M1 to M10 and the base job: what document 01 says of each,
+//! as one table. `fast`, `slow` and the library are held against it.
 
-use crate::commands::jobtext::encode;
-use crate::fast;
-use crate::mutant::Sound;
 use crate::network::{Network, Scene};
-use crate::outcome::{Case, Outcome};
+use crate::outcome::{Call, Case, Outcome};
 use crate::records::{Answer, Held, Hop, Part, Query, Settled, Vertex, Walk, NONE};
-use crate::slow;
+use crate::records::{HELD, PART, SETTLED};
 
-const OUTPUT: &str = "answer 0 0
-vertex 1 500
-vertex 0 1500
-vertex 3 2400
-vertex 2 3000
-part 1 0 1500
-part 0 0 500
-part 1 1500 2000
-part 2 0 2500
-part 0 500 2000
-part 4 300 900
-held 3 2400 1 1
-held 4 3300 0 0
-end 4 6 2 1
-";
+/// A call, and what its outcome has to be.
+pub struct Marked {
+    pub name: &'static str,
+    pub make: fn() -> Case,
+    wanted: &'static [Wanted],
+}
+
+enum Wanted {
+    /// All held records: vertex, distance, state, remaining.
+    Held(&'static [(u32, u32, u32, u32)]),
+    /// This one among the held records.
+    Holds((u32, u32, u32, u32)),
+    /// The held vertices and what remains of each.
+    Remaining(&'static [(u32, u32)]),
+    /// The settled vertices.
+    Order(&'static [u32]),
+    /// The settled records: vertex, distance.
+    Settled(&'static [(u32, u32)]),
+    /// All parts: walk record, start, end.
+    Parts(&'static [(u32, u32, u32)]),
+    /// The parts of one walk record.
+    PartsOn(u32, &'static [(u32, u32)]),
+    Finished(u32),
+    Refusal(u32, u32),
+}
+
+use Wanted::{Finished, Holds, Order, Parts, PartsOn, Refusal, Remaining};
+
+const fn marked(name: &'static str, make: fn() -> Case, wanted: &'static [Wanted]) -> Marked {
+    Marked { name, make, wanted }
+}
+
+pub const ALL: &[Marked] = &[
+    marked("base job", || lent(base(), NONE), BASE),
+    marked(
+        "M1",
+        || lent(base(), 0),
+        &[Wanted::Held(&[(0, 1500, 0, 1), (1, 500, 0, 2)])],
+    ),
+    marked(
+        "M2",
+        || lent(base(), 1),
+        &[Wanted::Held(&[
+            (0, 1500, 0, 0),
+            (1, 500, 1, 2),
+            (2, 3000, 0, 0),
+            (3, 2400, 0, 1),
+        ])],
+    ),
+    marked(
+        "M3",
+        || lent(base(), 2),
+        &[Remaining(&[(1, 1), (2, 0), (3, 1)])],
+    ),
+    marked(
+        "M4",
+        || lent(base(), 3),
+        &[Wanted::Held(&[
+            (1, 500, 1, 1),
+            (2, 3000, 0, 0),
+            (3, 2400, 1, 1),
+            (4, 3300, 0, 0),
+        ])],
+    ),
+    marked(
+        "M5",
+        || lent(window(299), NONE),
+        &[Order(&[1, 0, 3]), PartsOn(0, &[(0, 500), (510, 2000)])],
+    ),
+    marked(
+        "M6, 35950",
+        || lent(ride(35_760, 35_950), 1),
+        &[Holds((3, 2400, 0, 1))],
+    ),
+    marked(
+        "M6, 35951",
+        || lent(ride(35_760, 35_951), 1),
+        &[Holds((3, NONE, 0, 1))],
+    ),
+    marked("M7, held room 4", || room([4, 5, 8]), BASE),
+    marked("M7, held room 3", || room([3, 5, 8]), &[Refusal(8, 1)]),
+    marked("M8, part room 5", || room([5, 5, 5]), &[Refusal(10, 3)]),
+    marked("M8, settled room 3", || room([5, 3, 8]), &[Refusal(9, 4)]),
+    marked("M8, both", || room([5, 3, 5]), &[Refusal(10, 3)]),
+    marked(
+        "M9, offset 900",
+        || lent(one_way(900), 0),
+        &[Wanted::Held(&[(3, 900, 0, 2), (4, 0, 0, 1)])],
+    ),
+    marked(
+        "M9, offset 899",
+        || lent(one_way(899), 0),
+        &[Wanted::Held(&[(3, 899, 0, 2)])],
+    ),
+    marked("M9, offset 901", || lent(one_way(901), 0), &[Refusal(7, 1)]),
+    marked("M10", || lent(ride(35_880, 35_880), NONE), &[Refusal(3, 0)]),
+    marked(
+        "M10, check",
+        || ride(35_880, 35_880).network.check_case(),
+        &[Refusal(3, 0)],
+    ),
+];
+
+/// The whole output of the base job.
+const BASE: &[Wanted] = &[
+    Refusal(0, 0),
+    Wanted::Settled(&[(1, 500), (0, 1500), (3, 2400), (2, 3000)]),
+    Parts(&[
+        (1, 0, 1500),
+        (0, 0, 500),
+        (1, 1500, 2000),
+        (2, 0, 2500),
+        (0, 500, 2000),
+        (4, 300, 900),
+    ]),
+    Wanted::Held(&[(3, 2400, 1, 1), (4, 3300, 0, 0)]),
+    Finished(1),
+];
 
 fn vertex((first_walk, first_hop, departing): (u32, u32, u16)) -> Vertex {
     Vertex {
@@ -74,135 +175,219 @@ fn base() -> Scene {
     }
 }
 
-/// Both programs' outcome, which has to be one.
-fn both(case: &Case) -> Outcome {
-    let (fast, slow) = (case.fast(Sound), case.slow());
-    assert_eq!(fast, slow);
-    fast
-}
-
-fn six(outcome: &Outcome) -> Answer {
-    Answer::read(&outcome.answer)
-}
-
-fn held(outcome: &Outcome) -> Vec<(u32, u32, u32, u32)> {
-    let row = |i| Held::read(&outcome.held, i);
-    let count = six(outcome).held as usize;
-    let rows = (0..count).map(row);
-    rows.map(|h| (h.vertex, h.distance, h.state, h.remaining))
-        .collect()
-}
-
-fn settled(outcome: &Outcome) -> Vec<u32> {
-    let count = six(outcome).settled as usize;
-    let rows = (0..count).map(|i| Settled::read(&outcome.settled, i));
-    rows.map(|s| s.vertex).collect()
-}
-
-fn parts(outcome: &Outcome, record: u32) -> Vec<(u32, u32)> {
-    let count = six(outcome).parts as usize;
-    let rows = (0..count).map(|i| Part::read(&outcome.parts, i));
-    let own = rows.filter(|p| p.record == record);
-    own.map(|p| (p.start, p.end)).collect()
-}
-
-fn refusal(case: &Case) -> (u32, u32) {
-    let answer = six(&both(case));
-    (answer.refusal, answer.place)
-}
-
-#[test]
-fn m1_to_m4() {
-    let at = |limit| held(&both(&base().run_case(limit)));
-    assert_eq!(at(0), [(0, 1500, 0, 1), (1, 500, 0, 2)]);
-    assert_eq!(
-        at(1),
-        [
-            (0, 1500, 0, 0),
-            (1, 500, 1, 2),
-            (2, 3000, 0, 0),
-            (3, 2400, 0, 1)
-        ]
-    );
-    let third: Vec<(u32, u32)> = at(2).iter().map(|h| (h.0, h.3)).collect();
-    assert_eq!(third, [(1, 1), (2, 0), (3, 1)]);
-    assert_eq!(
-        at(3),
-        [
-            (1, 500, 1, 1),
-            (2, 3000, 0, 0),
-            (3, 2400, 1, 1),
-            (4, 3300, 0, 0)
-        ]
-    );
-}
-
-#[test]
-fn m5() {
+fn window(duration: u32) -> Scene {
     let mut scene = base();
-    scene.query.duration = 299;
-    let outcome = both(&scene.run_case(u32::MAX));
-    assert_eq!(settled(&outcome), [1, 0, 3]);
-    assert_eq!(parts(&outcome, 0), [(0, 500), (510, 2000)]);
+    scene.query.duration = duration;
+    scene
 }
 
-#[test]
-fn m6() {
+fn ride(departure: i32, arrival: i32) -> Scene {
     let mut scene = base();
-    scene.network.hops[0].arrival = 35_950;
-    let rides = held(&both(&scene.run_case(1)));
-    assert!(rides.contains(&(3, 2400, 0, 1)));
-    scene.network.hops[0].arrival = 35_951;
-    let late = held(&both(&scene.run_case(1)));
-    assert!(late.contains(&(3, NONE, 0, 1)));
+    scene.network.hops[0].departure = departure;
+    scene.network.hops[0].arrival = arrival;
+    scene
 }
 
-#[test]
-fn m7_and_m8() {
-    let mut case = base().run_case(u32::MAX);
-    case.held = vec![9; 4 * 16];
-    assert_eq!(refusal(&case), (0, 0));
-    case.held = vec![9; 3 * 16];
-    assert_eq!(refusal(&case), (8, 1));
-    assert!(both(&case).held.iter().all(|&b| b == 0));
-    let mut case = base().run_case(u32::MAX);
-    case.parts = vec![9; 5 * 12];
-    assert_eq!(refusal(&case), (10, 3));
-    case.settled = vec![9; 3 * 8];
-    assert_eq!(refusal(&case), (10, 3));
-    case.parts = vec![9; 6 * 12];
-    assert_eq!(refusal(&case), (9, 4));
-}
-
-#[test]
-fn m9() {
+/// Walks 4 and 5 without twins, the query on walk 5.
+fn one_way(offset: u32) -> Scene {
     let mut scene = base();
     scene.network.walks[4].twin = NONE;
     scene.network.walks[5].twin = NONE;
     scene.query.record = 5;
-    scene.query.offset = 900;
-    let end = held(&both(&scene.run_case(0)));
-    assert_eq!(end, [(3, 900, 0, 2), (4, 0, 0, 1)]);
-    scene.query.offset = 899;
-    assert_eq!(held(&both(&scene.run_case(0))), [(3, 899, 0, 2)]);
-    scene.query.offset = 901;
-    assert_eq!(refusal(&scene.run_case(0)), (7, 1));
+    scene.query.offset = offset;
+    scene
 }
 
-#[test]
-fn m10() {
-    let mut scene = base();
-    scene.network.hops[0].departure = 35_880;
-    assert_eq!(refusal(&scene.run_case(0)), (3, 0));
-    let check = scene.network.check_case();
-    assert_eq!(both(&check).returned, 3 << 32);
+/// A run with room for all. No lent byte is 0, so that one left over shows.
+fn lent(scene: Scene, limit: u32) -> Case {
+    let mut case = scene.run_case(limit);
+    for buffer in [&mut case.held, &mut case.settled, &mut case.parts] {
+        buffer.fill(9);
+    }
+    case
 }
 
-#[test]
-fn base_job() {
-    let job = crate::cases::jobs::encode(&base());
-    assert_eq!(fast::print(&job, Sound), OUTPUT);
-    assert_eq!(slow::print(&job), OUTPUT);
-    let text = include_str!("../base-job.txt");
-    assert_eq!(encode(text), Ok(job));
+/// The base job with so many held, settled and part slots.
+fn room(slots: [usize; 3]) -> Case {
+    let mut case = lent(base(), NONE);
+    case.held = vec![9; slots[0] * HELD];
+    case.settled = vec![9; slots[1] * SETTLED];
+    case.parts = vec![9; slots[2] * PART];
+    case
+}
+
+impl Marked {
+    /// Whether this is an outcome that document 01 gives the case.
+    pub fn fits(&self, case: &Case, after: &Outcome) -> bool {
+        if case.call == Call::Check {
+            let told = ((after.returned >> 32) as u32, after.returned as u32);
+            return self
+                .wanted
+                .iter()
+                .all(|w| matches!(w, Refusal(n, p) if (*n, *p) == told));
+        }
+        after.returned == 0 && behind(case, after) && self.wanted.iter().all(|w| w.of(after))
+    }
+}
+
+/// Whether the lent bytes behind the lists are what each refusal makes them.
+fn behind(case: &Case, after: &Outcome) -> bool {
+    let six = Answer::read(&after.answer);
+    let kept = [&case.held, &case.settled, &case.parts];
+    let now = [&after.held, &after.settled, &after.parts];
+    if (1..=7).contains(&six.refusal) {
+        return kept == now;
+    }
+    let used = [
+        six.held as usize * HELD,
+        six.settled as usize * SETTLED,
+        six.parts as usize * PART,
+    ];
+    let zero = |bytes: &[u8]| bytes.iter().all(|&b| b == 0);
+    now.iter()
+        .zip(used)
+        .all(|(bytes, used)| bytes.get(used..).is_some_and(zero))
+}
+
+impl Wanted {
+    fn of(&self, after: &Outcome) -> bool {
+        let six = Answer::read(&after.answer);
+        match self {
+            Wanted::Held(rows) => held(after) == *rows,
+            Holds(row) => held(after).contains(row),
+            Remaining(rows) => held(after)
+                .iter()
+                .map(|h| (h.0, h.3))
+                .eq(rows.iter().copied()),
+            Order(rows) => settled(after).iter().map(|s| s.0).eq(rows.iter().copied()),
+            Wanted::Settled(rows) => settled(after) == *rows,
+            Parts(rows) => parts(after) == *rows,
+            PartsOn(record, rows) => {
+                let own = parts(after).into_iter().filter(|p| p.0 == *record);
+                own.map(|p| (p.1, p.2)).eq(rows.iter().copied())
+            }
+            Finished(finished) => six.finished == *finished,
+            Refusal(0, 0) => (six.refusal, six.place) == (0, 0),
+            Refusal(number, place) => {
+                let counts = [six.settled, six.parts, six.held, six.finished];
+                (six.refusal, six.place) == (*number, *place) && counts == [0; 4]
+            }
+        }
+    }
+}
+
+// The lists of an outcome; `behind` has seen that their counts fit the buffers.
+
+fn held(after: &Outcome) -> Vec<(u32, u32, u32, u32)> {
+    let count = Answer::read(&after.answer).held as usize;
+    let rows = (0..count).map(|i| Held::read(&after.held, i));
+    rows.map(|h| (h.vertex, h.distance, h.state, h.remaining))
+        .collect()
+}
+
+fn settled(after: &Outcome) -> Vec<(u32, u32)> {
+    let count = Answer::read(&after.answer).settled as usize;
+    let rows = (0..count).map(|i| Settled::read(&after.settled, i));
+    rows.map(|s| (s.vertex, s.distance)).collect()
+}
+
+fn parts(after: &Outcome) -> Vec<(u32, u32, u32)> {
+    let count = Answer::read(&after.answer).parts as usize;
+    let rows = (0..count).map(|i| Part::read(&after.parts, i));
+    rows.map(|p| (p.record, p.start, p.end)).collect()
+}
+
+#[cfg(test)]
+mod tests {
+    use super::{base, ALL};
+    use crate::commands::jobtext::encode;
+    use crate::mutant::{Mutant, Sound};
+    use crate::{cases, fast, slow};
+
+    const OUTPUT: &str = "answer 0 0
+vertex 1 500
+vertex 0 1500
+vertex 3 2400
+vertex 2 3000
+part 1 0 1500
+part 0 0 500
+part 1 1500 2000
+part 2 0 2500
+part 0 500 2000
+part 4 300 900
+held 3 2400 1 1
+held 4 3300 0 0
+end 4 6 2 1
+";
+
+    #[test]
+    fn both_programs_give_the_table() {
+        for marked in ALL {
+            let case = (marked.make)();
+            assert!(
+                marked.fits(&case, &case.fast(Sound)),
+                "fast: {}",
+                marked.name
+            );
+            assert!(marked.fits(&case, &case.slow()), "slow: {}", marked.name);
+        }
+    }
+
+    /// Wrong versions that the table alone has to tell.
+    const WRONG: &[Mutant] = &[
+        Mutant::StrictWindow,
+        Mutant::StrictArrival,
+        Mutant::HopStill,
+        Mutant::HopPlace,
+        Mutant::SeedOneWay,
+        Mutant::OffsetTight,
+        Mutant::MetByOffer,
+        Mutant::RemainingStart,
+        Mutant::RemainingWithin,
+        Mutant::LateRemains,
+        Mutant::DropUnsettled,
+        Mutant::DropNever,
+        Mutant::StateZero,
+        Mutant::HeldReversed,
+        Mutant::PartFar,
+        Mutant::PartOtherEnd,
+        Mutant::PartOnce,
+        Mutant::ClipNone,
+        Mutant::PartTwinFirst,
+        Mutant::HeldRoomTight,
+        Mutant::HeldRoomLoose,
+        Mutant::SettledRoomLoose,
+        Mutant::PartRoomLoose,
+        Mutant::RoomAtEnd,
+        Mutant::NumberBeforeStep,
+        Mutant::LimitZero,
+        Mutant::LimitLate,
+        Mutant::StepOff,
+        Mutant::RefusalKept,
+        Mutant::RefusalOwn,
+        Mutant::RefusalZeroes,
+        Mutant::RefusalCounts,
+        Mutant::TailKept,
+        Mutant::AnswerOrder,
+    ];
+
+    #[test]
+    fn the_table_tells_wrong_versions() {
+        for &mutant in WRONG {
+            let caught = ALL.iter().any(|marked| {
+                let case = (marked.make)();
+                !marked.fits(&case, &case.fast(mutant))
+            });
+            assert!(caught, "{mutant:?}");
+        }
+    }
+
+    #[test]
+    fn base_job() {
+        let job = cases::jobs::encode(&base());
+        assert_eq!(fast::print(&job, Sound), OUTPUT);
+        assert_eq!(slow::print(&job), OUTPUT);
+        let text = include_str!("../base-job.txt");
+        assert_eq!(encode(text), Ok(job));
+    }
 }

@@ -1,5 +1,7 @@
 //! Groups of calls: one network each, varied in one respect.
 
+use std::collections::BTreeSet;
+
 use super::damage::{any, several, sweep};
 use super::small;
 use crate::mutant::Sound;
@@ -19,7 +21,8 @@ pub fn group(seed: u64, index: u64) -> Vec<Case> {
     let scene = small::scene(rng);
     let cases = match index % 12 {
         0..=3 => limits(&scene, rng),
-        4..=7 => rooms(&scene, rng),
+        4..=6 => rooms(&scene, rng),
+        7 => every_room(&scene),
         8 => each_place(&scene, rng),
         9 => sweep(&one_of_both(&scene, rng), rng),
         10 => several_faults(&scene, rng),
@@ -116,6 +119,24 @@ fn rooms(scene: &Scene, rng: &mut Rng) -> Vec<Case> {
         cases.push(with_room(scene, limit, fewer));
         let one = need.map(|n| n.saturating_sub(rng.below(2)));
         cases.push(with_room(scene, limit, one));
+    }
+    cases
+}
+
+/// At every limit: room exact, and each buffer one less and none.
+fn every_room(scene: &Scene) -> Vec<Case> {
+    let last = needs(scene, u32::MAX).settled;
+    let mut cases = Vec::new();
+    for limit in 0..=last {
+        let need = exact(scene, limit);
+        cases.push(with_room(scene, limit, need));
+        for i in (0..3).filter(|&i| need[i] > 0) {
+            for room in BTreeSet::from([0, need[i] - 1]) {
+                let mut lent = need;
+                lent[i] = room;
+                cases.push(with_room(scene, limit, lent));
+            }
+        }
     }
     cases
 }

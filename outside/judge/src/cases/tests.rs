@@ -2,7 +2,7 @@
 
 use std::collections::{BTreeMap, BTreeSet};
 
-use super::{big, jobs, stream};
+use super::{big, groups, jobs, stream};
 use crate::commands::selftest::refusal;
 use crate::fast;
 use crate::mutant::Sound;
@@ -133,6 +133,31 @@ fn every_feature_arises() {
     }
     assert_eq!(seen.len(), 12);
     assert!(seen.values().all(|&count| count >= 100), "{seen:#?}");
+}
+
+/// What `every_room` is for: at each limit the first case has room, no other
+/// has, and all three buffers fall short.
+#[test]
+fn exact_room_is_tried_at_every_limit() {
+    let mut limits = 0;
+    // Every 80th group is a town.
+    for index in (7..1_200).step_by(12).filter(|index| index % 80 != 79) {
+        let cases = groups::group(1, index);
+        let given = |case: &Case| (case.limit, refusal(case, &case.fast(Sound)).0);
+        let given: Vec<(u32, u32)> = cases.iter().map(given).collect();
+        if given == [(0, 7)] {
+            continue;
+        }
+        for limit in 0..=given[given.len() - 1].0 {
+            let own = given.iter().filter(|(at, _)| *at == limit);
+            let own: Vec<u32> = own.map(|(_, number)| *number).collect();
+            assert_eq!(own[0], 0);
+            assert!(own[1..].iter().all(|number| (8..=10).contains(number)));
+            assert!(own.contains(&8) && own.contains(&9) == (limit > 0));
+            limits += 1;
+        }
+    }
+    assert!(limits > 400, "{limits}");
 }
 
 #[test]

@@ -6,15 +6,17 @@ use std::io::{BufReader, BufWriter, ErrorKind, Read, Write};
 
 use super::Tally;
 use crate::cases::{big, stream};
+use crate::marked::{self, Marked};
 use crate::mutant::Sound;
 use crate::outcome::{Call, Case, Outcome};
 use crate::show;
 
-/// Which cases are meant: those of a seed, or the big ones.
+/// Which cases are meant: those of a seed, the big ones, or the marked ones.
 #[derive(Clone, Copy)]
 pub enum Choice {
     Seed(u64, usize),
     Big,
+    Marked,
 }
 
 impl Choice {
@@ -22,6 +24,15 @@ impl Choice {
         match self {
             Choice::Seed(seed, count) => Box::new(stream(seed).take(count)),
             Choice::Big => Box::new(big::ALL.iter().map(|big| (big.make)())),
+            Choice::Marked => Box::new(marked::ALL.iter().map(|marked| (marked.make)())),
+        }
+    }
+
+    /// What document 01 says of the case of this number, if it is a marked one.
+    fn marked(self, number: usize) -> Option<&'static Marked> {
+        match self {
+            Choice::Marked => marked::ALL.get(number),
+            Choice::Seed(..) | Choice::Big => None,
         }
     }
 }
@@ -95,7 +106,10 @@ pub fn judge(choice: Choice) -> Result<(), String> {
                 break;
             }
         };
-        judge_one(number, &case, &reply, &mut tally);
+        match choice.marked(number) {
+            Some(marked) => judge_marked(marked, &case, &reply, &mut tally),
+            None => judge_one(&format!("case {number}"), &case, &reply, &mut tally),
+        }
     }
     let mut end = Vec::new();
     let read = input.read_to_end(&mut end);
@@ -106,12 +120,12 @@ pub fn judge(choice: Choice) -> Result<(), String> {
 }
 
 /// `fast` decides; `slow` has a say wherever it can look at every step.
-fn judge_one(number: usize, case: &Case, reply: &Reply, tally: &mut Tally) {
+fn judge_one(name: &str, case: &Case, reply: &Reply, tally: &mut Tally) {
     let right = case.fast(Sound);
     let agreed = !case.small() || case.slow() == right;
     let good = agreed && reply.outcome == right && reply.touched == 0;
     tally.count(good, || {
-        let mut text = format!("case {number}\n{}", show::case(case));
+        let mut text = format!("{name}\n{}", show::case(case));
         if !agreed {
             text += "fast and slow differ here\n";
         }
@@ -121,6 +135,19 @@ fn judge_one(number: usize, case: &Case, reply: &Reply, tally: &mut Tally) {
         text += &format!("library\n{}", show::outcome(case, &reply.outcome));
         text + &format!("expected\n{}", show::outcome(case, &right))
     });
+}
+
+/// Document 01 decides here; what it leaves open is judged as in other cases.
+fn judge_marked(marked: &Marked, case: &Case, reply: &Reply, tally: &mut Tally) {
+    tally.count(marked.fits(case, &reply.outcome), || {
+        let library = show::outcome(case, &reply.outcome);
+        format!(
+            "{}: not what document 01 says\n{}library\n{library}",
+            marked.name,
+            show::case(case)
+        )
+    });
+    judge_one(marked.name, case, reply, tally);
 }
 
 fn names(touched: u8) -> String {
