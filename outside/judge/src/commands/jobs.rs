@@ -74,7 +74,10 @@ fn printed(program: &[String], job: Vec<u8>) -> Result<Vec<u8>, String> {
     });
     let output = child.wait_with_output().map_err(|error| error.to_string());
     let _ = writer.join();
-    output.map(|output| output.stdout)
+    match output? {
+        output if output.status.success() => Ok(output.stdout),
+        output => Err(format!("the program ended with {}", output.status)),
+    }
 }
 
 fn judge_one(seed: u64, number: usize, output: Result<Vec<u8>, String>, tally: &mut Tally) {
