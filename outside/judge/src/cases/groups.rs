@@ -14,22 +14,27 @@ use crate::rng::Rng;
 pub fn group(seed: u64, index: u64) -> Vec<Case> {
     let mut rng = Rng::new(seed, index);
     let rng = &mut rng;
-    if index % 80 == 79 {
-        let cases = town(&small::town(rng), rng);
-        return cases.into_iter().map(|case| dress(case, rng)).collect();
-    }
-    let scene = small::scene(rng);
-    let cases = match index % 12 {
-        0..=3 => limits(&scene, rng),
-        4..=6 => rooms(&scene, rng),
-        7 => every_room(&scene),
-        8 => each_place(&scene, rng),
-        9 => sweep(&one_of_both(&scene, rng), rng),
-        10 => several_faults(&scene, rng),
-        _ if index % 24 == 11 => lengths(&scene, rng),
-        _ => queries(&scene, rng),
+    let cases = if index % 80 == 79 {
+        few(&small::town(rng), rng)
+    } else if index % 240 == 119 {
+        few(&small::spread(rng), rng)
+    } else {
+        varied(index, &small::scene(rng), rng)
     };
     cases.into_iter().map(|case| dress(case, rng)).collect()
+}
+
+fn varied(index: u64, scene: &Scene, rng: &mut Rng) -> Vec<Case> {
+    match index % 12 {
+        0..=3 => limits(scene, rng),
+        4..=6 => rooms(scene, rng),
+        7 => every_room(scene),
+        8 => each_place(scene, rng),
+        9 => sweep(&one_of_both(scene, rng), rng),
+        10 => several_faults(scene, rng),
+        _ if index % 24 == 11 => lengths(scene, rng),
+        _ => queries(scene, rng),
+    }
 }
 
 /// Garbage in whatever is lent, and sometimes NULL for what is empty.
@@ -142,7 +147,7 @@ fn every_room(scene: &Scene) -> Vec<Case> {
 }
 
 /// A larger network: few limits, and held room around what is needed.
-fn town(scene: &Scene, rng: &mut Rng) -> Vec<Case> {
+fn few(scene: &Scene, rng: &mut Rng) -> Vec<Case> {
     let all = needs(scene, u32::MAX).settled;
     let mut cases = Vec::new();
     for limit in [u32::MAX, rng.range(0, i64::from(all)) as u32] {

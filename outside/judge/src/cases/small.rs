@@ -1,5 +1,7 @@
 //! Random small networks in which ties and equalities happen often.
 
+use std::collections::BTreeSet;
+
 use crate::mutant::Sound;
 use crate::network::{Plan, Scene};
 use crate::records::{Answer, Query, Settled};
@@ -55,6 +57,32 @@ pub fn town(rng: &mut Rng) -> Scene {
     let network = plan.build();
     let mut scene = Scene { network, query };
     place(&mut scene, rng);
+    scene
+}
+
+/// A small network whose vertices lie far apart in the largest table there is,
+/// on both sides of its middle.
+pub fn spread(rng: &mut Rng) -> Scene {
+    let mut scene = scene(rng);
+    let mut numbers = BTreeSet::new();
+    while numbers.len() < scene.network.vertices.len() {
+        numbers.insert(match rng.below(4) {
+            0 => rng.range(32_764, 32_771) as u32,
+            _ => rng.below(65_536) as u32,
+        });
+    }
+    // Ascending, so that the tables stay in order.
+    let numbers: Vec<u32> = numbers.into_iter().collect();
+    let place = |vertex: &mut u32| *vertex = numbers[*vertex as usize];
+    for walk in &mut scene.network.walks {
+        place(&mut walk.from);
+        place(&mut walk.to);
+    }
+    for hop in &mut scene.network.hops {
+        place(&mut hop.from);
+        place(&mut hop.to);
+    }
+    scene.network.count(65_536);
     scene
 }
 

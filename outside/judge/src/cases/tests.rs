@@ -7,7 +7,7 @@ use crate::commands::selftest::refusal;
 use crate::fast;
 use crate::mutant::Sound;
 use crate::outcome::{Call, Case, Outcome};
-use crate::records::{Answer, Held, Hop, Part, Settled, Walk, HOP, NONE};
+use crate::records::{Answer, Held, Hop, Part, Settled, Walk, HOP, NONE, VERTEX};
 use crate::slow;
 
 const CASES: usize = 20_000;
@@ -158,6 +158,27 @@ fn exact_room_is_tried_at_every_limit() {
         }
     }
     assert!(limits > 400, "{limits}");
+}
+
+/// Vertices in both halves of the largest table, with room and without.
+#[test]
+fn far_vertices_arise() {
+    let far = stream(1).take(CASES);
+    let far = far.filter(|case| case.vertices.len() == 65_536 * VERTEX);
+    let (mut given, mut both) = (BTreeMap::new(), 0);
+    for case in far {
+        let outcome = case.fast(Sound);
+        *given.entry(refusal(&case, &outcome).0).or_insert(0) += 1;
+        let count = Answer::read(&outcome.answer).held as usize;
+        let held = (0..count).map(|i| Held::read(&outcome.held, i).vertex);
+        let halves: BTreeSet<u32> = held.map(|vertex| vertex / 32_768).collect();
+        both += usize::from(halves.len() == 2);
+    }
+    let often = |number: &u32| given.get(number).is_some_and(|&count| count >= 5);
+    assert!(
+        [0, 8, 9, 10].iter().all(often) && both >= 5,
+        "{given:?} {both}"
+    );
 }
 
 #[test]
