@@ -1,6 +1,7 @@
 # make run: the program on the base job. make test: the gate.
 # make soak: millions of cases through the C calls, SEED=.. CASES=.. if given. It prints the seed: with it a failure comes again.
-.PHONY: run test soak
+# make bench: the library's times beside the Rust program's. make figures: how many vertices it holds, into docs/.
+.PHONY: run test soak bench figures
 
 run:
 	@rt check figures >/dev/null && cat crates/figures/stdout
@@ -10,3 +11,9 @@ test:
 
 soak:
 	@bash tests/run/run $(or $(SEED),$(shell date +%s)) $(or $(CASES),3000000)
+
+bench:
+	@bench/run speed
+
+figures:
+	@bench/run figures

@@ -1,0 +1,12 @@
+//! Measures the library beside the independent Rust program, and draws how
+//! many vertices it holds. Both are called in the same way, by `Program`, and
+//! every answer of the one is held against the other's.
+
+pub mod figures;
+pub mod machine;
+pub mod networks;
+pub mod page;
+pub mod picture;
+pub mod program;
+pub mod room;
+pub mod speed;

@@ -1,0 +1,92 @@
+//! The library, called as C calls it.
+
+use bench::program::Program;
+use outside::records::{Lent, Query, Tables};
+
+extern "C" {
+    fn siltbrow_check(
+        vertices: *const u8,
+        vertices_len: usize,
+        walks: *const u8,
+        walks_len: usize,
+        hops: *const u8,
+        hops_len: usize,
+    ) -> u64;
+
+    fn siltbrow_run(
+        vertices: *const u8,
+        vertices_len: usize,
+        walks: *const u8,
+        walks_len: usize,
+        hops: *const u8,
+        hops_len: usize,
+        record: u32,
+        offset: u32,
+        arrival: i32,
+        duration: u32,
+        speed: u32,
+        limit: u32,
+        held: *mut u8,
+        held_len: usize,
+        settled: *mut u8,
+        settled_len: usize,
+        parts: *mut u8,
+        parts_len: usize,
+        answer: *mut u8,
+        answer_len: usize,
+    ) -> u32;
+}
+
+/// The library that this program is linked with.
+pub struct Linked;
+
+impl Program for Linked {
+    fn check(&self, tables: Tables) -> u64 {
+        let (v, w, h) = (tables.vertices, tables.walks, tables.hops);
+        // SAFETY: each pair is a whole slice, which the library only reads.
+        unsafe {
+            siltbrow_check(
+                v.as_ptr(),
+                v.len(),
+                w.as_ptr(),
+                w.len(),
+                h.as_ptr(),
+                h.len(),
+            )
+        }
+    }
+
+    fn run(&self, tables: Tables, query: Query, limit: u32, lent: Lent, answer: &mut [u8]) -> u32 {
+        let (v, w, h) = (tables.vertices, tables.walks, tables.hops);
+        let Lent {
+            held,
+            settled,
+            parts,
+        } = lent;
+        // SAFETY: each pair is a whole slice; those written to are borrowed alone.
+        unsafe {
+            siltbrow_run(
+                v.as_ptr(),
+                v.len(),
+                w.as_ptr(),
+                w.len(),
+                h.as_ptr(),
+                h.len(),
+                query.record,
+                query.offset,
+                query.arrival,
+                query.duration,
+                query.speed,
+                limit,
+                held.as_mut_ptr(),
+                held.len(),
+                settled.as_mut_ptr(),
+                settled.len(),
+                parts.as_mut_ptr(),
+                parts.len(),
+                answer.as_mut_ptr(),
+                answer.len(),
+            )
+        }
+    }
+}

@@ -1,0 +1,91 @@
+//! The most vertices held after any step, asked of the library itself.
+
+use outside::network::Scene;
+use outside::outcome::Case;
+use outside::records::{Answer, HELD};
+
+use crate::program::{agreed, Program};
+
+/// No buffer is lent with zeros, so that a byte left unwritten shows.
+const LENT: u8 = 0xA5;
+
+/// A run to its end that lends room for so many held vertices.
+pub fn run_in(scene: &Scene, room: usize) -> Case {
+    let mut case = scene.run_case(u32::MAX);
+    case.held = vec![LENT; room * HELD];
+    case.settled.fill(LENT);
+    case.parts.fill(LENT);
+    case.answer.fill(LENT);
+    case
+}
+
+/// The least held room that is not refused. Refusal 8 is given exactly if more
+/// is held after some step, so this is the most that is held after any step;
+/// reading the count at every step limit would take a run for each.
+pub fn least_room<P: Program>(program: &P, scene: &Scene) -> Result<usize, String> {
+    let mut case = run_in(scene, scene.network.vertices.len());
+    let end = Answer::read(&agreed(program, &case)?.answer).held as usize;
+    let mut refused = |room| {
+        case.held = vec![LENT; room * HELD];
+        let after = agreed(program, &case)?;
+        match Answer::read(&after.answer).refusal {
+            0 => Ok(false),
+            8 => Ok(true),
+            other => Err(format!("refusal {other} at held room {room}")),
+        }
+    };
+    // The answer lies between `least` and `least + gap`, once that is enough.
+    let (mut least, mut gap) = (end, 0);
+    while refused(least + gap)? {
+        least += gap + 1;
+        gap = 2 * gap + 1;
+    }
+    while gap > 0 {
+        let half = gap / 2;
+        match refused(least + half)? {
+            true => (least, gap) = (least + half + 1, gap - half - 1),
+            false => gap = half,
+        }
+    }
+    match least == 0 || refused(least - 1)? {
+        true => Ok(least),
+        false => Err(format!("held room {} is enough", least - 1)),
+    }
+}
+
+#[cfg(test)]
+mod tests {
+    use outside::mutant::Mutant;
+    use outside::network::grid_scene;
+    use outside::records::word;
+
+    use super::*;
+    use crate::networks::{around, spider};
+    use crate::program::{Rust, RUST};
+
+    /// The count read at every step limit.
+    fn most_held(scene: &Scene) -> usize {
+        let vertices = scene.network.vertices.len() as u32;
+        let held = |limit| {
+            let case = scene.run_case(limit);
+            word(&case.slow().answer, 16) as usize
+        };
+        (0..=vertices).map(held).max().unwrap()
+    }
+
+    #[test]
+    fn least_room_is_the_most_held() {
+        for (width, duration) in [(5, 300), (7, 900), (8, 7_200)] {
+            let scene = grid_scene(width, width * width, width, duration);
+            assert_eq!(least_room(&RUST, &scene), Ok(most_held(&scene)));
+        }
+    }
+
+    #[test]
+    fn wrong_room_is_noticed() {
+        let scene = around(&spider(5, 9), 0, 7);
+        for mutant in [Mutant::AddBeforeDrop, Mutant::RoomAtEnd, Mutant::DropNever] {
+            assert!(least_room(&Rust(mutant), &scene).is_err(), "{mutant:?}");
+        }
+    }
+}
