@@ -4,7 +4,7 @@
 .PHONY: run test soak bench figures
 
 run:
-	@rt check figures >/dev/null && cat crates/figures/stdout
+	@bash -c '. tests/common && for_x86_64 && rt check reach >/dev/null && $$run target/bin/reach <crates/reach/stdin'
 
 test:
 	@bash .ci/run

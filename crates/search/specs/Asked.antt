@@ -1,7 +1,14 @@
--- The query as the run is lent it, in the numbers of document 01. Assumes nothing.
+-- The query as it is asked of the run, in the numbers of document 01. Assumes nothing.
+use Prim.Native.Nat.{ℕ}
+use lib.IntN.{ℤ}
 use Rattle.journeys.specs.Query as query
 use Rattle.journeys.proofs.Seconds.{clocked}
 use Rattle.search.specs.declared.Query.{Query}
 
+-- by its five numbers: a walk record, the offset on it, the arrival in signed seconds, the duration, the speed
+abbrev pub asking : ℕ → ℕ → ℤ → ℕ → ℕ → query.Query
+asking walk offset arrival duration speed = record { walk = walk; offset = offset; arrival = clocked arrival; duration = duration; speed = speed }
+
+-- as the code has it
 abbrev pub queryOf : Query → query.Query
-queryOf q = record { walk = q .walk; offset = q .offset .0; arrival = clocked (q .arrival .0); duration = q .duration; speed = q .speed }
+queryOf q = asking (q .walk) (q .offset .0) (q .arrival .0) (q .duration) (q .speed)

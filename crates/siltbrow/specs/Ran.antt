@@ -3,16 +3,10 @@ use mathlib.Core.Path.{_≡_}
 use mathlib.Core.Logic.{_≢_}
 use mathlib.Core.List.{List, _++_}
 use Prim.Native.Nat.{ℕ}
-use lib.IntN.{ℤ}
 use lib.ListN.{length}
 use Rattle.journeys.specs.Bytes.{word}
 use Rattle.journeys.specs.Query.{Query}
 use Rattle.journeys.specs.Answers.{Lent, Answer, Allowed}
-use Rattle.journeys.proofs.Seconds.{clocked}
-
--- the query by its five numbers; the arrival is a signed second
-abbrev pub query : ℕ → ℕ → ℤ → ℕ → ℕ → Query
-query walk offset arrival duration speed = record { walk = walk; offset = offset; arrival = clocked arrival; duration = duration; speed = speed }
 
 -- the 24 bytes of an answer
 abbrev pub answerBytes : Answer → List ℕ

@@ -1,0 +1,148 @@
+-- The program's text: room for all lines, and the tables of the job in the run's hands. Assumes nothing.
+use mathlib.Core.Path.{_≡_, refl, sym, ap, ap₂, subst, _∙_}
+use mathlib.Core.Logic.{_⊎_, inl, inr, ⊎-elim}
+use mathlib.Core.Bool.{true, false, cond}
+use mathlib.Core.List.{List, []}
+use Prim.Native.Nat.{ℕ, zero, suc, _+_, _*_, _/_, _≤_, min}
+use native.Mathlib.Omega.{arith}
+use lib.Dec.{eqb, leb}
+use lib.IntN.{ℤ}
+use lib.ListN.{length, take, drop, length-append, length-replicate}
+use lib.Seq.{take-at}
+use borrow.Author.Tests.{eqb-true, eqb-false, le-leb}
+use Rattle.journeys.specs.Counting.{none}
+use Rattle.journeys.specs.Query.{Query}
+use Rattle.journeys.specs.Order.{Settled}
+use Rattle.journeys.specs.Answers.{Lent, Answer, early, refusedEarly, refusedLate, roomUpTo, acceptedAfter, answerOver, Allowed}
+use Rattle.journeys.proofs.Tests.{split, cond-true, cond-false, and-true}
+use Rattle.journeys.proofs.Refusals.{room-exactly}
+use Rattle.search.specs.Asked.{asking}
+use Rattle.search.specs.Progress.{answerOf}
+use Rattle.search.specs.declared.Answer as search
+use Rattle.job.specs.Job.{Read, job, faulty, Question, body, tableOf, jobOf, taken, question, told}
+use Rattle.job.specs.Steps.{bodies, Laid, LaidOut}
+use Rattle.job.specs.Text.{printed, fault, fits, report, faultIn}
+use Rattle.job.specs.Write.{over}
+use Rattle.job.specs.declared.Asked.{Asked}
+use Rattle.job.specs.declared.Job.{Job}
+use Rattle.job.specs.declared.Job.the-variants.{Good, Faulty}
+use Rattle.job.proofs.Bodies.{length-body, bodies-next, no-bodies, laid-of}
+use Rattle.reach.specs.Says.{roomy, Texts, SaysOf, Says, Ran, Answered}
+
+-- ---- an answer counts no more records than were lent
+module _ (b : Lent) (Q : Query) (limit : ℕ) where
+  abbrev Within : Answer → Type 0
+  Within a = (a .settledCount ≤ length (b .settled) / 8) × (a .partCount ≤ length (b .parts) / 12) × (a .heldCount ≤ length (b .held) / 16)
+
+  none-counted : (a : Answer) → a .settledCount ≡ 0 → a .partCount ≡ 0 → a .heldCount ≡ 0 → Within a
+  none-counted a x y z = (omega arith, omega arith, omega arith)
+
+  over-within : (l : List Settled) → Within (answerOver b Q l limit)
+  unfolding answerOver acceptedAfter refusedLate
+  over-within l = go (split (eqb (roomUpTo b Q l k .number) 0))
+    where
+      k : ℕ
+      k = min limit (length l)
+
+      go : (eqb (roomUpTo b Q l k .number) 0 ≡ true) ⊎ (eqb (roomUpTo b Q l k .number) 0 ≡ false)
+          → Within (cond (eqb (roomUpTo b Q l k .number) 0) (acceptedAfter b Q l k) (refusedLate b (roomUpTo b Q l k)))
+      go (inl t) =
+          let R = room-exactly b Q l k .0 (eqb-true _ 0 t) k (let z : k ≤ k = omega arith in z) in
+          subst Within (sym (cond-true (acceptedAfter b Q l k) (refusedLate b (roomUpTo b Q l k)) t)) (R .1, R .2, R .0)
+      go (inr t) =
+          subst Within (sym (cond-false (acceptedAfter b Q l k) (refusedLate b (roomUpTo b Q l k)) t)) (none-counted (refusedLate b (roomUpTo b Q l k)) refl refl refl)
+
+  counts-within : (a : Answer) → Allowed b Q limit a → Within a
+  unfolding refusedEarly
+  counts-within a A =
+      ⊎-elim (λ (t : eqb (early b Q .number) 0 ≡ true). let x = A .accepted (eqb-true _ 0 t) in subst Within (sym (x .2)) (over-within (x .0)))
+      (λ (t : eqb (early b Q .number) 0 ≡ false).
+      subst Within (sym (A .refused (eqb-false _ 0 t))) (none-counted (refusedEarly b (early b Q)) refl refl refl)) (split (eqb (early b Q .number) 0))
+
+-- ---- the text of a run
+module _ (v w h : List ℕ) (Q : Query) (out held settled parts : List ℕ) (x : search.Answer) (room : 100548 ≤ length out)
+    (eh : length held ≡ 8192) (es : length settled ≡ 4096) (ep : length parts ≡ 12312) (A : Allowed (roomy v w h) Q none (answerOf x held settled parts)) where
+  abbrev a : Answer
+  a = answerOf x held settled parts
+
+  few : (x .settled ≤ 512) × (x .parts ≤ 1026) × (x .held ≤ 512)
+  few =
+      let c = counts-within (roomy v w h) Q none a A in
+      (omega (arith, c .0, length-replicate {A = ℕ} 4096 0), omega (arith, c .1, length-replicate {A = ℕ} 12312 0), omega (arith, c .2, length-replicate {A = ℕ} 8192 0))
+
+  all-fits : fits a (length out) ≡ true
+  unfolding fits
+  all-fits =
+      and-true (and-true (and-true (le-leb (x .settled) (length settled / 8) (omega (arith, few))) (le-leb (x .parts) (length parts / 12) (omega (arith, few)))) (le-leb (x .held) (length held / 16) (omega (arith, few))))
+      (le-leb (49 * (x .settled + x .parts + x .held + 2)) (length out) (omega (arith, few)))
+
+  whole-text : report a (length out) ≡ printed a
+  unfolding report
+  whole-text = cond-true (printed a) [] all-fits
+
+  pub ran-text : (out′ : List ℕ) (r : ℕ) → out′ ≡ over (report a (length out)) out → r ≡ length (report a (length out)) → Ran v w h Q out out′ r
+  unfolding Ran
+  ran-text out′ r e f = (printed a, (a, A, refl), record { bytes = e ∙ ap (λ (t : List ℕ). over t out) whole-text; count = f ∙ ap length whole-text })
+
+-- ---- a faulty job
+pub fault-text : (s out out′ : List ℕ) (n r : ℕ) (j : Job) → j ≡ Faulty n → told j ≡ jobOf s → 100548 ≤ length out
+    → out′ ≡ over (faultIn n (length out)) out → r ≡ length (faultIn n (length out)) → Answered s out out′ r
+unfolding Answered Says SaysOf faultIn
+fault-text s out out′ n r j e t room b c =
+    let whole : cond (leb 25 (length out)) (fault n) [] ≡ fault n = cond-true (fault n) [] (le-leb 25 (length out) (omega arith)) in (
+      fault n,
+      subst (λ (z : Read). SaysOf s z (fault n)) (sym (ap told e) ∙ t) refl,
+      record { bytes = b ∙ ap (λ (z : List ℕ). over z out) whole; count = c ∙ ap length whole },
+    )
+
+-- ---- the tables of a job
+length-bodies : (s : List ℕ) (size from count : ℕ) → size ≤ 16 → 20 * (from + count) ≤ length s → length (bodies s size from count) ≡ size * count
+length-bodies s size from zero l h = ap length (no-bodies s size from) ∙ (let z : 0 ≡ size * 0 = omega arith in z)
+length-bodies s size from (suc n) l h =
+    let more : suc n ≡ n + 1 = omega arith in
+    ap (λ (k : ℕ). length (bodies s size from k)) more
+    ∙ ap length (bodies-next s size from n)
+    ∙ length-append (bodies s size from n) (body s size (from + n))
+    ∙ ap₂ (λ (a b : ℕ). a + b) (length-bodies s size from n l (omega arith)) (length-body s size (from + n) (omega arith))
+    ∙ times
+  where
+    times : size * n + size ≡ size * suc n
+    times = omega arith
+
+front-taken : (s t d d′ : List ℕ) (n v w h : ℕ) (q : Question) → jobOf s ≡ job v w h q → length t ≡ n → d′ ≡ over (taken (jobOf s) t) d → take n d′ ≡ t
+unfolding over
+front-taken s t d d′ n v w h q e l b =
+    ap (take n) (b ∙ ap (λ (z : Read). over (taken z t) d) e) ∙ take-at t (drop (length t) d) n l
+
+module _ (s : List ℕ) (j : Job) (v w h : ℕ) (q : Asked) (e : j ≡ Good v w h q) (t : told j ≡ jobOf s) (L : LaidOut s j) where
+  pub laid : Laid s v w h
+  laid = laid-of e L
+
+  is-job : jobOf s ≡ job v w h (question q)
+  is-job = sym t ∙ ap told e
+
+  vertices-long : length (tableOf s 1 12) ≡ 12 * v
+  vertices-long = ap length (laid .vertexTable) ∙ length-bodies s 12 0 v (omega arith) (omega (arith, laid .whole))
+
+  walks-long : length (tableOf s 2 16) ≡ 16 * w
+  walks-long = ap length (laid .walkTable) ∙ length-bodies s 16 v w (omega arith) (omega (arith, laid .whole))
+
+  hops-long : length (tableOf s 3 16) ≡ 16 * h
+  hops-long = ap length (laid .hopTable) ∙ length-bodies s 16 (v + w) h (omega arith) (omega (arith, laid .whole))
+
+  -- the run has the tables of the job, and z is the arrival as it stands in the query
+  pub run-answered : (vs vs′ ws ws′ hs hs′ out out′ : List ℕ) (r : ℕ) (z : ℤ) → z ≡ q .arrival → vs′ ≡ over (taken (jobOf s) (tableOf s 1 12)) vs → ws′ ≡ over (taken (jobOf s) (tableOf s 2 16)) ws
+      → hs′ ≡ over (taken (jobOf s) (tableOf s 3 16)) hs
+      → Ran (take (12 * v) vs′) (take (16 * w) ws′) (take (16 * h) hs′) (asking (q .record_number) (q .offset) z (q .duration) (q .speed)) out out′ r → Answered s out out′ r
+  unfolding Ran Answered Says SaysOf
+  run-answered vs vs′ ws ws′ hs hs′ out out′ r z f a b c R = (R .0, subst (λ (y : Read). SaysOf s y (R .0)) (sym is-job) as-told, R .2)
+    where
+      Q : ℤ → Query
+      Q y = asking (q .record_number) (q .offset) y (q .duration) (q .speed)
+
+      as-told : Texts (tableOf s 1 12) (tableOf s 2 16) (tableOf s 3 16) (Q (q .arrival)) (R .0)
+      as-told =
+          subst (λ (y : ℤ). Texts (tableOf s 1 12) (tableOf s 2 16) (tableOf s 3 16) (Q y) (R .0)) f
+          (subst (λ (y : List ℕ). Texts (tableOf s 1 12) (tableOf s 2 16) y (Q z) (R .0)) (front-taken s (tableOf s 3 16) hs hs′ (16 * h) v w h (question q) is-job hops-long c)
+          (subst (λ (y : List ℕ). Texts (tableOf s 1 12) y (take (16 * h) hs′) (Q z) (R .0)) (front-taken s (tableOf s 2 16) ws ws′ (16 * w) v w h (question q) is-job walks-long b)
+          (subst (λ (y : List ℕ). Texts y (take (16 * w) ws′) (take (16 * h) hs′) (Q z) (R .0)) (front-taken s (tableOf s 1 12) vs vs′ (12 * v) v w h (question q) is-job vertices-long a) (R .1))))

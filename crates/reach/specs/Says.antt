@@ -1,0 +1,40 @@
+-- What the program prints. Assumes nothing.
+use mathlib.Core.Path.{_≡_}
+use mathlib.Core.List.{List}
+use Prim.Native.Nat.{ℕ}
+use lib.ListN.{length, replicate}
+use Rattle.journeys.specs.Counting.{none}
+use Rattle.journeys.specs.Query.{Query}
+use Rattle.journeys.specs.Answers.{Lent, Answer, Allowed}
+use Rattle.search.specs.Asked.{asking}
+use Rattle.search.specs.Progress.{lent}
+use Rattle.job.specs.Job.{Read, job, faulty, Question, tableOf, jobOf}
+use Rattle.job.specs.Text.{printed, fault}
+use Rattle.job.specs.Write.{over}
+
+-- the tables of a job, with room for all that its 512 vertices and 1,024 walks can need
+abbrev pub roomy : List ℕ → List ℕ → List ℕ → Lent
+roomy v w h = lent v w h (replicate 8192 0) (replicate 4096 0) (replicate 12312 0)
+
+-- the text is that of an answer that document 01 allows, with no step limit
+abbrev pub Texts : List ℕ → List ℕ → List ℕ → Query → List ℕ → Type 0
+Texts v w h Q text = (a : Answer) × Allowed (roomy v w h) Q none a × (text ≡ printed a)
+
+-- of a faulty job its line, of a job the text of its run
+unfoldable pub SaysOf : List ℕ → Read → List ℕ → Type 0
+SaysOf s (job v w h q) text = Texts (tableOf s 1 12) (tableOf s 2 16) (tableOf s 3 16) (asking (q .walk) (q .offset) (q .arrival) (q .duration) (q .speed)) text
+SaysOf s (faulty n) text = text ≡ fault n
+
+unfoldable pub Says : List ℕ → List ℕ → Type 0
+Says s text = SaysOf s (jobOf s) text
+
+-- so many bytes of the text stand at the front of what was lent for it, whose rest is untouched
+pub record Wrote (text out out′ : List ℕ) (r : ℕ) : Type 0 where
+  pub bytes : out′ ≡ over text out
+  pub count : r ≡ length text
+
+unfoldable pub Ran : List ℕ → List ℕ → List ℕ → Query → List ℕ → List ℕ → ℕ → Type 0
+Ran v w h Q out out′ r = (text : List ℕ) × Texts v w h Q text × Wrote text out out′ r
+
+unfoldable pub Answered : List ℕ → List ℕ → List ℕ → ℕ → Type 0
+Answered s out out′ r = (text : List ℕ) × Says s text × Wrote text out out′ r

@@ -1,0 +1,86 @@
+// The program `reach`: a job on standard input, its text on standard output, with room lent for all and no step limit.
+// Promises: the text is that of document 01, for every input (`Says`).
+// Rests on: the job reader and the printed text (`job`), the run (`search`), and the contracts of the C library's read and write.
+use job::Job;
+use records::Offset;
+use records::Seconds;
+use search::Query;
+ghost use Prim.Native.Nat.{_≤_};
+ghost use lib.ListN.{length};
+ghost use Rattle.io.specs.Counts.{Counts};
+ghost use Rattle.search.specs.Asked.{queryOf};
+ghost use Rattle.reach.specs.Says.{Ran, Answered};
+
+// The run over the tables of a job, and its text.
+fn run_text(vertices: &[u8], walks: &[u8], hops: &[u8], q: Query, out: &mut [u8]) -> usize
+    requires { ⌜ 100548 ≤ length (now out) ⌝ }
+    ensures { λ r. ⌜ Ran (now (vertices .entry)) (now (walks .entry)) (now (hops .entry)) (queryOf q) (now (out .entry)) (now (out .exit)) r ⌝ }
+    ensures { λ r. ⌜ Counts r (now (out .exit)) ⌝ }
+{
+    let mut held = [0u8; 8192];
+    let mut settled = [0u8; 4096];
+    let mut parts = [0u8; 12312];
+    let a = search::run(
+        vertices,
+        walks,
+        hops,
+        &mut held,
+        &mut settled,
+        &mut parts,
+        q,
+        4294967295,
+    );
+    job::report(
+        a.refusal,
+        a.place,
+        a.settled,
+        a.parts,
+        a.held,
+        a.finished,
+        &settled,
+        &parts,
+        &held,
+        out,
+    )
+}
+
+// The text of a job of any length.
+fn answer(input: &[u8], out: &mut [u8]) -> usize
+    requires { ⌜ 100548 ≤ length (now out) ⌝ }
+    ensures { λ r. ⌜ Answered (now (input .entry)) (now (out .entry)) (now (out .exit)) r ⌝ }
+    ensures { λ r. ⌜ Counts r (now (out .exit)) ⌝ }
+{
+    let mut vertices = [0u8; 6144];
+    let mut walks = [0u8; 16384];
+    let mut hops = [0u8; 16384];
+    match job::load(input, &mut vertices, &mut walks, &mut hops) {
+        Job::Good {
+            vertices: v,
+            walks: w,
+            hops: h,
+            asked,
+        } => {
+            let q = Query {
+                walk: asked.record_number,
+                offset: Offset(asked.offset),
+                arrival: Seconds(asked.arrival),
+                duration: asked.duration,
+                speed: asked.speed,
+            };
+            let a = 12 * v;
+            let b = 16 * w;
+            let c = 16 * h;
+            run_text(&vertices[..a], &walks[..b], &hops[..c], q, out)
+        }
+        Job::Faulty(n) => job::fault_line(n, out),
+    }
+}
+
+// One byte more is read than the largest job has, so that a longer input is seen to be longer.
+fn main() {
+    let mut input = [0u8; 51221];
+    let n = io::read_full(0, &mut input);
+    let mut out = [0u8; 100548];
+    let m = answer(&input[..n], &mut out);
+    io::write_all(1, &out[..m]);
+}
