@@ -14,3 +14,4 @@ pub mod Staying
 pub mod Firstly
 pub mod Beginning
 pub mod Closing
+pub mod Determined

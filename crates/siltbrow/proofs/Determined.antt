@@ -1,6 +1,42 @@
 -- Any two answers that the contract allows are equal. Assumes nothing.
-use mathlib.Core.Path.{_≡_, sym, _∙_}
+use mathlib.Core.Path.{_≡_, sym, ap, _∙_}
+use mathlib.Core.List.{List}
+use Prim.Native.Nat.{ℕ}
+use native.Mathlib.Decide.{ℕ-discrete}
+use lib.ListN.{length}
+use denote.Ref.{now}
+use Rattle.journeys.specs.Query.{Query}
+use Rattle.journeys.specs.Answers.{Lent, Answer}
+use Rattle.journeys.proofs.Determined.{answer-unique}
+use Rattle.siltbrow.specs.Ran.{answerBytes, Ran}
 use Rattle.siltbrow.proofs.siltbrow_check.Reads as siltbrow-check
+use Rattle.siltbrow.proofs.siltbrow_run.Reads as siltbrow-run
 
 pub one-siltbrow-check : (κs : _) (a : _) (z z′ : _) (e e′ : _) → siltbrow-check.Post κs a z e → siltbrow-check.Post κs a z′ e′ → z ≡ z′
 one-siltbrow-check κs a z z′ e e′ p q = p ∙ sym q
+
+-- the answers for one slice of any length
+ran-one : (b : Lent) (Q : Query) (limit : ℕ) (slice h s p a h′ s′ p′ a′ : List ℕ) (r r′ : ℕ) → Ran b Q limit slice h s p a r → Ran b Q limit slice h′ s′ p′ a′ r′
+    → (r ≡ r′) × (h ≡ h′) × (s ≡ s′) × (p ≡ p′) × (a ≡ a′)
+ran-one b Q limit slice h s p a h′ s′ p′ a′ r r′ x y = go (ℕ-discrete (length slice) 24)
+  where
+    go : Dec (length slice ≡ 24) → (r ≡ r′) × (h ≡ h′) × (s ≡ s′) × (p ≡ p′) × (a ≡ a′)
+    go (yes e) =
+        let f = x .answered e in
+        let g = y .answered e in
+        let same = answer-unique b Q limit (f .1 .0) (g .1 .0) (f .1 .1) (g .1 .1) in (
+          f .0 ∙ sym (g .0),
+          f .1 .2 ∙ ap (λ (z : Answer). z .held) same ∙ sym (g .1 .2),
+          f .1 .3 ∙ ap (λ (z : Answer). z .settled) same ∙ sym (g .1 .3),
+          f .1 .4 ∙ ap (λ (z : Answer). z .parts) same ∙ sym (g .1 .4),
+          f .1 .5 ∙ ap answerBytes same ∙ sym (g .1 .5),
+        )
+    go (no n) =
+        let f = x .untouched n in
+        let g = y .untouched n in
+        (f .0 ∙ sym (g .0), f .1 ∙ sym (g .1), f .2 ∙ sym (g .2), f .3 ∙ sym (g .3), f .4 ∙ sym (g .4))
+
+pub one-siltbrow-run : (κs : _) (a : _) (z z′ : _) (e e′ : _) → siltbrow-run.Post κs a z e → siltbrow-run.Post κs a z′ e′
+    → (z ≡ z′) × (now (e .1 .1 .1 .1 .1 .1 .1 .1 .1 .0) ≡ now (e′ .1 .1 .1 .1 .1 .1 .1 .1 .1 .0)) × (now (e .1 .1 .1 .1 .1 .1 .1 .1 .1 .1 .0) ≡ now (e′ .1 .1 .1 .1 .1 .1 .1 .1 .1 .1 .0))
+    × (now (e .1 .1 .1 .1 .1 .1 .1 .1 .1 .1 .1 .0) ≡ now (e′ .1 .1 .1 .1 .1 .1 .1 .1 .1 .1 .1 .0)) × (now (e .1 .1 .1 .1 .1 .1 .1 .1 .1 .1 .1 .1 .0) ≡ now (e′ .1 .1 .1 .1 .1 .1 .1 .1 .1 .1 .1 .1 .0))
+one-siltbrow-run κs a z z′ e e′ p q = ran-one _ _ _ _ _ _ _ _ _ _ _ _ z z′ p q
