@@ -4,11 +4,11 @@ use mathlib.Core.List.{List}
 use Prim.Native.Nat.{ℕ, _+_, _-_, _/_, _<_, _≤_}
 use lib.Dec.{ltb}
 use lib.ListN.{length}
+use Rattle.journeys.specs.Bytes.{clocked}
 use Rattle.journeys.specs.Tables.{vertexAt, walkAt, hopAt}
 use Rattle.journeys.specs.Query.{Query}
 use Rattle.journeys.specs.Records as records
 use Rattle.journeys.specs.Records.{Record, walked, ridden, offer}
-use Rattle.journeys.proofs.Seconds.{clocked}
 use Rattle.records.specs.Quantities.{DayTime}
 use Rattle.arrivals.specs.declared.Run.{Run}
 use Rattle.arrivals.specs.Passing.{Row}

@@ -6,9 +6,8 @@ use Prim.Native.Nat.{ℕ, suc, _+_, _-_, _%_, _≤_, _<_}
 use native.Mathlib.Omega.{arith}
 use lib.IntN.{pos, negsuc, subℕ}
 use borrow.Author.Tests.{lt-ltb, le-ltb}
-use Rattle.journeys.specs.Bytes.{clock, midnight}
+use Rattle.journeys.specs.Bytes.{clock, midnight, clocked}
 use Rattle.journeys.proofs.Tests.{le-or-lt}
-use Rattle.journeys.proofs.Seconds.{clocked}
 use Rattle.records.specs.Meaning.{secondsOf}
 use Rattle.job.specs.Job.{seconds}
 

@@ -3,9 +3,8 @@ use mathlib.Core.Path.{_≡_, refl, sym, ap, _∙_}
 use mathlib.Core.List.{List}
 use Prim.Native.Nat.{ℕ, _+_, _*_, _<_}
 use lib.ListN.{getD}
-use Rattle.journeys.specs.Bytes.{be32, clock}
+use Rattle.journeys.specs.Bytes.{be32, clock, clocked}
 use Rattle.journeys.specs.Query.{Query}
-use Rattle.journeys.proofs.Seconds.{clocked}
 use Rattle.job.specs.declared.Asked.{Asked}
 use Rattle.job.specs.declared.Job.{Job}
 use Rattle.job.specs.declared.Job.the-variants.{Good, Faulty}

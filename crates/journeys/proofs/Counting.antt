@@ -2,8 +2,8 @@
 use mathlib.Core.Path.{_≡_, refl, sym, ap, ap₂, _∙_, subst}
 use mathlib.Core.Logic.{_⊎_, inl, inr, ⊎-elim}
 use mathlib.Core.Bool.{Bool, true, false, cond}
-use mathlib.Core.List.{List, [], _∷_, _++_, flatMap}
-use Prim.Native.Nat.{ℕ, zero, suc, _+_, _≤_, _<_, min}
+use mathlib.Core.List.{List, [], _∷_, _++_, flatMap, append-nil, append-assoc}
+use Prim.Native.Nat.{ℕ, zero, suc, _+_, _*_, _≤_, _<_, min}
 use native.Mathlib.Omega.{arith}
 use lib.ListN.{length, getD, length-append, List·getD-append}
 use lib.Seq.{getD-at}
@@ -216,3 +216,19 @@ getD-joined f (suc n) i d h =
     ⊎-elim (λ (e : i ≡ n). getD-at (joined (λ i. f i ∷ []) n) (f n) [] d i (length-joined f n ∙ sym e) ∙ ap f (sym e))
     (λ (l : i < n). List·getD-append (joined (λ i. f i ∷ []) n) (f n ∷ []) d i (rw (length-joined f n) l) ∙ getD-joined f n i d l)
     (last-or-below h)
+
+-- ---- bytes of records, one behind the other
+pub flat-snoc : {A B : Type 0} (f : A → List B) (xs : List A) (y : A) → flatMap f (xs ++ y ∷ []) ≡ flatMap f xs ++ f y
+unfolding flatMap
+flat-snoc f [] y = append-nil (f y)
+flat-snoc f (x ∷ xs) y = ap (λ z. f x ++ z) (flat-snoc f xs y) ∙ sym (append-assoc (f x) (flatMap f xs) (f y))
+
+pub flat-append : {A B : Type 0} (f : A → List B) (xs ys : List A) → flatMap f (xs ++ ys) ≡ flatMap f xs ++ flatMap f ys
+unfolding flatMap
+flat-append f [] ys = refl
+flat-append f (x ∷ xs) ys = ap (λ z. f x ++ z) (flat-append f xs ys) ∙ sym (append-assoc (f x) (flatMap f xs) (flatMap f ys))
+
+pub flat-length : {A B : Type 0} (f : A → List B) (n : ℕ) → ((x : A) → length (f x) ≡ n) → (xs : List A) → length (flatMap f xs) ≡ n * length xs
+unfolding flatMap
+flat-length f n e [] = omega arith
+flat-length f n e (x ∷ xs) = simp length-append (omega (arith, e x, flat-length f n e xs))

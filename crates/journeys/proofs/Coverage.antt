@@ -14,7 +14,7 @@ use Rattle.journeys.specs.Query.{Query, asked, allowed}
 use Rattle.journeys.specs.Journeys.{Distance, Inside, onward, straight, straight-twin}
 use Rattle.journeys.specs.Order.{Settled, settled, Order}
 use Rattle.journeys.specs.Records.{network}
-use Rattle.journeys.specs.Parts.{Part, part, near, firstPart, firstParts, partAt, partsAt, partList}
+use Rattle.journeys.specs.Parts.{Part, part, near, firstPart, firstParts, partAt, partsAt, partList, Covered}
 use Rattle.journeys.proofs.Tests.{cond-true, cond-false, Test, same, other, test, le-or-lt}
 use Rattle.journeys.proofs.Counting.{in-left, in-right, in-append, in-flat, flat-in, in-joined, joined-in}
 use Rattle.journeys.proofs.Firsts.{order-first}
@@ -24,14 +24,6 @@ use Rattle.journeys.proofs.Document.{ways, laws, journey-arrives, arriv
 
 abbrev pub thePart : ℕ → ℕ → ℕ → Part
 thePart i a z = record { walk = i; start = a; end = z }
-
--- the place x of record i lies in a listed part
-pub record Covered (ps : List Part) (i x : ℕ) : Type 0 where
-  pub start : ℕ
-  pub end : ℕ
-  pub listed : In (thePart i start end) ps
-  pub low : start ≤ x
-  pub high : x ≤ end
 
 part-in : (i a z : ℕ) (p : Part) → In p (part i a z) → (p ≡ thePart i a z) × (a ≢ z)
 unfolding part

@@ -12,9 +12,9 @@ use Rattle.journeys.specs.Tables.{Tables, walk, vertexCount, walkCount}
 use Rattle.journeys.specs.Query.{Query, allowed}
 use Rattle.journeys.specs.Journeys.{Journey, Distance, Inside}
 use Rattle.journeys.specs.Order.{Settled, settled, Order}
-use Rattle.journeys.specs.Network.{Network, Held, distanceIn, within, known, remaining, met, held, row, entry, heldList}
+use Rattle.journeys.specs.Network.{Network, Held, distanceIn, within, known, remaining, met, held, row, entry, heldList, Dropped}
 use Rattle.journeys.specs.Records.{network}
-use Rattle.journeys.specs.Parts.{partList}
+use Rattle.journeys.specs.Parts.{partList, Covered}
 use Rattle.journeys.specs.Answers.{tables}
 use Rattle.journeys.proofs.Tests.{never, and-both, and-true}
 use Rattle.journeys.proofs.Counting.{in-joined, joined-in}
@@ -23,10 +23,10 @@ use Rattle.journeys.proofs.Known.{Next, Bound, is-within, within-is}
 use Rattle.journeys.proofs.Firsts.{order-one}
 use Rattle.journeys.proofs.Greedy.{run, arrives-dec, dist-exists}
 use Rattle.journeys.proofs.Settling.{order-exists, order-next, order-end, order-grows, order-state, settled-known}
-use Rattle.journeys.proofs.Held.{Dropped, dropped-stays, dropped-absent}
+use Rattle.journeys.proofs.Held.{dropped-stays, dropped-absent}
 use Rattle.journeys.proofs.Valid.{Valid, paired}
 use Rattle.journeys.proofs.Document.{ways, laws, strict, journey-arrives, arrives-journey, dist-distance, order-dist, dist-order, allowed-low}
-use Rattle.journeys.proofs.Coverage.{Covered, covered-inside, inside-covered}
+use Rattle.journeys.proofs.Coverage.{covered-inside, inside-covered}
 
 -- ---- journeys and distances
 -- Who could start later can start earlier: one waits.

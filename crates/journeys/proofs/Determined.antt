@@ -1,14 +1,15 @@
 -- There is an answer for every input, and any two answers that the definitions allow are equal. Assumes nothing.
-use mathlib.Core.Path.{_≡_, sym, ap, _∙_}
+use mathlib.Core.Path.{_≡_, sym, ap, _∙_, refl, subst}
 use mathlib.Core.Logic.{_⊎_, inl, inr, ⊎-elim, _≢_}
 use mathlib.Core.Bool.{true, false, cond}
 use mathlib.Core.List.{List, [], flatMap}
-use Prim.Native.Nat.{ℕ, min}
+use Prim.Native.Nat.{ℕ, min, _≤_, _/_}
 use native.Mathlib.Omega.{arith}
 use lib.Dec.{eqb, leb}
 use lib.ListN.{length, take}
 use lib.Seq.{take-all}
 use borrow.Author.Tests.{eqb-true, eqb-false, eq-eqb, ne-eqb, leb-true}
+use Rattle.journeys.proofs.Refusals.{room-exactly}
 use Rattle.journeys.specs.Bytes.{filled}
 use Rattle.journeys.specs.Tables.{vertexCount}
 use Rattle.journeys.specs.Query.{Query, allowed}
@@ -109,3 +110,33 @@ module _ (b : Lent) (Q : Query) (limit : ℕ) where
     where
       k : ℕ
       k = min limit (length (x .order))
+
+-- An answer counts no more records than were lent.
+module _ (b : Lent) (Q : Query) (limit : ℕ) where
+  abbrev pub Within : Answer → Type 0
+  Within a = (a .settledCount ≤ length (b .settled) / 8) × (a .partCount ≤ length (b .parts) / 12) × (a .heldCount ≤ length (b .held) / 16)
+
+  none-counted : (a : Answer) → a .settledCount ≡ 0 → a .partCount ≡ 0 → a .heldCount ≡ 0 → Within a
+  none-counted a x y z = (omega arith, omega arith, omega arith)
+
+  over-within : (l : List Settled) → Within (answerOver b Q l limit)
+  unfolding answerOver acceptedAfter refusedLate
+  over-within l = go (split (eqb (roomUpTo b Q l k .number) 0))
+    where
+      k : ℕ
+      k = min limit (length l)
+
+      go : (eqb (roomUpTo b Q l k .number) 0 ≡ true) ⊎ (eqb (roomUpTo b Q l k .number) 0 ≡ false)
+          → Within (cond (eqb (roomUpTo b Q l k .number) 0) (acceptedAfter b Q l k) (refusedLate b (roomUpTo b Q l k)))
+      go (inl t) =
+          let R = room-exactly b Q l k .0 (eqb-true _ 0 t) k (let z : k ≤ k = omega arith in z) in
+          subst Within (sym (cond-true (acceptedAfter b Q l k) (refusedLate b (roomUpTo b Q l k)) t)) (R .1, R .2, R .0)
+      go (inr t) =
+          subst Within (sym (cond-false (acceptedAfter b Q l k) (refusedLate b (roomUpTo b Q l k)) t)) (none-counted (refusedLate b (roomUpTo b Q l k)) refl refl refl)
+
+  pub counts-within : (a : Answer) → Allowed b Q limit a → Within a
+  unfolding refusedEarly
+  counts-within a A =
+      ⊎-elim (λ (t : eqb (early b Q .number) 0 ≡ true). let x = A .accepted (eqb-true _ 0 t) in subst Within (sym (x .2)) (over-within (x .0)))
+      (λ (t : eqb (early b Q .number) 0 ≡ false).
+      subst Within (sym (A .refused (eqb-false _ 0 t))) (none-counted (refusedEarly b (early b Q)) refl refl refl)) (split (eqb (early b Q .number) 0))

@@ -9,7 +9,7 @@ use lib.Dec.{eqb, ltb}
 use borrow.Author.Tests.{ltb-true, ltb-false, lt-ltb, eq-eqb, ne-eqb}
 use Rattle.journeys.specs.Counting.{none, least, count, joined}
 use Rattle.journeys.specs.Order.{Settled}
-use Rattle.journeys.specs.Network.{Network, Held, distanceIn, within, into, outside, known, remaining, met, held, row, entry, heldList}
+use Rattle.journeys.specs.Network.{Network, Held, distanceIn, within, into, outside, known, remaining, met, held, row, entry, heldList, Dropped}
 use Rattle.journeys.proofs.Tests.{split, never, and-left, and-right, and-true, or-cases, or-left, or-right, or-none, cond-true, cond-false, same-test, le-or-lt}
 use Rattle.journeys.proofs.Counting.{one, is-one, least-empty, least-skip, count-mono, count-grows, count-skip, count-join, count-none, some-count, joined-same}
 use Rattle.journeys.proofs.Ways.{Ways, Arrives, leads, Laws, Loopless}
@@ -75,10 +75,6 @@ module _ (G : Network) where
             (le-or-lt none (known G far u));
       }
 
-  -- ---- dropped: settled, with nothing remaining
-  abbrev pub Dropped : (ℕ → ℕ) → ℕ → Type 0
-  Dropped far v = (far v < none) × (remaining G far v ≡ 0)
-
   abbrev pub More : (ℕ → ℕ) → (ℕ → ℕ) → Type 0
   More far far′ = (u : ℕ) → far u < none → far′ u < none
 
@@ -96,12 +92,12 @@ module _ (G : Network) where
           at-most false = omega arith
 
   -- Once dropped, always dropped.
-  pub dropped-stays : (far far′ : ℕ → ℕ) → More far far′ → (v : ℕ) → Dropped far v → Dropped far′ v
+  pub dropped-stays : (far far′ : ℕ → ℕ) → More far far′ → (v : ℕ) → Dropped G far v → Dropped G far′ v
   unfolding remaining
   dropped-stays far far′ h v g =
       (h v (g .0), omega (arith, g .1, count-mono (outside G far′ v) (outside G far v) (G .records) (λ r l. outside-less far far′ h v r)))
 
-  pub dropped-absent : (far : ℕ → ℕ) (v : ℕ) → Dropped far v → entry G far v ≡ []
+  pub dropped-absent : (far : ℕ → ℕ) (v : ℕ) → Dropped G far v → entry G far v ≡ []
   unfolding entry held
   dropped-absent far v g =
       cond-false (row G far v ∷ []) [] (and-right (met G far v) (ap not (and-true (is-within far v (g .0)) (eq-eqb (remaining G far v) 0 (g .1)))))

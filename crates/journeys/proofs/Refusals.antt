@@ -11,7 +11,7 @@ use borrow.Author.Tests.{eqb-true, eqb-false, eq-eqb, ne-eqb, leb-true, le-leb}
 use Rattle.journeys.specs.Query.{Query}
 use Rattle.journeys.specs.Order.{Settled}
 use Rattle.journeys.specs.Refusals.{Refusal, fine, unless, orElse, firstFrom, firstBad}
-use Rattle.journeys.specs.Answers.{Lent, heldAfter, partsAfter, roomAt, roomUpTo}
+use Rattle.journeys.specs.Answers.{Lent, heldAfter, partsAfter, roomAt, roomUpTo, Room}
 use Rattle.journeys.proofs.Tests.{split, cond-true, cond-false, same-or-below}
 
 pub or-fine : (a b : Refusal) → orElse a b .number ≡ 0 → (a .number ≡ 0) × (b .number ≡ 0)
@@ -87,12 +87,7 @@ bad-first number good n i l h e before =
 
 -- ---- room
 module _ (b : Lent) (Q : Query) (l : List Settled) where
-  -- after step k every table and list is no larger than lent
-  abbrev pub Room : ℕ → Type 0
-  Room k =
-      (length (heldAfter b Q l k) ≤ length (b .held) / 16) × (length (take k l) ≤ length (b .settled) / 8) × (length (partsAfter b Q l k) ≤ length (b .parts) / 12)
-
-  pub room-is : (k : ℕ) → (roomAt b Q l k .number ≡ 0) ↔ Room k
+  pub room-is : (k : ℕ) → (roomAt b Q l k .number ≡ 0) ↔ Room b Q l k
   unfolding roomAt
   room-is k = (there, back)
     where
@@ -105,13 +100,13 @@ module _ (b : Lent) (Q : Query) (l : List Settled) where
       parted : Bool
       parted = leb (length (partsAfter b Q l k)) (length (b .parts) / 12)
 
-      there : orElse (unless held 8 k) (orElse (unless listed 9 k) (unless parted 10 k)) .number ≡ 0 → Room k
+      there : orElse (unless held 8 k) (orElse (unless listed 9 k) (unless parted 10 k)) .number ≡ 0 → Room b Q l k
       there e =
           let x = or-fine (unless held 8 k) _ e in
           let y = or-fine (unless listed 9 k) _ (x .1) in
           (leb-true _ _ (unless-fine held 8 k (omega arith) (x .0)), leb-true _ _ (unless-fine listed 9 k (omega arith) (y .0)), leb-true _ _ (unless-fine parted 10 k (omega arith) (y .1)))
 
-      back : Room k → orElse (unless held 8 k) (orElse (unless listed 9 k) (unless parted 10 k)) .number ≡ 0
+      back : Room b Q l k → orElse (unless held 8 k) (orElse (unless listed 9 k) (unless parted 10 k)) .number ≡ 0
       back r =
           let p = unless-good held 8 k (le-leb _ _ (r .0)) in
           let q = unless-good listed 9 k (le-leb _ _ (r .1)) in
@@ -120,7 +115,7 @@ module _ (b : Lent) (Q : Query) (l : List Settled) where
           (or-next (unless held 8 k) _ (ap (λ (z : Refusal). z .number) p) ∙ or-next (unless listed 9 k) _ (ap (λ (z : Refusal). z .number) q) ∙ s)
 
   -- Room is refused exactly when a table or list would be larger than lent after one of the steps made.
-  pub room-exactly : (k : ℕ) → (roomUpTo b Q l k .number ≡ 0) ↔ ((j : ℕ) → j ≤ k → Room j)
+  pub room-exactly : (k : ℕ) → (roomUpTo b Q l k .number ≡ 0) ↔ ((j : ℕ) → j ≤ k → Room b Q l j)
   unfolding roomUpTo
   room-exactly k = (
     λ e j h. room-is j .0 (from-fine (roomAt b Q l) (k + 1) 0 e j (omega arith) (omega arith)),
@@ -128,6 +123,6 @@ module _ (b : Lent) (Q : Query) (l : List Settled) where
   )
 
   -- And then the earliest such step gives the refusal.
-  pub room-first : (k j : ℕ) → j ≤ k → (Room j → ⊥) → ((i : ℕ) → i < j → Room i) → roomUpTo b Q l k ≡ roomAt b Q l j
+  pub room-first : (k j : ℕ) → j ≤ k → (Room b Q l j → ⊥) → ((i : ℕ) → i < j → Room b Q l i) → roomUpTo b Q l k ≡ roomAt b Q l j
   unfolding roomUpTo
   room-first k j h n before = from-first (roomAt b Q l) (k + 1) 0 j (omega arith) (omega arith) (λ e. n (room-is j .0 e)) (λ i a c. room-is i .1 (before i c))

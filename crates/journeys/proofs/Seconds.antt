@@ -11,13 +11,8 @@ use lib.Signed.{mag, leZ, ltZ}
 use mir.Syntax.{w32}
 use mir.Val.{toZ, sel}
 use borrow.Author.Tests.{leb-true, leb-false, ltb-true, ltb-false, le-leb, lt-leb, lt-ltb, le-ltb}
-use Rattle.journeys.specs.Bytes.{clock}
+use Rattle.journeys.specs.Bytes.{clock, clocked}
 use Rattle.journeys.proofs.Tests.{split}
-
--- a signed second, by `clock`
-abbrev pub clocked : ℤ → ℕ
-clocked (pos n) = 2147483648 + n
-clocked (negsuc n) = 2147483647 - n
 
 pub same-leb : (a b c d : ℕ) → (a ≤ b → c ≤ d) → (b < a → d < c) → leb a b ≡ leb c d
 same-leb a b c d f g = ⊎-elim (λ t. t ∙ sym (le-leb c d (f (leb-true a b t)))) (λ t. t ∙ sym (lt-leb c d (g (leb-false a b t)))) (split (leb a b))

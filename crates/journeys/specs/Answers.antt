@@ -3,7 +3,7 @@ use mathlib.Core.Path.{_≡_}
 use mathlib.Core.Logic.{_≢_}
 use mathlib.Core.Bool.{cond}
 use mathlib.Core.List.{List, _++_, flatMap}
-use Prim.Native.Nat.{ℕ, _+_, _/_, min}
+use Prim.Native.Nat.{ℕ, _+_, _/_, _≤_, min}
 use lib.Dec.{eqb, leb}
 use lib.ListN.{length, take}
 use Rattle.journeys.specs.Bytes.{word, filled, cleared}
@@ -93,7 +93,11 @@ module _ (b : Lent) (Q : Query) (l : List Settled) where
   abbrev pub partsAfter : ℕ → List Part
   partsAfter k = partList (tables b) Q (take k l)
 
-  -- the room after the whole step k
+  -- after the whole step k the table and both lists are no larger than lent
+  abbrev pub Room : ℕ → Type 0
+  Room k = (length (heldAfter k) ≤ length (b .held) / 16) × (length (take k l) ≤ length (b .settled) / 8) × (length (partsAfter k) ≤ length (b .parts) / 12)
+
+  -- and if not, which of them is larger
   unfoldable pub roomAt : ℕ → Refusal
   roomAt k =
       orElse (unless (leb (length (heldAfter k)) (length (b .held) / 16)) 8 k)

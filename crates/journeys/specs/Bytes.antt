@@ -1,6 +1,7 @@
 -- Numbers in bytes, big-endian. Assumes nothing.
 use mathlib.Core.List.{List, [], _∷_, _++_}
 use Prim.Native.Nat.{ℕ, _+_, _-_, _*_, _/_, _%_}
+use lib.IntN.{ℤ, pos, negsuc}
 use lib.ListN.{length, getD, replicate}
 
 -- the 16 bits and the 32 bits that stand at a place
@@ -17,6 +18,11 @@ clock bits = (bits + 2147483648) % 4294967296
 
 abbrev pub midnight : ℕ
 midnight = 2147483648
+
+-- the same of a signed second
+abbrev pub clocked : ℤ → ℕ
+clocked (pos n) = 2147483648 + n
+clocked (negsuc n) = 2147483647 - n
 
 -- the four bytes of a number
 unfoldable pub word : ℕ → List ℕ

@@ -1,7 +1,8 @@
 -- What is known, met, remaining and held when S is settled, over any records that lead from vertex to vertex and make offers. Assumes nothing.
+use mathlib.Core.Path.{_≡_}
 use mathlib.Core.Bool.{Bool, not, cond, _&&_, _||_}
 use mathlib.Core.List.{List, [], _∷_}
-use Prim.Native.Nat.{ℕ, min}
+use Prim.Native.Nat.{ℕ, min, _<_}
 use lib.Dec.{eqb, ltb}
 use Rattle.journeys.specs.Counting.{none, least, count, joined}
 use Rattle.journeys.specs.Order.{Settled}
@@ -57,6 +58,10 @@ module _ (G : Network) (far : ℕ → ℕ) where
   -- met, unless it is in S and all its departing records lead into S
   unfoldable pub held : ℕ → Bool
   held v = met v && not (within far v && eqb (remaining v) 0)
+
+  -- and then it is dropped
+  abbrev pub Dropped : ℕ → Type 0
+  Dropped v = (far v < none) × (remaining v ≡ 0)
 
   unfoldable pub row : ℕ → Held
   row v = record { vertex = v; distance = known v; state = cond (within far v) 1 0; remaining = remaining v }

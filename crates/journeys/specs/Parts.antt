@@ -1,9 +1,9 @@
 -- The covered parts of walk records, in the order in which they are written. Assumes nothing.
 use mathlib.Core.Bool.{cond}
 use mathlib.Core.List.{List, [], _∷_, _++_, flatMap}
-use Prim.Native.Nat.{ℕ, _-_, max}
+use Prim.Native.Nat.{ℕ, _-_, max, _≤_}
 use lib.Dec.{eqb}
-use Rattle.journeys.specs.Counting.{none, joined}
+use Rattle.journeys.specs.Counting.{none, joined, In}
 use Rattle.journeys.specs.Tables.{Tables, walk, walkCount}
 use Rattle.journeys.specs.Query.{Query, allowed, asked}
 use Rattle.journeys.specs.Order.{Settled}
@@ -41,3 +41,11 @@ module _ (N : Tables) (Q : Query) where
 
   unfoldable pub partList : List Settled → List Part
   partList S = firstParts ++ flatMap partsAt S
+
+-- the place x of record i lies in a listed part
+pub record Covered (ps : List Part) (i x : ℕ) : Type 0 where
+  pub start : ℕ
+  pub end : ℕ
+  pub listed : In (record { walk = i; start = start; end = end }) ps
+  pub low : start ≤ x
+  pub high : x ≤ end

@@ -13,6 +13,7 @@ use Rattle.journeys.specs.Tables as tables
 use Rattle.journeys.specs.Tables.{walkAt}
 use Rattle.journeys.specs.Parts.{Part, part}
 use Rattle.journeys.specs.Answers.{partBytes}
+use Rattle.journeys.proofs.Counting.{flat-append, flat-length}
 use Rattle.records.specs.Written.{written, partOf}
 use Rattle.records.specs.Meaning.{walkOf}
 use Rattle.records.specs.declared.Walk.{Walk}
@@ -31,16 +32,6 @@ pub part-some : (i a z : ℕ) → (a ≡ z → ⊥) → part i a z ≡ partOf i 
 unfolding part
 part-some i a z n = rw (ne-eqb a z n)
 
-flat-length : (ps : List Part) → length (flatMap partBytes ps) ≡ 12 * length ps
-unfolding flatMap
-flat-length [] = refl
-flat-length (p ∷ ps) = omega (arith, length-append (partBytes p) (flatMap partBytes ps), length-part p, flat-length ps)
-
-flat-append : (ps qs : List Part) → flatMap partBytes (ps ++ qs) ≡ flatMap partBytes ps ++ flatMap partBytes qs
-unfolding flatMap
-flat-append [] qs = refl
-flat-append (p ∷ ps) qs = ap (λ (x : List ℕ). partBytes p ++ x) (flat-append ps qs) ∙ sym (append-assoc (partBytes p) (flatMap partBytes ps) (flatMap partBytes qs))
-
 -- nothing listed
 pub behind-none : (count : ℕ) (b : List ℕ) → count ≤ length b / 12 → Behind count [] b b count
 unfolding written flatMap
@@ -49,8 +40,8 @@ behind-none count b h = record { counted = omega arith; room = h; bytes = sym (a
 -- more listed behind what is listed
 pub behind-more : {count c c′ : ℕ} {ps qs : List Part} {b b′ b″ : List ℕ} → count ≤ length b / 12 → Behind count ps b b′ c → Behind c qs b′ b″ c′ → Behind count (ps ++ qs) b b″ c′
 behind-more {count} {c} {c′} {ps} {qs} {b} {b′} {b″} h x y =
-    let fit : 12 * count + length (flatMap partBytes ps) ≤ length b = omega (arith, flat-length ps, x .counted, x .room) in
-    let e : 12 * c ≡ 12 * count + length (flatMap partBytes ps) = omega (arith, flat-length ps, x .counted) in
+    let fit : 12 * count + length (flatMap partBytes ps) ≤ length b = omega (arith, flat-length partBytes 12 length-part ps, x .counted, x .room) in
+    let e : 12 * c ≡ 12 * count + length (flatMap partBytes ps) = omega (arith, flat-length partBytes 12 length-part ps, x .counted) in
     record {
       counted = omega (arith, x .counted, y .counted, length-append ps qs);
       room = subst (λ (k : ℕ). c′ ≤ k / 12) (ap length (x .bytes) ∙ length-written b (12 * count) (flatMap partBytes ps) fit) (y .room);
@@ -58,12 +49,12 @@ behind-more {count} {c} {c′} {ps} {qs} {b} {b′} {b″} h x y =
           ∙ ap (λ (z : List ℕ). written z (12 * c) (flatMap partBytes qs)) (x .bytes)
           ∙ ap (λ (k : ℕ). written (written b (12 * count) (flatMap partBytes ps)) k (flatMap partBytes qs)) e
           ∙ written-next b (12 * count) (flatMap partBytes ps) fit (flatMap partBytes qs)
-          ∙ ap (written b (12 * count)) (sym (flat-append ps qs));
+          ∙ ap (written b (12 * count)) (sym (flat-append partBytes ps qs));
     }
 
 pub over-more : {count c : ℕ} {ps qs : List Part} {b b′ b″ : List ℕ} → count ≤ length b / 12 → Behind count ps b b′ c → Overfull c qs b′ b″ → Overfull count (ps ++ qs) b b″
 over-more {count} {c} {ps} {qs} {b} {b′} {b″} h x y =
-    let fit : 12 * count + length (flatMap partBytes ps) ≤ length b = omega (arith, flat-length ps, x .counted, x .room) in
+    let fit : 12 * count + length (flatMap partBytes ps) ≤ length b = omega (arith, flat-length partBytes 12 length-part ps, x .counted, x .room) in
     let e : length b′ ≡ length b = ap length (x .bytes) ∙ length-written b (12 * count) (flatMap partBytes ps) fit in
     record { over = omega (arith, ap (λ (k : ℕ). k / 12) e, y .over, x .counted, length-append ps qs); same = y .same ∙ e }
 
@@ -113,7 +104,7 @@ module _ (count : ℕ) (ps : List Part) (b b′ : List ℕ) (h : count ≤ lengt
   pub listed-room : (c : ℕ) → ListedIs count ps b b′ (Fits c) → c ≤ length b′ / 12
   unfolding ListedIs
   listed-room c x =
-      let fit : 12 * count + length (flatMap partBytes ps) ≤ length b = omega (arith, flat-length ps, x .counted, x .room) in
+      let fit : 12 * count + length (flatMap partBytes ps) ≤ length b = omega (arith, flat-length partBytes 12 length-part ps, x .counted, x .room) in
       subst (λ (k : ℕ). c ≤ k / 12) (sym (ap length (x .bytes) ∙ length-written b (12 * count) (flatMap partBytes ps) fit)) (x .room)
 
   pub listed-end : (c : ℕ) → ListedIs count ps b b′ (Fits c) → ListedIs count (ps ++ []) b b′ (Fits c)
@@ -190,7 +181,7 @@ listed-is count ps b b′ r r′ e x = subst (λ (z : Listed). ListedIs count ps
 pub listed-length : (count : ℕ) (ps : List Part) (b b′ : List ℕ) (c : ℕ) → ListedIs count ps b b′ (Fits c) → length b′ ≡ length b
 unfolding ListedIs
 listed-length count ps b b′ c x =
-    let fit : 12 * count + length (flatMap partBytes ps) ≤ length b = omega (arith, flat-length ps, x .counted, x .room) in
+    let fit : 12 * count + length (flatMap partBytes ps) ≤ length b = omega (arith, flat-length partBytes 12 length-part ps, x .counted, x .room) in
     ap length (x .bytes) ∙ length-written b (12 * count) (flatMap partBytes ps) fit
 
 module _ (e : Road) (allowed x : ℕ) (q : x ≡ e .near - allowed) (b b′ : List ℕ) (r : Listed) (one : ListedIs 0 (part (e .walk) x (e .near)) b b′ r) where

@@ -1,21 +1,19 @@
 -- The program's text: room for all lines, and the tables of the job in the run's hands. Assumes nothing.
 use mathlib.Core.Path.{_≡_, refl, sym, ap, ap₂, subst, _∙_}
-use mathlib.Core.Logic.{_⊎_, inl, inr, ⊎-elim}
-use mathlib.Core.Bool.{true, false, cond}
+use mathlib.Core.Bool.{true, cond}
 use mathlib.Core.List.{List, []}
-use Prim.Native.Nat.{ℕ, zero, suc, _+_, _*_, _/_, _≤_, min}
+use Prim.Native.Nat.{ℕ, zero, suc, _+_, _*_, _/_, _≤_}
 use native.Mathlib.Omega.{arith}
-use lib.Dec.{eqb, leb}
+use lib.Dec.{leb}
 use lib.IntN.{ℤ}
 use lib.ListN.{length, take, drop, length-append, length-replicate}
 use lib.Seq.{take-at}
-use borrow.Author.Tests.{eqb-true, eqb-false, le-leb}
+use borrow.Author.Tests.{le-leb}
+use Rattle.journeys.proofs.Determined.{counts-within}
 use Rattle.journeys.specs.Counting.{none}
 use Rattle.journeys.specs.Query.{Query}
-use Rattle.journeys.specs.Order.{Settled}
-use Rattle.journeys.specs.Answers.{Lent, Answer, early, refusedEarly, refusedLate, roomUpTo, acceptedAfter, answerOver, Allowed}
-use Rattle.journeys.proofs.Tests.{split, cond-true, cond-false, and-true}
-use Rattle.journeys.proofs.Refusals.{room-exactly}
+use Rattle.journeys.specs.Answers.{Answer, Allowed}
+use Rattle.journeys.proofs.Tests.{cond-true, and-true}
 use Rattle.search.specs.Asked.{asking}
 use Rattle.search.specs.Progress.{answerOf}
 use Rattle.search.specs.declared.Answer as search
@@ -28,36 +26,6 @@ use Rattle.job.specs.declared.Job.{Job}
 use Rattle.job.specs.declared.Job.the-variants.{Good, Faulty}
 use Rattle.job.proofs.Bodies.{length-body, bodies-next, no-bodies, laid-of}
 use Rattle.reach.specs.Says.{roomy, Texts, SaysOf, Says, Ran, Answered}
-
--- ---- an answer counts no more records than were lent
-module _ (b : Lent) (Q : Query) (limit : ℕ) where
-  abbrev Within : Answer → Type 0
-  Within a = (a .settledCount ≤ length (b .settled) / 8) × (a .partCount ≤ length (b .parts) / 12) × (a .heldCount ≤ length (b .held) / 16)
-
-  none-counted : (a : Answer) → a .settledCount ≡ 0 → a .partCount ≡ 0 → a .heldCount ≡ 0 → Within a
-  none-counted a x y z = (omega arith, omega arith, omega arith)
-
-  over-within : (l : List Settled) → Within (answerOver b Q l limit)
-  unfolding answerOver acceptedAfter refusedLate
-  over-within l = go (split (eqb (roomUpTo b Q l k .number) 0))
-    where
-      k : ℕ
-      k = min limit (length l)
-
-      go : (eqb (roomUpTo b Q l k .number) 0 ≡ true) ⊎ (eqb (roomUpTo b Q l k .number) 0 ≡ false)
-          → Within (cond (eqb (roomUpTo b Q l k .number) 0) (acceptedAfter b Q l k) (refusedLate b (roomUpTo b Q l k)))
-      go (inl t) =
-          let R = room-exactly b Q l k .0 (eqb-true _ 0 t) k (let z : k ≤ k = omega arith in z) in
-          subst Within (sym (cond-true (acceptedAfter b Q l k) (refusedLate b (roomUpTo b Q l k)) t)) (R .1, R .2, R .0)
-      go (inr t) =
-          subst Within (sym (cond-false (acceptedAfter b Q l k) (refusedLate b (roomUpTo b Q l k)) t)) (none-counted (refusedLate b (roomUpTo b Q l k)) refl refl refl)
-
-  counts-within : (a : Answer) → Allowed b Q limit a → Within a
-  unfolding refusedEarly
-  counts-within a A =
-      ⊎-elim (λ (t : eqb (early b Q .number) 0 ≡ true). let x = A .accepted (eqb-true _ 0 t) in subst Within (sym (x .2)) (over-within (x .0)))
-      (λ (t : eqb (early b Q .number) 0 ≡ false).
-      subst Within (sym (A .refused (eqb-false _ 0 t))) (none-counted (refusedEarly b (early b Q)) refl refl refl)) (split (eqb (early b Q .number) 0))
 
 -- ---- the text of a run
 module _ (v w h : List ℕ) (Q : Query) (out held settled parts : List ℕ) (x : search.Answer) (room : 100548 ≤ length out)

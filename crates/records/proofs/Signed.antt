@@ -11,10 +11,10 @@ use mir.Syntax.{w32}
 use mir.Val.{SFits, toZ, ofZ}
 use mir.ValLaws.{toZ-ofZ, toZ-pos}
 use borrow.Author.Tests.{lt-ltb, le-ltb, ltb-true, ltb-false}
-use Rattle.journeys.specs.Bytes.{clock, midnight}
+use Rattle.journeys.specs.Bytes.{clock, midnight, clocked}
 use Rattle.journeys.specs.Query.{Query, before}
 use Rattle.journeys.proofs.Tests.{split}
-use Rattle.journeys.proofs.Seconds.{clocked, clocked-le, clocked-lt, clocked-less}
+use Rattle.journeys.proofs.Seconds.{clocked-le, clocked-lt, clocked-less}
 use Rattle.records.specs.Quantities.{DayTime, ticksBefore}
 
 -- `clock` and signed seconds are each other's reading

@@ -16,10 +16,9 @@ use Rattle.journeys.specs.Order.{Settled}
 use Rattle.journeys.specs.Network.{Network, distanceIn}
 use Rattle.journeys.specs.Records.{network, departing}
 use Rattle.journeys.specs.Parts.{Part, partList, firstParts}
-use Rattle.journeys.specs.Answers.{Lent, tables, heldAfter, partsAfter, roomAt}
+use Rattle.journeys.specs.Answers.{Lent, tables, heldAfter, partsAfter, roomAt, Room}
 use Rattle.journeys.proofs.Valid.{Valid, GoodWalk, good-walk}
 use Rattle.journeys.proofs.Decoding.{vertex-count, walk-count, vertex-at, walk-at}
-use Rattle.journeys.proofs.Refusals.{Room}
 use Rattle.journeys.proofs.Fits.{held-most}
 use Rattle.records.specs.Meaning.{walkOf}
 use Rattle.records.specs.Written.{written}

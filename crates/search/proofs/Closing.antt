@@ -20,10 +20,11 @@ use Rattle.journeys.specs.Parts.{Part, partsAt, partList, firstParts}
 use Rattle.journeys.specs.Refusals as refusals
 use Rattle.journeys.specs.Refusals.{unless, orElse, wholeOf, tableLengths, bufferLengths}
 use Rattle.journeys.specs.Answers as answers
-use Rattle.journeys.specs.Answers.{Lent, tables, early, refusedEarly, refusedLate, heldBytes, settledBytes, partBytes, heldAfter, partsAfter, roomAt, roomUpTo, acceptedAfter, answerOver, Allowed}
+use Rattle.journeys.specs.Answers.{Lent, tables, early, refusedEarly, refusedLate, heldBytes, settledBytes, partBytes, heldAfter, partsAfter, roomAt, roomUpTo, acceptedAfter, answerOver, Allowed, Room}
 use Rattle.journeys.proofs.Tests.{cond-true, cond-false}
+use Rattle.journeys.proofs.Counting.{flat-append, flat-length}
 use Rattle.journeys.proofs.Valid.{Valid, early-valid}
-use Rattle.journeys.proofs.Refusals.{or-fine, unless-fine, Room, room-is, room-exactly, room-first}
+use Rattle.journeys.proofs.Refusals.{or-fine, unless-fine, room-is, room-exactly, room-first}
 use Rattle.journeys.proofs.Demands.{orderOf, order-is}
 use Rattle.journeys.proofs.Document.{ways, laws, strict, order-dist, allowed-low}
 use Rattle.journeys.proofs.Settling.{order-size}
@@ -43,7 +44,7 @@ use Rattle.search.specs.declared.Ended.{Ended}
 use Rattle.search.specs.declared.Ended.the-variants.{Done, Refused}
 use Rattle.search.proofs.HeldMap.{Bounded, size-held, rows-held}
 use Rattle.search.proofs.Listed.{parts-first}
-use Rattle.search.proofs.Onward.{bounded-is, flat-append, flat-length}
+use Rattle.search.proofs.Onward.{bounded-is}
 use Rattle.search.proofs.Beginning.{road, capacity}
 
 -- ---- a buffer with bytes at its front

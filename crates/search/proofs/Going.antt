@@ -6,6 +6,7 @@ use Prim.Native.Nat.{ℕ, suc, _≤_, _<_}
 use native.Mathlib.Omega.{arith}
 use lib.ListN.{length, take}
 use borrow.Author.Tests.{eq-eqb, ne-eqb}
+use Rattle.journeys.specs.Bytes.{clocked}
 use Rattle.journeys.specs.Counting.{In}
 use Rattle.journeys.specs.Tables.{Tables, tablesOf}
 use Rattle.journeys.specs.Query.{Query, allowed}
@@ -21,7 +22,6 @@ use Rattle.journeys.proofs.Known.{upd, Next}
 use Rattle.journeys.proofs.Greedy.{State}
 use Rattle.journeys.proofs.Settling.{order-next, order-state}
 use Rattle.journeys.proofs.Firsts.{distance-snoc}
-use Rattle.journeys.proofs.Seconds.{clocked}
 use Rattle.records.specs.declared.Seconds.{Seconds}
 use Rattle.worktable.specs.Map as map
 use Rattle.worktable.specs.Map.{Map, remainingOf, Foremost}

@@ -1,13 +1,14 @@
 -- One step from where the run stands: it stands one step further, or room is refused there. Assumes nothing.
-use mathlib.Core.Path.{_≡_, refl, sym, ap, ap₂, subst, _∙_}
+use mathlib.Core.Path.{_≡_, sym, ap, ap₂, subst, _∙_}
 use mathlib.Core.Logic.{inl, inr, ⊎-elim}
 use mathlib.Core.Bool.{true, false}
-use mathlib.Core.List.{List, [], _∷_, _++_, flatMap, append-nil, append-assoc}
+use mathlib.Core.List.{List, [], _∷_, _++_, flatMap}
 use Prim.Native.Nat.{ℕ, suc, _+_, _-_, _*_, _/_, _≤_, _<_, min}
 use native.Mathlib.Omega.{arith}
 use lib.Dec.{leb}
 use lib.ListN.{length, take, length-append, length-take}
 use borrow.Author.Tests.{ne-eqb, le-leb, lt-leb}
+use Rattle.journeys.specs.Bytes.{clocked}
 use Rattle.journeys.specs.Tables.{Tables, vertexCount, walkAt}
 use Rattle.journeys.specs.Query.{Query, allowed, asked}
 use Rattle.journeys.specs.Journeys.{Distance}
@@ -17,14 +18,13 @@ use Rattle.journeys.specs.Network.{Network, distanceIn}
 use Rattle.journeys.specs.Records.{seed, network}
 use Rattle.journeys.specs.Parts.{Part, partsAt, partList, firstParts}
 use Rattle.journeys.specs.Refusals.{Refusal}
-use Rattle.journeys.specs.Answers.{Lent, tables, heldAfter, partsAfter, settledBytes, partBytes, roomAt}
+use Rattle.journeys.specs.Answers.{Lent, tables, heldAfter, partsAfter, settledBytes, partBytes, roomAt, Room}
 use Rattle.journeys.proofs.Tests.{le-or-lt}
+use Rattle.journeys.proofs.Counting.{flat-snoc, flat-append, flat-length}
 use Rattle.journeys.proofs.Valid.{Valid, good-walk}
 use Rattle.journeys.proofs.Document.{laws}
 use Rattle.journeys.proofs.Decoding.{vertex-count}
-use Rattle.journeys.proofs.Refusals.{Room}
 use Rattle.journeys.proofs.Fits.{held-most}
-use Rattle.journeys.proofs.Seconds.{clocked}
 use Rattle.records.specs.Written.{written}
 use Rattle.records.specs.declared.Seconds.{Seconds}
 use Rattle.records.proofs.Filling.{length-written, written-next, length-settled, length-part}
@@ -41,21 +41,6 @@ use Rattle.search.proofs.HeldMap.{Bounded, size-held, foremost-next}
 use Rattle.search.proofs.Early.{failed, passed, last-failed}
 use Rattle.search.proofs.Listed.{parts-here}
 use Rattle.search.proofs.Going.{one-further, map-next}
-
-flat-snoc : {A B : Type 0} (f : A → List B) (xs : List A) (y : A) → flatMap f (xs ++ y ∷ []) ≡ flatMap f xs ++ f y
-unfolding flatMap
-flat-snoc f [] y = append-nil (f y)
-flat-snoc f (x ∷ xs) y = ap (λ z. f x ++ z) (flat-snoc f xs y) ∙ sym (append-assoc (f x) (flatMap f xs) (f y))
-
-pub flat-append : {A B : Type 0} (f : A → List B) (xs ys : List A) → flatMap f (xs ++ ys) ≡ flatMap f xs ++ flatMap f ys
-unfolding flatMap
-flat-append f [] ys = refl
-flat-append f (x ∷ xs) ys = ap (λ z. f x ++ z) (flat-append f xs ys) ∙ sym (append-assoc (f x) (flatMap f xs) (flatMap f ys))
-
-pub flat-length : {A B : Type 0} (f : A → List B) (n : ℕ) → ((x : A) → length (f x) ≡ n) → (xs : List A) → length (flatMap f xs) ≡ n * length xs
-unfolding flatMap
-flat-length f n e [] = omega arith
-flat-length f n e (x ∷ xs) = simp length-append (omega (arith, e x, flat-length f n e xs))
 
 -- No vertex beyond the table is a seed, and no record leaves one.
 pub bounded-is : (N : Tables) (Q : Query) → Valid N Q → Bounded (network N Q)

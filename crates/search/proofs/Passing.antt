@@ -9,6 +9,7 @@ use native.Mathlib.Decide.{ℕ-discrete}
 use lib.Dec.{eqb}
 use lib.ListN.{length}
 use borrow.Author.Tests.{lt-ltb, le-ltb, eq-eqb, eqb-true}
+use Rattle.journeys.specs.Bytes.{clocked}
 use Rattle.journeys.specs.Counting.{none, count}
 use Rattle.journeys.specs.Tables.{Tables, vertex, walk, hop, vertexCount, walkCount, hopCount, tablesOf, vertexAt, hopAt}
 use Rattle.journeys.specs.Query.{Query, allowed, before}
@@ -27,7 +28,6 @@ use Rattle.journeys.proofs.Known.{upd, Next}
 use Rattle.journeys.proofs.Step.{toward, toward-skip, remaining-step}
 use Rattle.journeys.proofs.Greedy.{State}
 use Rattle.journeys.proofs.Held.{departs, departs-is, partway-none, partway-all}
-use Rattle.journeys.proofs.Seconds.{clocked}
 use Rattle.records.specs.Arriving.{firstOf, endOf}
 use Rattle.records.specs.Quantities.{DayTime}
 use Rattle.records.specs.declared.Kind.the-variants.{Walks, Hops}

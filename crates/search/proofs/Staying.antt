@@ -5,6 +5,7 @@ use Prim.Native.Nat.{ℕ, suc, _+_, _-_, _/_, _≤_, _<_}
 use native.Mathlib.Omega.{arith}
 use lib.ListN.{length, take, length-take}
 use borrow.Author.Tests.{le-leb, lt-leb}
+use Rattle.journeys.specs.Bytes.{clocked}
 use Rattle.journeys.specs.Counting.{none}
 use Rattle.journeys.specs.Tables.{Tables, vertexAt, walkAt}
 use Rattle.journeys.specs.Query as query
@@ -20,7 +21,6 @@ use Rattle.journeys.proofs.Decoding.{vertex-count, walk-count}
 use Rattle.journeys.proofs.Document.{ways, laws, strict, order-dist, allowed-low}
 use Rattle.journeys.proofs.Demands.{orderOf, order-is}
 use Rattle.journeys.proofs.Settling.{order-end, order-size}
-use Rattle.journeys.proofs.Seconds.{clocked}
 use Rattle.records.specs.Arriving.{firstOf, endOf}
 use Rattle.records.specs.declared.Kind.the-variants.{Walks, Hops}
 use Rattle.records.specs.declared.Seconds.{Seconds}

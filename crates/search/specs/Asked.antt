@@ -1,8 +1,8 @@
 -- The query as it is asked of the run, in the numbers of document 01. Assumes nothing.
 use Prim.Native.Nat.{ℕ}
 use lib.IntN.{ℤ}
+use Rattle.journeys.specs.Bytes.{clocked}
 use Rattle.journeys.specs.Query as query
-use Rattle.journeys.proofs.Seconds.{clocked}
 use Rattle.search.specs.declared.Query.{Query}
 
 -- by its five numbers: a walk record, the offset on it, the arrival in signed seconds, the duration, the speed

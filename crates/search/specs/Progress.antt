@@ -16,8 +16,7 @@ use Rattle.journeys.specs.Records.{network}
 use Rattle.journeys.specs.Parts.{Part, firstParts, partsAt, partList}
 use Rattle.journeys.specs.Bytes.{filled}
 use Rattle.journeys.specs.Answers as answers
-use Rattle.journeys.specs.Answers.{Lent, tables, heldBytes, settledBytes, partBytes, roomAt}
-use Rattle.journeys.proofs.Refusals.{Room}
+use Rattle.journeys.specs.Answers.{Lent, tables, heldBytes, settledBytes, partBytes, roomAt, Room}
 use Rattle.records.specs.Written.{written, settledOf}
 use Rattle.worktable.specs.Map.{Map, size, rows, Foremost, Waits}
 use Rattle.worktable.specs.Table.{mapOf, Holds, Place}

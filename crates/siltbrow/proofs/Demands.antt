@@ -16,16 +16,14 @@ use Rattle.journeys.specs.Query.{Query, allowed}
 use Rattle.journeys.specs.Journeys.{Journey, Distance, Inside}
 use Rattle.journeys.specs.Order as order
 use Rattle.journeys.specs.Order.{Settled, Order}
-use Rattle.journeys.specs.Network.{Network, distanceIn, met, row, entry, heldList}
+use Rattle.journeys.specs.Network.{Network, distanceIn, met, row, entry, heldList, Dropped}
 use Rattle.journeys.specs.Records.{network}
-use Rattle.journeys.specs.Parts.{partList}
+use Rattle.journeys.specs.Parts.{partList, Covered}
 use Rattle.journeys.specs.Refusals as refusals
-use Rattle.journeys.specs.Answers.{Lent, Answer, tables, early, refusedEarly, refusedLate, heldBytes, settledBytes, partBytes, roomAt, roomUpTo, acceptedAfter, answerOver}
+use Rattle.journeys.specs.Answers.{Lent, Answer, tables, early, refusedEarly, refusedLate, heldBytes, settledBytes, partBytes, roomAt, roomUpTo, acceptedAfter, answerOver, Room}
 use Rattle.journeys.proofs.Tests.{cond-false}
 use Rattle.journeys.proofs.Valid.{Valid, early-valid}
-use Rattle.journeys.proofs.Refusals.{Room, room-is, room-exactly, room-first}
-use Rattle.journeys.proofs.Coverage.{Covered}
-use Rattle.journeys.proofs.Held.{Dropped}
+use Rattle.journeys.proofs.Refusals.{room-is, room-exactly, room-first}
 use Rattle.journeys.proofs.Demands.{order-unique, listed-exactly, figure-exactly, place-exactly, held-exactly, held-means, dropped-stays-absent}
 use Rattle.journeys.proofs.Determined.{Accepted, accepted-run, finished-all}
 use Rattle.records.proofs.Filling.{word-back}

@@ -1,4 +1,5 @@
 -- `arrivals::hop_offer` meets its contract: the two tests are those of the definition. Assumes nothing.
+use Rattle.journeys.specs.Bytes.{clocked}
 use Rattle.journeys.specs.Counting.{none}
 use mathlib.Core.Path.{_≡_, sym, _∙_}
 use mathlib.Core.Bool.{true, false}
@@ -8,7 +9,6 @@ use lib.Dec.{leb}
 use borrow.Author.Tests.{leb-true, le-leb, lt-leb}
 use Rattle.journeys.specs.Records.{offer}
 use Rattle.journeys.specs.Tables.{hopAt}
-use Rattle.journeys.proofs.Seconds.{clocked}
 use Rattle.journeys.proofs.Tests.{and-true, and-left, and-right, cond-true, cond-false}
 use Rattle.records.proofs.Signed.{clocked-signed}
 use borrow.Author.Needs.{needs}

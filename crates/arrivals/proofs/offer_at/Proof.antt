@@ -1,7 +1,7 @@
 -- `arrivals::offer_at` meets its contract; an offer is none or far below the limit of an entry. Assumes nothing.
 use Rattle.arrivals.proofs.Offers.{hop-distance}
 use Rattle.arrivals.specs.Runs.{recordOf}
-use Rattle.journeys.proofs.Seconds.{clocked}
+use Rattle.journeys.specs.Bytes.{clocked}
 use Rattle.journeys.specs.Records.{offer}
 use Rattle.journeys.specs.Tables.{walkAt, hopAt}
 use borrow.Author.Tests.{lt-ltb, le-ltb}
