@@ -2,9 +2,9 @@
 use mathlib.Core.Path.{_≡_, refl, sym, ap, _∙_}
 use mathlib.Core.Logic.{_≢_, ⊎-elim}
 use mathlib.Core.Bool.{Bool, true, false, _||_}
-use mathlib.Core.List.{List, [], _∷_}
-use Prim.Native.Nat.{ℕ, zero, suc, _+_, _-_, _*_, _/_, _%_, _≤_, _<_}
-use native.Mathlib.Nat.{div-div-eq-div-mul, add-div-right, add-mul-div-left, div-lt-iff-lt-mul, mul-comm, mul-left-comm, zero-div}
+use mathlib.Core.List.{List}
+use Prim.Native.Nat.{ℕ, zero, suc, _+_, _-_, _*_, _/_, _%_, _≤_, _<_, _^_}
+use native.Mathlib.Nat.{div-div-eq-div-mul, add-div-right, add-mul-div-left, div-lt-iff-lt-mul, mul-comm, mul-left-comm, zero-div, mod-eq-of-lt, pow-zero, pow-suc}
 use native.Mathlib.Decide.{ℕ-discrete}
 use native.Mathlib.Omega.{arith}
 use lib.Dec.{eqb}
@@ -13,29 +13,6 @@ use lib.Seq.{getD-set-same, getD-set-other}
 use borrow.Author.Tests.{eq-eqb, ne-eqb}
 use Rattle.journeys.proofs.Tests.{le-or-lt}
 use Rattle.arrivals.specs.Marks.{power, bit}
-
-abbrev pub table : List ℕ
-table = 1 ∷ 2 ∷ 4 ∷ 8 ∷ 16 ∷ 32 ∷ 64 ∷ 128 ∷ 256 ∷ 512 ∷ 1024 ∷ 2048 ∷ 4096 ∷ 8192 ∷ 16384 ∷ 32768 ∷ []
-
-pub powers-is : (k : ℕ) → k < 16 → getD table k 0 ≡ power k
-unfolding power
-powers-is zero h = refl
-powers-is (suc zero) h = refl
-powers-is (suc (suc zero)) h = refl
-powers-is (suc (suc (suc zero))) h = refl
-powers-is (suc (suc (suc (suc zero)))) h = refl
-powers-is (suc (suc (suc (suc (suc zero))))) h = refl
-powers-is (suc (suc (suc (suc (suc (suc zero)))))) h = refl
-powers-is (suc (suc (suc (suc (suc (suc (suc zero))))))) h = refl
-powers-is (suc (suc (suc (suc (suc (suc (suc (suc zero)))))))) h = refl
-powers-is (suc (suc (suc (suc (suc (suc (suc (suc (suc zero))))))))) h = refl
-powers-is (suc (suc (suc (suc (suc (suc (suc (suc (suc (suc zero)))))))))) h = refl
-powers-is (suc (suc (suc (suc (suc (suc (suc (suc (suc (suc (suc zero))))))))))) h = refl
-powers-is (suc (suc (suc (suc (suc (suc (suc (suc (suc (suc (suc (suc zero)))))))))))) h = refl
-powers-is (suc (suc (suc (suc (suc (suc (suc (suc (suc (suc (suc (suc (suc zero))))))))))))) h = refl
-powers-is (suc (suc (suc (suc (suc (suc (suc (suc (suc (suc (suc (suc (suc (suc zero)))))))))))))) h = refl
-powers-is (suc (suc (suc (suc (suc (suc (suc (suc (suc (suc (suc (suc (suc (suc (suc zero))))))))))))))) h = refl
-powers-is (suc (suc (suc (suc (suc (suc (suc (suc (suc (suc (suc (suc (suc (suc (suc (suc i)))))))))))))))) h = absurd (omega arith)
 
 pub power-some : (k : ℕ) → 0 < power k
 unfolding power
@@ -149,32 +126,43 @@ zero-bit s e i h =
     ∙ ap (λ (x : ℕ). eqb (x / power (i % 16) % 2) 1) (getD-replicate 2048 (i / 16) 0 0 (omega arith))
     ∙ ap (λ (x : ℕ). eqb (x % 2) 1) (zero-div (power (i % 16)))
 
--- the code's test of a bit, by the table of powers
-module _ (s : List ℕ) (k : ℕ) where
-  pub is-marked : getD s (k / 16) 0 / getD table (k % 16) 0 % 2 ≡ 1 → bit s k ≡ true
-  unfolding bit
-  is-marked h = eq-eqb (getD s (k / 16) 0 / power (k % 16) % 2) 1 (rw (← powers-is (k % 16) (omega arith)) h)
+-- the shift that the code makes
+two-to : (k : ℕ) → 2 ^ k ≡ power k
+unfolding power
+two-to zero = pow-zero 2
+two-to (suc k) = pow-suc 2 k ∙ omega (arith, two-to k)
 
-  pub not-marked : (getD s (k / 16) 0 / getD table (k % 16) 0 % 2 ≡ 1 → ⊥) → bit s k ≡ false
-  unfolding bit
-  not-marked h = ne-eqb (getD s (k / 16) 0 / power (k % 16) % 2) 1 (λ q. h (rw (powers-is (k % 16) (omega arith)) q))
+pub shifted : (k : ℕ) → k < 16 → 1 * 2 ^ k % 65536 ≡ power k
+shifted k h =
+    let one : 1 * 2 ^ k ≡ power k = omega (arith, two-to k) in
+    let fits : power k < 65536 = omega (arith, set-fits 0 k (ap (λ (x : ℕ). x % 2) (zero-div (power k))) h (omega arith)) in
+    ap (λ (x : ℕ). x % 65536) one ∙ mod-eq-of-lt fits
 
-  pub bit-clear : (getD s (k / 16) 0 / getD table (k % 16) 0 % 2 ≡ 1 → ⊥) → getD s (k / 16) 0 / power (k % 16) % 2 ≡ 0
+-- the code's test of a bit; p is the power
+module _ (s : List ℕ) (k p : ℕ) (e : p ≡ power (k % 16)) where
+  pub is-marked : getD s (k / 16) 0 / p % 2 ≡ 1 → bit s k ≡ true
+  unfolding bit
+  is-marked h = eq-eqb (getD s (k / 16) 0 / power (k % 16) % 2) 1 (rw (← e) h)
+
+  pub not-marked : (getD s (k / 16) 0 / p % 2 ≡ 1 → ⊥) → bit s k ≡ false
+  unfolding bit
+  not-marked h = ne-eqb (getD s (k / 16) 0 / power (k % 16) % 2) 1 (λ q. h (rw e q))
+
+  pub bit-clear : (getD s (k / 16) 0 / p % 2 ≡ 1 → ⊥) → getD s (k / 16) 0 / power (k % 16) % 2 ≡ 0
   bit-clear h =
       ⊎-elim (λ (q : getD s (k / 16) 0 / power (k % 16) % 2 ≤ 0). omega arith)
-      (λ (q : 0 < getD s (k / 16) 0 / power (k % 16) % 2). absurd (h (rw (powers-is (k % 16) (omega arith)) (omega arith))))
+      (λ (q : 0 < getD s (k / 16) 0 / power (k % 16) % 2). absurd (h (rw e (omega arith))))
       (le-or-lt (getD s (k / 16) 0 / power (k % 16) % 2) 0)
 
-  pub mark-fits : (getD s (k / 16) 0 / getD table (k % 16) 0 % 2 ≡ 1 → ⊥) → getD s (k / 16) 0 < 65536 → getD s (k / 16) 0 + getD table (k % 16) 0 < 65536
-  mark-fits h l = rw (powers-is (k % 16) (omega arith)) (set-fits (getD s (k / 16) 0) (k % 16) (bit-clear h) (omega arith) l)
+  pub mark-fits : (getD s (k / 16) 0 / p % 2 ≡ 1 → ⊥) → getD s (k / 16) 0 < 65536 → getD s (k / 16) 0 + p < 65536
+  mark-fits h l = rw e (set-fits (getD s (k / 16) 0) (k % 16) (bit-clear h) (omega arith) l)
 
-  pub mark-sets : (getD s (k / 16) 0 / getD table (k % 16) 0 % 2 ≡ 1 → ⊥) → k / 16 < length s
-      → (i : ℕ) → bit (set s (k / 16) (getD s (k / 16) 0 + getD table (k % 16) 0)) i ≡ (bit s i || eqb k i)
-  mark-sets h l i = rw (powers-is (k % 16) (omega arith)) (newly-marked s k l (bit-clear h) i)
+  pub mark-sets : (getD s (k / 16) 0 / p % 2 ≡ 1 → ⊥) → k / 16 < length s → (i : ℕ) → bit (set s (k / 16) (getD s (k / 16) 0 + p)) i ≡ (bit s i || eqb k i)
+  mark-sets h l i = rw e (newly-marked s k l (bit-clear h) i)
 
-  pub power-above-zero : 0 < getD table (k % 16) 0
-  power-above-zero = rw (powers-is (k % 16) (omega arith)) (power-some (k % 16))
+  pub power-above-zero : 0 < p
+  power-above-zero = rw e (power-some (k % 16))
 
-  pub test-is : eqb (getD s (k / 16) 0 / getD table (k % 16) 0 % 2) 1 ≡ bit s k
+  pub test-is : eqb (getD s (k / 16) 0 / p % 2) 1 ≡ bit s k
   unfolding bit
-  test-is = rw (powers-is (k % 16) (omega arith))
+  test-is = rw e

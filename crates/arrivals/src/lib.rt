@@ -15,16 +15,18 @@ ghost use Rattle.worktable.specs.Map.{absent, remainingOf, Distance, put, size,
 ghost use Rattle.worktable.specs.Table.{mapOf, InOrder, Place};
 ghost use Rattle.arrivals.specs.Passing.{touched, swept, met, goes, passed, left, Enough};
 ghost use Rattle.arrivals.specs.Runs.{asking, passes, recordOf, rowOf, Rides, Sound};
+ghost use Rattle.arrivals.specs.Marks as Marks;
 ghost use Rattle.arrivals.specs.Marks.{bit};
 ghost use Rattle.arrivals.specs.Phases.{inHalf, missing, touches, newTo, sweeps, adds, halved, Fresh, News, tallied};
 ghost use Rattle.arrivals.specs.Answer.{Leads, ArrivedIs, EndedIs};
 use records::NONE;
+use records::Offset;
 use records::Seconds;
 use records::half_at;
 use records::hop_at;
 use records::not_after;
 use records::ticks_before;
-use records::walk_at;
+use records::walked;
 use records::word_at;
 use worktable::Found;
 use worktable::Table;
@@ -106,7 +108,8 @@ fn offer_at(vertices: &[u8], walks: &[u8], hops: &[u8], run: Run, j: usize) -> u
     ensures { λ r. ⌜ (r ≡ rowOf (now (vertices .entry)) (now (walks .entry)) (now (hops .entry)) run .offer j) × Distance r ⌝ }
 {
     if j < run.walks {
-        return run.distance + word_at(walks, 16 * (run.first_walk + j) + 8);
+        let way = Offset(word_at(walks, 16 * (run.first_walk + j) + 8));
+        return run.distance + walked(way).0;
     }
     let arrival = run.arrival;
     hop_offer(
@@ -143,30 +146,19 @@ fn meet_all(
     st
 }
 
-const POWERS: [u16; 16] = [
-    1,
-    2,
-    4,
-    8,
-    16,
-    32,
-    64,
-    128,
-    256,
-    512,
-    1024,
-    2048,
-    4096,
-    8192,
-    16384,
-    32768,
-];
+// 2 to the k: the weight of a bit in its word.
+fn power(k: usize) -> u16
+    requires { ⌜ k < 16 ⌝ }
+    ensures { λ r. ⌜ r ≡ Marks.power k ⌝ }
+{
+    1 << k
+}
 
 fn marked(marks: &[u16], k: usize) -> bool
     requires { ⌜ (k < 32768) × (length (now marks) ≡ 2048) ⌝ }
     ensures { λ r. ⌜ r ≡ bit (now (marks .entry)) k ⌝ }
 {
-    marks[k / 16] / POWERS[k % 16] % 2 == 1
+    marks[k / 16] / power(k % 16) % 2 == 1
 }
 
 // Marks k, and answers 1 if it was not marked.
@@ -175,7 +167,7 @@ fn mark(marks: &mut [u16], k: usize) -> usize
     ensures { λ r. ⌜ (r ≡ cond (bit (now (marks .entry)) k) 0 1) × ((i : ℕ) → i < 32768 → bit (now (marks .exit)) i ≡ (bit (now (marks .entry)) i || eqb k i)) ⌝ }
 {
     let at = k / 16;
-    let p = POWERS[k % 16];
+    let p = power(k % 16);
     if marks[at] / p % 2 == 1 {
         return 0;
     }

@@ -8,11 +8,8 @@ use borrow.Author.Needs.{needs}
 use Rattle.arrivals.proofs.mark.Statement.{statement}
 use Rattle.arrivals.proofs.mark.Tie as tie
 
-mul-p : tie.Need-mul-p
-mul-p c = search needs
-
-array-read-p : tie.Need-array-read-p
-array-read-p c = search needs
+power-requires : tie.Need-power-requires
+power-requires c κs = search needs
 
 mul-if1 : tie.Need-mul-if1
 mul-if1 c = search needs
@@ -22,12 +19,13 @@ slice-read-if1 c = search needs
 
 div-if1 : tie.Need-div-if1
 div-if1 c =
-    power-above-zero (c .before .args .marks .now) (c .before .args .k)
+    let a = c .before .before .before .args in
+    power-above-zero (a .marks .now) (a .k) _ (c .before .power .ensures)
 
 returns : tie.Need-returns
 returns c =
-    let a = c .before .before .args in
-    let h = is-marked (a .marks .now) (a .k) (c .if1 .taken) in
+    let a = c .before .before .before .before .args in
+    let h = is-marked (a .marks .now) (a .k) _ (c .before .before .power .ensures) (c .if1 .taken) in
     (sym (cond-true 0 1 h), λ i l. marked-again (a .marks .now) (a .k) h i)
 
 mul-marks : tie.Need-mul-marks
@@ -38,8 +36,8 @@ slice-read-marks c = search needs
 
 add-marks : tie.Need-add-marks
 add-marks c =
-    let a = c .before .before .before .args in
-    record { fits = mark-fits (a .marks .now) (a .k) (c .before .if1 .left) (omega (arith, c .slice-known2 .given (a .k / 16))) }
+    let a = c .before .before .before .before .before .args in
+    record { fits = mark-fits (a .marks .now) (a .k) _ (c .before .before .before .power .ensures) (c .before .if1 .left) (omega (arith, c .slice-known3 .given (a .k / 16))) }
 
 mul-marks-2 : tie.Need-mul-marks-2
 mul-marks-2 c = search needs
@@ -52,15 +50,15 @@ same-length c = search needs
 
 returns-2 : tie.Need-returns-2
 returns-2 c =
-    let a = c .before .before .before .args in
-    (sym (cond-false 0 1 (not-marked (a .marks .now) (a .k) (c .before .if1 .left))), λ i l. mark-sets (a .marks .now) (a .k) (c .before .if1 .left) (omega (arith, c .before .before .before .pre)) i)
+    let a = c .before .before .before .before .before .args in
+    let e = c .before .before .before .power .ensures in
+    (sym (cond-false 0 1 (not-marked (a .marks .now) (a .k) _ e (c .before .if1 .left))), λ i l. mark-sets (a .marks .now) (a .k) _ e (c .before .if1 .left) (omega (arith, c .before .before .before .before .before .pre)) i)
 
 pub mark-spec : {M : Type 1} → statement M
 mark-spec =
     tie.close
     (tie.spec
-    mul-p
-    array-read-p
+    power-requires
     mul-if1
     slice-read-if1
     div-if1

@@ -1,4 +1,4 @@
--- `arrivals::marked` meets its contract: the table holds the powers of two. Assumes nothing.
+-- `arrivals::marked` meets its contract. Assumes nothing.
 use Rattle.arrivals.proofs.Bits.{test-is, power-above-zero}
 use borrow.Author.Needs.{needs}
 use Rattle.arrivals.proofs.marked.Statement.{statement}
@@ -10,19 +10,18 @@ mul-result c = search needs
 shared-slice-read-result : tie.Need-shared-slice-read-result
 shared-slice-read-result c = search needs
 
-mul-result-2 : tie.Need-mul-result-2
-mul-result-2 c = search needs
-
-array-read-result : tie.Need-array-read-result
-array-read-result c = search needs
+power-requires : tie.Need-power-requires
+power-requires c κs = search needs
 
 div-result : tie.Need-div-result
 div-result c =
-    power-above-zero (c .before .args .marks .now) (c .before .args .k)
+    let a = c .before .before .before .args in
+    power-above-zero (a .marks .now) (a .k) _ (c .power .ensures)
 
 returns : tie.Need-returns
 returns c =
-    test-is (c .before .args .marks .now) (c .before .args .k)
+    let a = c .before .before .before .args in
+    test-is (a .marks .now) (a .k) _ (c .power .ensures)
 
 pub marked-spec : {M : Type 1} → statement M
 marked-spec =
@@ -30,7 +29,6 @@ marked-spec =
     (tie.spec
     mul-result
     shared-slice-read-result
-    mul-result-2
-    array-read-result
+    power-requires
     div-result
     returns)

@@ -24,18 +24,21 @@ add-word-at-2 c = search needs
 word-at-requires : tie.Need-word-at-requires
 word-at-requires c κs = search needs
 
+walked-requires : tie.Need-walked-requires
+walked-requires c κs = search needs
+
 add-result : tie.Need-add-result
 unfolding walkAt
 add-result c =
-    let s = c .before .before .before .before .before .before .before .before in
-    record { fits = omega (arith, s .pre .0 .lengths (s .args .j) (c .before .before .before .if1 .taken), s .pre .0 .distance, c .before .word-at .ensures) }
+    let s = c .before .before .before .before .before .before .before .before .before .before in
+    record { fits = omega (arith, s .pre .0 .lengths (s .args .j) (c .before .before .before .before .before .if1 .taken), s .pre .0 .distance, c .before .before .before .word-at .ensures, c .before .before .walked .ensures) }
 
 returns : tie.Need-returns
 unfolding offer recordOf walkAt
 returns c =
-    let s = c .before .before .before .before .before .before .before .before in
-    let d : s .args .run .distance + c .before .word-at .result < 2147483647 = omega (arith, s .pre .0 .lengths (s .args .j) (c .before .before .before .if1 .taken), s .pre .0 .distance, c .before .word-at .ensures) in
-    (rw (lt-ltb (s .args .j) (s .args .run .walks) (c .before .before .before .if1 .taken), c .before .word-at .ensures), inl d)
+    let s = c .before .before .before .before .before .before .before .before .before .before in
+    let d : s .args .run .distance + c .before .before .walked .result .0 < 2147483647 = omega (arith, s .pre .0 .lengths (s .args .j) (c .before .before .before .before .before .if1 .taken), s .pre .0 .distance, c .before .before .before .word-at .ensures, c .before .before .walked .ensures) in
+    (rw (lt-ltb (s .args .j) (s .args .run .walks) (c .before .before .before .before .before .if1 .taken), c .before .before .walked .ensures, c .before .before .before .word-at .ensures), inl d)
 
 add-hop-offer : tie.Need-add-hop-offer
 add-hop-offer c = search needs
@@ -65,6 +68,7 @@ offer-at-spec =
     mul-word-at
     add-word-at-2
     word-at-requires
+    walked-requires
     add-result
     returns
     add-hop-offer
