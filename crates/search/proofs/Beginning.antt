@@ -6,8 +6,13 @@ use mathlib.Core.List.{List, [], _++_, flatMap, append-nil}
 use Prim.Native.Nat.{ℕ, _+_, _-_, _*_, _/_, _%_, _≤_, _<_, min}
 use native.Mathlib.Omega.{arith}
 use native.Mathlib.Decide.{ℕ-discrete}
-use lib.Dec.{eqb}
+use lib.Dec.{eqb, le→leb}
+use lib.IntN.{ℤ, pos, natAbs}
 use lib.ListN.{length, take, drop, take-append-drop}
+use lib.Signed.{_≤ℤ_}
+use mir.Syntax.{w32}
+use mir.Val.{toZ}
+use mir.ValLaws.{toZ-pos}
 use borrow.Author.Tests.{eq-eqb, ne-eqb, le-leb, lt-leb}
 use Rattle.journeys.specs.Counting.{none}
 use Rattle.journeys.specs.Tables.{Tables, Walk, vertexCount, vertexAt, walkAt}
@@ -214,7 +219,16 @@ module _ (b : Lent) (Q : Query) (ok : Valid (tables b) Q) where
       some n (inl a) = omega (arith, a .0)
       some n (inr a) = omega (arith, a .0)
 
-  -- ---- the same with the road as it was read
+  -- ---- the window in ticks, by the code's conversion
+  pub window-some : (pos 0 ≤ℤ toZ w32 (Q .duration)) × (toZ w32 (Q .duration) ≤ℤ pos 259200)
+  window-some =
+      rw (toZ-pos w32 (Q .duration) (omega (arith, ok .query .duration-high)))
+      (record { le = le→leb 0 (Q .duration) (omega arith) }, record { le = le→leb (Q .duration) 259200 (omega (arith, ok .query .duration-high)) })
+
+  pub window-is : (D : ℕ) → D ≡ natAbs (toZ w32 (Q .duration)) * Q .speed → D ≡ allowed Q
+  window-is D h = h ∙ ap (λ (z : ℤ). natAbs z * Q .speed) (toZ-pos w32 (Q .duration) (omega (arith, ok .query .duration-high)))
+
+  -- ---- the same with the road and D as the code has them
   module _ (r : Road) (e : r ≡ road) where
     pub road-needs : length (b .held) % 16 ≡ 0
         → ((length (b .held) % 16 ≡ 0) × (length (b .vertices) / 12 ≤ 65536) × (r .walk < length (b .walks) / 16) × (r .near ≤ 100000) × (r .back ≤ 100000))
@@ -225,10 +239,12 @@ module _ (b : Lent) (Q : Query) (ok : Valid (tables b) Q) where
         × ((walkAt (b .walks) (z .walk) .from < length (b .vertices) / 12) × (walkAt (b .walks) (z .walk) .to < length (b .vertices) / 12)
         × (walkAt (b .walks) (z .walk) .from ≢ walkAt (b .walks) (z .walk) .to))) (sym e) ((h, road-small .0, road-small .1, road-small .2, road-small .3), road-ends)
 
-    module _ (held′ parts′ : List ℕ) (y : Stepped)
-        (T : OpenIs capacity (firstMap (b .vertices) (b .walks) r) (cond (both r) 2 1) (firstOn r (allowed Q)) held′ (b .parts) parts′ y) where
+    module _ (D : ℕ) (f : D ≡ allowed Q) (held′ parts′ : List ℕ) (y : Stepped)
+        (T : OpenIs capacity (firstMap (b .vertices) (b .walks) r) (cond (both r) 2 1) (firstOn r D) held′ (b .parts) parts′ y) where
       open-as : OpenIs capacity (firstMap (b .vertices) (b .walks) road) (cond (both road) 2 1) (firstOn road (allowed Q)) held′ (b .parts) parts′ y
-      open-as = subst (λ (z : Road). OpenIs capacity (firstMap (b .vertices) (b .walks) z) (cond (both z) 2 1) (firstOn z (allowed Q)) held′ (b .parts) parts′ y) e T
+      open-as =
+          subst (λ (z : Road). OpenIs capacity (firstMap (b .vertices) (b .walks) z) (cond (both z) 2 1) (firstOn z (allowed Q)) held′ (b .parts) parts′ y) e
+          (subst (λ (z : ℕ). OpenIs capacity (firstMap (b .vertices) (b .walks) r) (cond (both r) 2 1) (firstOn r z) held′ (b .parts) parts′ y) f T)
 
       pub opens-as : (p : Progress) → y ≡ Next p → Opens capacity (firstMap (b .vertices) (b .walks) road) (cond (both road) 2 1) (firstOn road (allowed Q)) held′ (b .parts) parts′ p
       unfolding OpenIs

@@ -83,7 +83,8 @@ fn all_steps(
     ensures { λ _. ⌜ now (scratch .exit) ≡ replicate 2048 0 ⌝ }
 {
     let road = parts::read_road(walks, q.walk, q.offset);
-    let allowed = q.duration * q.speed;
+    let window = Seconds(q.duration as i32);
+    let allowed = records::ticks_of(window, q.speed).0;
     match open(vertices, walks, held, parts, road, allowed) {
         Stepped::Full(n) => Ended::Refused(n, 0),
         Stepped::Next(start) => steps(

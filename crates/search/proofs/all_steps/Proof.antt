@@ -1,24 +1,23 @@
-use mathlib.Core.Path.{refl}
-use native.Mathlib.Omega.{arith}
 use denote.Ref.{now}
-use Rattle.journeys.specs.Answers.{tables}
-use Rattle.journeys.proofs.Document.{allowed-low}
 use Rattle.search.specs.Asked.{queryOf}
 use Rattle.search.specs.Progress.{lent}
-use Rattle.search.proofs.Beginning.{road-fits, road-needs, opens-as, shut-as, begins, shut}
+use Rattle.search.proofs.Beginning.{road-fits, window-some, window-is, road-needs, opens-as, shut-as, begins, shut}
 use Rattle.search.proofs.Closing.{ends-back, shut-back}
 use borrow.Author.Needs.{needs}
 use Rattle.search.proofs.all_steps.Statement.{statement}
 use Rattle.search.proofs.all_steps.Tie as tie
 
 read-road-requires : tie.Need-read-road-requires
-read-road-requires c κs = road-fits (lent (now (c .before .before .before .before .before .before .before .args .vertices)) (now (c .before .before .before .before .before .before .before .args .walks)) (now (c .before .before .before .before .before .before .before .args .hops)) (now (c .before .before .before .before .before .before .before .args .held)) (now (c .before .before .before .before .before .before .before .args .settled)) (now (c .before .before .before .before .before .before .before .args .parts))) (queryOf (c .before .before .before .before .before .before .before .args .q)) (c .before .before .before .before .before .before .before .pre .0)
+read-road-requires c κs = let a = c .before .before .before .before .before .before .before in road-fits (lent (now (a .args .vertices)) (now (a .args .walks)) (now (a .args .hops)) (now (a .args .held)) (now (a .args .settled)) (now (a .args .parts))) (queryOf (a .args .q)) (a .pre .0)
 
-mul-allowed : tie.Need-mul-allowed
-mul-allowed c = omega (arith, allowed-low (tables (lent (now (c .before .before .before .before .before .before .before .before .before .args .vertices)) (now (c .before .before .before .before .before .before .before .before .before .args .walks)) (now (c .before .before .before .before .before .before .before .before .before .args .hops)) (now (c .before .before .before .before .before .before .before .before .before .args .held)) (now (c .before .before .before .before .before .before .before .before .before .args .settled)) (now (c .before .before .before .before .before .before .before .before .before .args .parts)))) (queryOf (c .before .before .before .before .before .before .before .before .before .args .q)) (c .before .before .before .before .before .before .before .before .before .pre .0))
+cast-t15 : tie.Need-cast-t15
+cast-t15 c = search needs
+
+ticks-of-requires : tie.Need-ticks-of-requires
+ticks-of-requires c κs = let a = c .before .before .before .before .before .before .before .before .before in (window-some (lent (now (a .args .vertices)) (now (a .args .walks)) (now (a .args .hops)) (now (a .args .held)) (now (a .args .settled)) (now (a .args .parts))) (queryOf (a .args .q)) (a .pre .0), a .pre .0 .query .speed-high)
 
 open-requires : tie.Need-open-requires
-open-requires c κs = road-needs (lent (now (c .before .before .before .before .before .before .before .before .before .before .before .args .vertices)) (now (c .before .before .before .before .before .before .before .before .before .before .before .args .walks)) (now (c .before .before .before .before .before .before .before .before .before .before .before .args .hops)) (now (c .before .before .before .before .before .before .before .before .before .before .before .args .held)) (now (c .before .before .before .before .before .before .before .before .before .before .before .args .settled)) (now (c .before .before .before .before .before .before .before .before .before .before .before .args .parts))) (queryOf (c .before .before .before .before .before .before .before .before .before .before .before .args .q)) (c .before .before .before .before .before .before .before .before .before .before .before .pre .0) _ (c .before .before .before .read-road .ensures) (c .before .before .before .before .before .before .before .before .before .before .before .pre .2)
+open-requires c κs = let a = c .before .before .before .before .before .before .before .before .before .before .before .before in road-needs (lent (now (a .args .vertices)) (now (a .args .walks)) (now (a .args .hops)) (now (a .args .held)) (now (a .args .settled)) (now (a .args .parts))) (queryOf (a .args .q)) (a .pre .0) _ (c .before .before .before .before .read-road .ensures) (a .pre .2)
 
 enum-known-n : tie.Need-enum-known-n
 enum-known-n c = search needs
@@ -28,10 +27,10 @@ enum-known-start c = search needs
 
 steps-requires : tie.Need-steps-requires
 steps-requires c κs =
-    let a = c .before .before .before .before .before .before .before .before .before .before .before .before .before .before .before .before .before .before .before .before .before .before .before in
-    let b = lent (now (c .before .before .before .before .before .before .before .before .before .before .before .before .before .before .before .before .before .before .before .before .before .before .before .args .vertices)) (now (c .before .before .before .before .before .before .before .before .before .before .before .before .before .before .before .before .before .before .before .before .before .before .before .args .walks)) (now (c .before .before .before .before .before .before .before .before .before .before .before .before .before .before .before .before .before .before .before .before .before .before .before .args .hops)) (now (c .before .before .before .before .before .before .before .before .before .before .before .before .before .before .before .before .before .before .before .before .before .before .before .args .held)) (now (c .before .before .before .before .before .before .before .before .before .before .before .before .before .before .before .before .before .before .before .before .before .before .before .args .settled)) (now (c .before .before .before .before .before .before .before .before .before .before .before .before .before .before .before .before .before .before .before .before .before .before .before .args .parts)) in
-    let h = opens-as b (queryOf (a .args .q)) (a .pre .0) _ (c .before .before .before .before .before .before .before .before .before .before .before .before .before .before .before .read-road .ensures) _ _ _ (c .before .before .before .before .before .before .before .before .before .before .before .open .ensures) _ (c .before .before .before .before .before .start .given .1) in (
-      (a .pre .0, refl, c .before .before .before .before .before .before .before .before .before .before .before .before .before .before .before .read-road .ensures, a .pre .1, h .count),
+    let a = c .before .before .before .before .before .before .before .before .before .before .before .before .before .before .before .before .before .before .before .before .before .before .before .before in
+    let b = lent (now (a .args .vertices)) (now (a .args .walks)) (now (a .args .hops)) (now (a .args .held)) (now (a .args .settled)) (now (a .args .parts)) in
+    let h = opens-as b (queryOf (a .args .q)) (a .pre .0) _ (c .before .before .before .before .before .before .before .before .before .before .before .before .before .before .before .before .read-road .ensures) _ (window-is b (queryOf (a .args .q)) (a .pre .0) _ (c .before .before .before .before .before .before .before .before .before .before .before .before .before .before .ticks-of .ensures)) _ _ _ (c .before .before .before .before .before .before .before .before .before .before .before .open .ensures) _ (c .before .before .before .before .before .start .given .1) in (
+      (a .pre .0, window-is b (queryOf (a .args .q)) (a .pre .0) _ (c .before .before .before .before .before .before .before .before .before .before .before .before .before .before .ticks-of .ensures), c .before .before .before .before .before .before .before .before .before .before .before .before .before .before .before .before .read-road .ensures, a .pre .1, h .count),
       begins b (queryOf (a .args .q)) (a .pre .0) _ _ _ h (c .before .before .before .before .before .before .before .before .before .before .held .given) (c .before .before .before .before .before .before .before .before .parts .given),
     )
 
@@ -43,9 +42,9 @@ same-length-2 c = search needs
 
 returns : tie.Need-returns
 returns c =
-    let a = c .before .before .before .before .before .before .before .before .before .before .before .before .before .before .before .before .before .before .before in
-    let b = lent (now (c .before .before .before .before .before .before .before .before .before .before .before .before .before .before .before .before .before .before .before .args .vertices)) (now (c .before .before .before .before .before .before .before .before .before .before .before .before .before .before .before .before .before .before .before .args .walks)) (now (c .before .before .before .before .before .before .before .before .before .before .before .before .before .before .before .before .before .before .before .args .hops)) (now (c .before .before .before .before .before .before .before .before .before .before .before .before .before .before .before .before .before .before .before .args .held)) (now (c .before .before .before .before .before .before .before .before .before .before .before .before .before .before .before .before .before .before .before .args .settled)) (now (c .before .before .before .before .before .before .before .before .before .before .before .before .before .before .before .before .before .before .before .args .parts)) in (
-      shut-back b (queryOf (a .args .q)) _ _ _ _ _ (shut b (queryOf (a .args .q)) (a .pre .0) _ _ (shut-as b (queryOf (a .args .q)) (a .pre .0) _ (c .before .before .before .before .before .before .before .before .before .before .before .read-road .ensures) _ _ _ (c .before .before .before .before .before .before .before .open .ensures) _ (c .before .n .given .1))),
+    let a = c .before .before .before .before .before .before .before .before .before .before .before .before .before .before .before .before .before .before .before .before in
+    let b = lent (now (a .args .vertices)) (now (a .args .walks)) (now (a .args .hops)) (now (a .args .held)) (now (a .args .settled)) (now (a .args .parts)) in (
+      shut-back b (queryOf (a .args .q)) _ _ _ _ _ (shut b (queryOf (a .args .q)) (a .pre .0) _ _ (shut-as b (queryOf (a .args .q)) (a .pre .0) _ (c .before .before .before .before .before .before .before .before .before .before .before .before .read-road .ensures) _ (window-is b (queryOf (a .args .q)) (a .pre .0) _ (c .before .before .before .before .before .before .before .before .before .before .ticks-of .ensures)) _ _ _ (c .before .before .before .before .before .before .before .open .ensures) _ (c .before .n .given .1))),
       a .pre .1,
     )
 
@@ -63,9 +62,9 @@ same-length-6 c = search needs
 
 returns-2 : tie.Need-returns-2
 returns-2 c =
-    let a = c .before .before .before .before .before .before .before .before .before .before .before .before .before .before .before .before .before .before .before .before .before .before .before .before .before .before .before .before .before .before .before .before in
-    let b = lent (now (c .before .before .before .before .before .before .before .before .before .before .before .before .before .before .before .before .before .before .before .before .before .before .before .before .before .before .before .before .before .before .before .before .args .vertices)) (now (c .before .before .before .before .before .before .before .before .before .before .before .before .before .before .before .before .before .before .before .before .before .before .before .before .before .before .before .before .before .before .before .before .args .walks)) (now (c .before .before .before .before .before .before .before .before .before .before .before .before .before .before .before .before .before .before .before .before .before .before .before .before .before .before .before .before .before .before .before .before .args .hops)) (now (c .before .before .before .before .before .before .before .before .before .before .before .before .before .before .before .before .before .before .before .before .before .before .before .before .before .before .before .before .before .before .before .before .args .held)) (now (c .before .before .before .before .before .before .before .before .before .before .before .before .before .before .before .before .before .before .before .before .before .before .before .before .before .before .before .before .before .before .before .before .args .settled)) (now (c .before .before .before .before .before .before .before .before .before .before .before .before .before .before .before .before .before .before .before .before .before .before .before .before .before .before .before .before .before .before .before .before .args .parts)) in
-    let h = opens-as b (queryOf (a .args .q)) (a .pre .0) _ (c .before .before .before .before .before .before .before .before .before .before .before .before .before .before .before .before .before .before .before .before .before .before .before .before .read-road .ensures) _ _ _ (c .before .before .before .before .before .before .before .before .before .before .before .before .before .before .before .before .before .before .before .before .open .ensures) _ (c .before .before .before .before .before .before .before .before .before .before .before .before .before .before .start .given .1) in (
+    let a = c .before .before .before .before .before .before .before .before .before .before .before .before .before .before .before .before .before .before .before .before .before .before .before .before .before .before .before .before .before .before .before .before .before in
+    let b = lent (now (a .args .vertices)) (now (a .args .walks)) (now (a .args .hops)) (now (a .args .held)) (now (a .args .settled)) (now (a .args .parts)) in
+    let h = opens-as b (queryOf (a .args .q)) (a .pre .0) _ (c .before .before .before .before .before .before .before .before .before .before .before .before .before .before .before .before .before .before .before .before .before .before .before .before .before .read-road .ensures) _ (window-is b (queryOf (a .args .q)) (a .pre .0) _ (c .before .before .before .before .before .before .before .before .before .before .before .before .before .before .before .before .before .before .before .before .before .before .before .ticks-of .ensures)) _ _ _ (c .before .before .before .before .before .before .before .before .before .before .before .before .before .before .before .before .before .before .before .before .open .ensures) _ (c .before .before .before .before .before .before .before .before .before .before .before .before .before .before .start .given .1) in (
       ends-back b (queryOf (a .args .q)) (a .pre .0) _ _ _ h (c .before .before .before .before .before .before .before .before .before .before .before .before .before .before .before .before .before .before .before .held .given) (c .before .before .before .before .before .before .before .before .before .before .before .before .before .before .before .before .before .parts .given) _ _ _ _ _ (c .before .before .before .before .before .before .before .before .steps .ensures .0),
       c .before .before .before .before .before .before .before .before .steps .ensures .1,
     )
@@ -75,7 +74,8 @@ all-steps-spec =
     tie.close
     (tie.spec
     read-road-requires
-    mul-allowed
+    cast-t15
+    ticks-of-requires
     open-requires
     enum-known-n
     enum-known-start
