@@ -24,7 +24,6 @@ use Rattle.records.proofs.read_walk.Reads as read-walk
 use Rattle.records.proofs.read_hop.Reads as read-hop
 use Rattle.records.proofs.arriving.Reads as arriving
 use Rattle.records.proofs.put_word.Reads as put-word
-use Rattle.records.proofs.put_held.Reads as put-held
 use Rattle.records.proofs.put_settled.Reads as put-settled
 use Rattle.records.proofs.put_part.Reads as put-part
 use Rattle.records.proofs.add_settled.Reads as add-settled
@@ -92,9 +91,6 @@ one-arriving κs a z z′ e e′ p q = p ∙ sym q
 -- ---- buffers
 pub one-put-word : (κs : _) (a : _) (z z′ : _) (e e′ : _) → put-word.Post κs a z e → put-word.Post κs a z′ e′ → now (e .0) ≡ now (e′ .0)
 one-put-word κs a z z′ e e′ p q = p ∙ sym q
-
-pub one-put-held : (κs : _) (a : _) (z z′ : _) (e e′ : _) → put-held.Post κs a z e → put-held.Post κs a z′ e′ → now (e .0) ≡ now (e′ .0)
-one-put-held κs a z z′ e e′ p q = p ∙ sym q
 
 pub one-put-settled : (κs : _) (a : _) (z z′ : _) (e e′ : _) → put-settled.Post κs a z e → put-settled.Post κs a z′ e′ → now (e .0) ≡ now (e′ .0)
 one-put-settled κs a z z′ e e′ p q = p ∙ sym q

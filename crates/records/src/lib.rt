@@ -14,13 +14,13 @@ ghost use Rattle.journeys.specs.Bytes.{be16, be32, clock, clocked};
 ghost use Rattle.journeys.specs.Tables.{vertexAt, walkAt, hopAt, tablesOf};
 ghost use Rattle.journeys.specs.Refusals.{endsOk, pairOk};
 ghost use Rattle.journeys.specs.Records.{departing};
-ghost use Rattle.journeys.specs.Answers.{heldBytes, settledBytes, partBytes};
+ghost use Rattle.journeys.specs.Answers.{settledBytes, partBytes};
 ghost use Rattle.records.specs.Meaning.{secondsOf, vertexOf, walkOf, walkIn, hopOf};
 ghost use Rattle.records.specs.Readings.{toldVertex, toldWalk, toldHop, vertexReading, walkReading, hopReading, lengthOk, timesOk, twinOk};
 ghost use Rattle.records.specs.Columns.{recordsIn, Ascending, arrivingBelow};
 ghost use Rattle.records.specs.Arriving.{tableOf, firstOf, endOf, run};
 ghost use Rattle.records.specs.Quantities.{DayTime, ticksBefore};
-ghost use Rattle.records.specs.Written.{heldOf, settledOf, partOf, written};
+ghost use Rattle.records.specs.Written.{settledOf, partOf, written};
 
 // Seconds from midnight of the service day, ticks, and decimetres on a walk record: three quantities, joined by the conversions below alone.
 pub struct Seconds(pub i32);
@@ -364,16 +364,6 @@ pub fn put_word(out: &mut [u8], at: usize, x: u32)
 }
 
 // A record at the front of what is lent: the unfilled rest of a buffer.
-pub fn put_held(out: &mut [u8], vertex: u32, distance: Ticks, state: u32, remaining: u32)
-    requires { ⌜ 16 ≤ length (now out) ⌝ }
-    ensures { λ _. ⌜ now (out .exit) ≡ heldBytes (heldOf vertex (distance .0) state remaining) ++ drop 16 (now (out .entry)) ⌝ }
-{
-    put_word(out, 0, vertex);
-    put_word(out, 4, distance.0);
-    put_word(out, 8, state);
-    put_word(out, 12, remaining);
-}
-
 pub fn put_settled(out: &mut [u8], vertex: u32, distance: Ticks)
     requires { ⌜ 8 ≤ length (now out) ⌝ }
     ensures { λ _. ⌜ now (out .exit) ≡ settledBytes (settledOf vertex (distance .0)) ++ drop 8 (now (out .entry)) ⌝ }

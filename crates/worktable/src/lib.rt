@@ -34,8 +34,6 @@ use slots::lower_word;
 use slots::mask_of;
 use slots::vertex_in;
 
-pub const NONE: u32 = 0xFFFF_FFFF;
-
 const VACANT: u64 = 0xFFFF_FFFF_FFFF_FFFF;
 
 const SETTLED: u64 = 0x8000_0000_0000_0000;
