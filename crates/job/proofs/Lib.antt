@@ -7,3 +7,4 @@ pub mod Lines
 pub mod Told
 pub mod Determined
 pub mod Document
+pub mod Long

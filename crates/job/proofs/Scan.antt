@@ -66,10 +66,10 @@ of-more : (s : List ℕ) (k i : ℕ) → ofKind s k (i + 1) ≡ ofKind s k i + c
 unfolding ofKind count
 of-more s k i = rw add-one
 
-of-same : (s : List ℕ) (k i : ℕ) → kindAt s i ≡ k → ofKind s k (i + 1) ≡ ofKind s k i + 1
+pub of-same : (s : List ℕ) (k i : ℕ) → kindAt s i ≡ k → ofKind s k (i + 1) ≡ ofKind s k i + 1
 of-same s k i e = of-more s k i ∙ ap (λ (t : Bool). ofKind s k i + cond t 1 0) (eq-eqb _ _ e)
 
-of-other : (s : List ℕ) (k j i : ℕ) → kindAt s i ≡ j → j ≢ k → ofKind s k (i + 1) ≡ ofKind s k i
+pub of-other : (s : List ℕ) (k j i : ℕ) → kindAt s i ≡ j → j ≢ k → ofKind s k (i + 1) ≡ ofKind s k i
 of-other s k j i e d = of-more s k i ∙ ap (λ (t : Bool). ofKind s k i + cond t 1 0) (ne-eqb _ _ (λ q. d (sym e ∙ q))) ∙ omega arith
 
 -- ---- tables behind one record more

@@ -24,6 +24,7 @@ use Rattle.job.specs.Write.{over}
 use Rattle.job.specs.declared.Asked.{Asked}
 use Rattle.job.specs.declared.Job.{Job}
 use Rattle.job.specs.declared.Job.the-variants.{Good, Faulty}
+use Rattle.job.proofs.Long.{long-job}
 use Rattle.job.proofs.Bodies.{length-body, bodies-next, no-bodies, laid-of}
 use Rattle.reach.specs.Says.{roomy, Texts, SaysOf, Says, Ran, Answered}
 
@@ -114,3 +115,9 @@ module _ (s : List ℕ) (j : Job) (v w h : ℕ) (q : Asked) (e : j ≡ Good v w 
           (subst (λ (y : List ℕ). Texts (tableOf s 1 12) (tableOf s 2 16) y (Q z) (R .0)) (front-taken s (tableOf s 3 16) hs hs′ (16 * h) v w h (question q) is-job hops-long c)
           (subst (λ (y : List ℕ). Texts (tableOf s 1 12) y (take (16 * h) hs′) (Q z) (R .0)) (front-taken s (tableOf s 2 16) ws ws′ (16 * w) v w h (question q) is-job walks-long b)
           (subst (λ (y : List ℕ). Texts y (take (16 * w) ws′) (take (16 * h) hs′) (Q z) (R .0)) (front-taken s (tableOf s 1 12) vs vs′ (12 * v) v w h (question q) is-job vertices-long a) (R .1))))
+
+-- ---- a longer input
+-- Of an input longer than 51,221 bytes the program reads so many. Its text is that of the whole input.
+pub long-says : (s text : List ℕ) → 51221 ≤ length s → Says (take 51221 s) text → Says s text
+unfolding Says SaysOf
+long-says s text h x = let j = long-job s h in subst (λ (r : Read). SaysOf s r text) (sym (j .2)) (subst (λ (r : Read). SaysOf (take 51221 s) r text) (j .1) x)
