@@ -14,7 +14,7 @@ use Rattle.journeys.specs.Counting.{none}
 use Rattle.journeys.specs.Query.{Query}
 use Rattle.journeys.specs.Answers.{Answer, Allowed}
 use Rattle.journeys.proofs.Tests.{cond-true, and-true}
-use Rattle.search.specs.Asked.{asking}
+use Rattle.search.specs.Asked.{queryBy}
 use Rattle.search.specs.Progress.{answerOf}
 use Rattle.search.specs.declared.Answer as search
 use Rattle.job.specs.Job.{Read, job, faulty, Question, body, tableOf, jobOf, taken, question, told}
@@ -102,12 +102,12 @@ module _ (s : List ℕ) (j : Job) (v w h : ℕ) (q : Asked) (e : j ≡ Good v w 
   -- the run has the tables of the job, and z is the arrival as it stands in the query
   pub run-answered : (vs vs′ ws ws′ hs hs′ out out′ : List ℕ) (r : ℕ) (z : ℤ) → z ≡ q .arrival → vs′ ≡ over (taken (jobOf s) (tableOf s 1 12)) vs → ws′ ≡ over (taken (jobOf s) (tableOf s 2 16)) ws
       → hs′ ≡ over (taken (jobOf s) (tableOf s 3 16)) hs
-      → Ran (take (12 * v) vs′) (take (16 * w) ws′) (take (16 * h) hs′) (asking (q .record_number) (q .offset) z (q .duration) (q .speed)) out out′ r → Answered s out out′ r
+      → Ran (take (12 * v) vs′) (take (16 * w) ws′) (take (16 * h) hs′) (queryBy (q .record_number) (q .offset) z (q .duration) (q .speed)) out out′ r → Answered s out out′ r
   unfolding Ran Answered Says SaysOf
   run-answered vs vs′ ws ws′ hs hs′ out out′ r z f a b c R = (R .0, subst (λ (y : Read). SaysOf s y (R .0)) (sym is-job) as-told, R .2)
     where
       Q : ℤ → Query
-      Q y = asking (q .record_number) (q .offset) y (q .duration) (q .speed)
+      Q y = queryBy (q .record_number) (q .offset) y (q .duration) (q .speed)
 
       as-told : Texts (tableOf s 1 12) (tableOf s 2 16) (tableOf s 3 16) (Q (q .arrival)) (R .0)
       as-told =

@@ -6,7 +6,7 @@ use lib.ListN.{length, replicate}
 use Rattle.journeys.specs.Counting.{none}
 use Rattle.journeys.specs.Query.{Query}
 use Rattle.journeys.specs.Answers.{Lent, Answer, Allowed}
-use Rattle.search.specs.Asked.{asking}
+use Rattle.search.specs.Asked.{queryBy}
 use Rattle.search.specs.Progress.{lent}
 use Rattle.job.specs.Job.{Read, job, faulty, Question, tableOf, jobOf}
 use Rattle.job.specs.Text.{printed, fault}
@@ -22,7 +22,7 @@ Texts v w h Q text = (a : Answer) × Allowed (roomy v w h) Q none a × (text ≡
 
 -- of a faulty job its line, of a job the text of its run
 unfoldable pub SaysOf : List ℕ → Read → List ℕ → Type 0
-SaysOf s (job v w h q) text = Texts (tableOf s 1 12) (tableOf s 2 16) (tableOf s 3 16) (asking (q .walk) (q .offset) (q .arrival) (q .duration) (q .speed)) text
+SaysOf s (job v w h q) text = Texts (tableOf s 1 12) (tableOf s 2 16) (tableOf s 3 16) (queryBy (q .walk) (q .offset) (q .arrival) (q .duration) (q .speed)) text
 SaysOf s (faulty n) text = text ≡ fault n
 
 unfoldable pub Says : List ℕ → List ℕ → Type 0

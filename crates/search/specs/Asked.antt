@@ -6,9 +6,9 @@ use Rattle.journeys.specs.Query as query
 use Rattle.search.specs.declared.Query.{Query}
 
 -- by its five numbers: a walk record, the offset on it, the arrival in signed seconds, the duration, the speed
-abbrev pub asking : ℕ → ℕ → ℤ → ℕ → ℕ → query.Query
-asking walk offset arrival duration speed = record { walk = walk; offset = offset; arrival = clocked arrival; duration = duration; speed = speed }
+abbrev pub queryBy : ℕ → ℕ → ℤ → ℕ → ℕ → query.Query
+queryBy walk offset arrival duration speed = record { walk = walk; offset = offset; arrival = clocked arrival; duration = duration; speed = speed }
 
 -- as the code has it
 abbrev pub queryOf : Query → query.Query
-queryOf q = asking (q .walk) (q .offset .0) (q .arrival .0) (q .duration) (q .speed)
+queryOf q = queryBy (q .walk) (q .offset .0) (q .arrival .0) (q .duration) (q .speed)

@@ -12,32 +12,29 @@ ghost use Rattle.audit.specs.Judging.{told};
 ghost use Rattle.search.specs.Asked.{queryOf};
 ghost use Rattle.search.specs.Progress.{lent};
 
+fn refused(number: u32, place: u32) -> Refusal
+    ensures { λ r. ⌜ told r ≡ record { number = number; place = place } ⌝ }
+{
+    Refusal {
+        number: number,
+        place: place,
+    }
+}
+
 // Refusal 1, places 3 to 5: a lent buffer is a whole number of records.
 fn buffers(held: &[u8], settled: &[u8], parts: &[u8]) -> Refusal
     ensures { λ r. ⌜ told r ≡ bufferLengths (now (held .entry)) (now (settled .entry)) (now (parts .entry)) ⌝ }
 {
     if held.len() % 16 != 0 {
-        return Refusal {
-            number: 1,
-            place: 3,
-        };
+        return refused(1, 3);
     }
     if settled.len() % 8 != 0 {
-        return Refusal {
-            number: 1,
-            place: 4,
-        };
+        return refused(1, 4);
     }
     if parts.len() % 12 != 0 {
-        return Refusal {
-            number: 1,
-            place: 5,
-        };
+        return refused(1, 5);
     }
-    Refusal {
-        number: 0,
-        place: 0,
-    }
+    refused(0, 0)
 }
 
 // Refusal 7: the fields of the query, in their order.
@@ -46,41 +43,23 @@ fn query_fault(walks: &[u8], q: Query) -> Refusal
 {
     let e = q.walk as usize;
     if walks.len() / 16 <= e {
-        return Refusal {
-            number: 7,
-            place: 0,
-        };
+        return refused(7, 0);
     }
     let road = records::walk_at(walks, e);
     if road.len.0 < q.offset.0 {
-        return Refusal {
-            number: 7,
-            place: 1,
-        };
+        return refused(7, 1);
     }
     let arrival = q.arrival;
     if !(records::not_after(Seconds(0), arrival) & records::not_after(arrival, Seconds(172800))) {
-        return Refusal {
-            number: 7,
-            place: 2,
-        };
+        return refused(7, 2);
     }
     if !((1 <= q.duration) & (q.duration <= 86400)) {
-        return Refusal {
-            number: 7,
-            place: 3,
-        };
+        return refused(7, 3);
     }
     if !((1 <= q.speed) & (q.speed <= 100)) {
-        return Refusal {
-            number: 7,
-            place: 4,
-        };
+        return refused(7, 4);
     }
-    Refusal {
-        number: 0,
-        place: 0,
-    }
+    refused(0, 0)
 }
 
 // Refusals 1 to 7: lengths first, of tables and of buffers, then the contents of the tables, then the query.

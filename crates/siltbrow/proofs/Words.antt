@@ -9,7 +9,7 @@ use Rattle.journeys.specs.Bytes.{word}
 use Rattle.journeys.specs.Answers.{Lent, Allowed}
 use Rattle.records.specs.Written.{written}
 use Rattle.records.proofs.Filling.{front, written-next, four-words}
-use Rattle.search.specs.Asked.{asking}
+use Rattle.search.specs.Asked.{queryBy}
 use Rattle.search.specs.Progress.{answerOf}
 use Rattle.search.specs.declared.Answer as search
 use Rattle.siltbrow.specs.Ran.{Ran}
@@ -42,11 +42,11 @@ module _ (d : List ℕ) (a b c e f g : ℕ) (long : length d ≡ 24) where
 
 -- the run's answer in the answer slice; z is the arrival as it stands in the query
 pub ran : (b : Lent) (walk offset : ℕ) (arrival z : ℤ) (duration speed limit : ℕ) (slice held settled parts slice′ : List ℕ) (x : search.Answer) → z ≡ arrival → length slice ≡ 24
-    → Allowed b (asking walk offset z duration speed) limit (answerOf x held settled parts)
+    → Allowed b (queryBy walk offset z duration speed) limit (answerOf x held settled parts)
     → slice′ ≡ word (x .refusal) ++ word (x .place) ++ word (x .settled) ++ word (x .parts) ++ word (x .held) ++ word (x .finished)
-    → Ran b (asking walk offset arrival duration speed) limit slice held settled parts slice′ 0
+    → Ran b (queryBy walk offset arrival duration speed) limit slice held settled parts slice′ 0
 ran b walk offset arrival z duration speed limit slice held settled parts slice′ x q long A e =
     record {
       untouched = λ n. absurd (n long);
-      answered = λ _. (refl, (answerOf x held settled parts, subst (λ (y : ℤ). Allowed b (asking walk offset y duration speed) limit (answerOf x held settled parts)) q A, refl, refl, refl, e));
+      answered = λ _. (refl, (answerOf x held settled parts, subst (λ (y : ℤ). Allowed b (queryBy walk offset y duration speed) limit (answerOf x held settled parts)) q A, refl, refl, refl, e));
     }

@@ -11,7 +11,7 @@ ghost use Rattle.journeys.specs.Refusals.{check};
 ghost use mathlib.Core.List.{_++_};
 ghost use lib.ListN.{length};
 ghost use Rattle.journeys.specs.Bytes.{word};
-ghost use Rattle.search.specs.Asked.{asking};
+ghost use Rattle.search.specs.Asked.{queryBy};
 ghost use Rattle.search.specs.Progress.{lent};
 ghost use Rattle.siltbrow.specs.Packed.{packed};
 ghost use Rattle.siltbrow.specs.Ran.{Ran};
@@ -56,7 +56,7 @@ pub extern "C" fn siltbrow_run(
     parts: &mut [u8],
     answer: &mut [u8],
 ) -> u32
-    ensures { λ r. ⌜ Ran (lent (now (vertices .entry)) (now (walks .entry)) (now (hops .entry)) (now (held .entry)) (now (settled .entry)) (now (parts .entry))) (asking «record_number» offset arrival duration speed) limit (now (answer .entry)) (now (held .exit)) (now (settled .exit)) (now (parts .exit)) (now (answer .exit)) r ⌝ }
+    ensures { λ r. ⌜ Ran (lent (now (vertices .entry)) (now (walks .entry)) (now (hops .entry)) (now (held .entry)) (now (settled .entry)) (now (parts .entry))) (queryBy «record_number» offset arrival duration speed) limit (now (answer .entry)) (now (held .exit)) (now (settled .exit)) (now (parts .exit)) (now (answer .exit)) r ⌝ }
 {
     if answer.len() != 24 {
         return 1;
