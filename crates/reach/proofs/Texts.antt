@@ -26,7 +26,7 @@ use Rattle.job.specs.declared.Job.{Job}
 use Rattle.job.specs.declared.Job.the-variants.{Good, Faulty}
 use Rattle.job.proofs.Long.{long-job}
 use Rattle.job.proofs.Bodies.{length-body, bodies-next, no-bodies, laid-of}
-use Rattle.reach.specs.Says.{roomy, Texts, SaysOf, Says, Ran, Answered}
+use Rattle.reach.specs.Says.{roomy, Texts, SaysOf, Says, RunTold, Answered}
 
 -- ---- the text of a run
 module _ (v w h : List ℕ) (Q : Query) (out held settled parts : List ℕ) (x : search.Answer) (room : 100548 ≤ length out)
@@ -49,8 +49,8 @@ module _ (v w h : List ℕ) (Q : Query) (out held settled parts : List ℕ) (x :
   unfolding report
   whole-text = cond-true (printed a) [] all-fits
 
-  pub ran-text : (out′ : List ℕ) (r : ℕ) → out′ ≡ over (report a (length out)) out → r ≡ length (report a (length out)) → Ran v w h Q out out′ r
-  unfolding Ran
+  pub ran-text : (out′ : List ℕ) (r : ℕ) → out′ ≡ over (report a (length out)) out → r ≡ length (report a (length out)) → RunTold v w h Q out out′ r
+  unfolding RunTold
   ran-text out′ r e f = (printed a, (a, A, refl), record { bytes = e ∙ ap (λ (t : List ℕ). over t out) whole-text; count = f ∙ ap length whole-text })
 
 -- ---- a faulty job
@@ -102,8 +102,8 @@ module _ (s : List ℕ) (j : Job) (v w h : ℕ) (q : Asked) (e : j ≡ Good v w 
   -- the run has the tables of the job, and z is the arrival as it stands in the query
   pub run-answered : (vs vs′ ws ws′ hs hs′ out out′ : List ℕ) (r : ℕ) (z : ℤ) → z ≡ q .arrival → vs′ ≡ over (taken (jobOf s) (tableOf s 1 12)) vs → ws′ ≡ over (taken (jobOf s) (tableOf s 2 16)) ws
       → hs′ ≡ over (taken (jobOf s) (tableOf s 3 16)) hs
-      → Ran (take (12 * v) vs′) (take (16 * w) ws′) (take (16 * h) hs′) (queryBy (q .record_number) (q .offset) z (q .duration) (q .speed)) out out′ r → Answered s out out′ r
-  unfolding Ran Answered Says SaysOf
+      → RunTold (take (12 * v) vs′) (take (16 * w) ws′) (take (16 * h) hs′) (queryBy (q .record_number) (q .offset) z (q .duration) (q .speed)) out out′ r → Answered s out out′ r
+  unfolding RunTold Answered Says SaysOf
   run-answered vs vs′ ws ws′ hs hs′ out out′ r z f a b c R = (R .0, subst (λ (y : Read). SaysOf s y (R .0)) (sym is-job) as-told, R .2)
     where
       Q : ℤ → Query

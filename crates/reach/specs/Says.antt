@@ -29,12 +29,12 @@ unfoldable pub Says : List ℕ → List ℕ → Type 0
 Says s text = SaysOf s (jobOf s) text
 
 -- so many bytes of the text stand at the front of what was lent for it, whose rest is untouched
-pub record Wrote (text out out′ : List ℕ) (r : ℕ) : Type 0 where
+pub record InFront (text out out′ : List ℕ) (r : ℕ) : Type 0 where
   pub bytes : out′ ≡ over text out
   pub count : r ≡ length text
 
-unfoldable pub Ran : List ℕ → List ℕ → List ℕ → Query → List ℕ → List ℕ → ℕ → Type 0
-Ran v w h Q out out′ r = (text : List ℕ) × Texts v w h Q text × Wrote text out out′ r
+unfoldable pub RunTold : List ℕ → List ℕ → List ℕ → Query → List ℕ → List ℕ → ℕ → Type 0
+RunTold v w h Q out out′ r = (text : List ℕ) × Texts v w h Q text × InFront text out out′ r
 
 unfoldable pub Answered : List ℕ → List ℕ → List ℕ → ℕ → Type 0
-Answered s out out′ r = (text : List ℕ) × Says s text × Wrote text out out′ r
+Answered s out out′ r = (text : List ℕ) × Says s text × InFront text out out′ r
