@@ -7,3 +7,4 @@ pub mod Offers
 pub mod Steps
 pub mod Ends
 pub mod Determined
+pub mod OwnParts

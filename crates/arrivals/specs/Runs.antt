@@ -20,6 +20,11 @@ asking arrival speed = record { walk = 0; offset = 0; arrival = arrival; duratio
 abbrev pub passes : Run → ℕ
 passes r = r .walks + r .hops
 
+-- the same run over the two parts of the tables alone
+abbrev pub aloneOf : Run → Run
+aloneOf r =
+    record { «first_walk» = 0; walks = r .walks; «first_hop» = 0; hops = r .hops; distance = r .distance; arrival = r .arrival; speed = r .speed }
+
 -- record j of the run: the walks come first
 unfoldable pub recordOf : List ℕ → List ℕ → Run → ℕ → Record
 recordOf w h r j = cond (ltb j (r .walks)) (walked (walkAt w (r .«first_walk» + j))) (ridden (hopAt h (r .«first_hop» + (j - r .walks))))

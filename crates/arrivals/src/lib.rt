@@ -14,14 +14,16 @@ ghost use Rattle.records.specs.Quantities.{DayTime};
 ghost use Rattle.worktable.specs.Map.{absent, remainingOf, Distance, put, size, sizeTo};
 ghost use Rattle.worktable.specs.Table.{mapOf, InOrder, Place};
 ghost use Rattle.arrivals.specs.Passing.{touched, swept, met, goes, passed, left, Enough};
-ghost use Rattle.arrivals.specs.Runs.{asking, passes, recordOf, rowOf, Rides, Sound};
+ghost use Rattle.arrivals.specs.Runs.{asking, passes, recordOf, rowOf, aloneOf, Rides, Sound};
 ghost use Rattle.arrivals.specs.Marks as Marks;
 ghost use Rattle.arrivals.specs.Marks.{bit};
 ghost use Rattle.arrivals.specs.Phases.{inHalf, missing, touches, newTo, sweeps, adds, halved, Fresh, News, tallied};
 ghost use Rattle.arrivals.specs.Answer.{Leads, ArrivedIs, EndedIs};
+use records::Kind;
 use records::NONE;
 use records::Offset;
 use records::Seconds;
+use records::arriving;
 use records::half_at;
 use records::hop_at;
 use records::not_after;
@@ -437,8 +439,24 @@ fn scarce(
     end_both(held, t, vertices, walks, hops, run, 1, marks)
 }
 
-// The step: each record that arrives brings its offer to the vertex that it leaves.
-pub fn arrive(
+// The same records, counted from the first of each kind.
+fn alone(run: Run) -> Run
+    ensures { λ r. ⌜ r ≡ aloneOf run ⌝ }
+{
+    let arrival = run.arrival;
+    Run {
+        first_walk: 0,
+        walks: run.walks,
+        first_hop: 0,
+        hops: run.hops,
+        distance: run.distance,
+        arrival: arrival,
+        speed: run.speed,
+    }
+}
+
+// Each record of the run brings its offer to the vertex that it leaves.
+fn pass(
     held: &mut [u8],
     t: Table,
     vertices: &[u8],
@@ -455,4 +473,23 @@ pub fn arrive(
         return Arrived::Fits(meet_all(held, t, vertices, walks, hops, run));
     }
     scarce(held, t, vertices, walks, hops, run, marks)
+}
+
+// The step: the records that arrive are a part of the walk table and a part of the hop table, and each brings its offer to the vertex that it leaves.
+pub fn arrive<'a>(
+    held: &mut [u8],
+    t: Table,
+    vertices: &[u8],
+    walks: &'a [u8],
+    hops: &'a [u8],
+    run: Run,
+    marks: &mut [u16],
+) -> Arrived
+    requires { ⌜ InOrder t (now held) × Sound (now vertices) (now walks) (now hops) run × (now marks ≡ replicate 2048 0) ⌝ }
+    requires { ⌜ Enough (rowOf (now vertices) (now walks) (now hops) run) (passes run) (mapOf t (now held)) ⌝ }
+    ensures { λ r. ⌜ ArrivedIs t (now (held .exit)) (passed (rowOf (now (vertices .entry)) (now (walks .entry)) (now (hops .entry)) run) (passes run) (mapOf t (now (held .entry)))) r × (now (marks .exit) ≡ replicate 2048 0) ⌝ }
+{
+    let walked_here = arriving(walks, hops, Kind::Walks, run.first_walk, run.first_walk + run.walks);
+    let ridden_here = arriving(walks, hops, Kind::Hops, run.first_hop, run.first_hop + run.hops);
+    pass(held, t, vertices, walked_here, ridden_here, alone(run), marks)
 }

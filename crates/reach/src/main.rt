@@ -12,7 +12,7 @@ ghost use Rattle.search.specs.Asked.{queryOf};
 ghost use Rattle.reach.specs.Says.{RunTold, Answered};
 
 // The run over the tables of a job, and its text.
-fn run_text(vertices: &[u8], walks: &[u8], hops: &[u8], q: Query, out: &mut [u8]) -> usize
+fn run_text<'a>(vertices: &[u8], walks: &'a [u8], hops: &'a [u8], q: Query, out: &mut [u8]) -> usize
     requires { ⌜ 100548 ≤ length (now out) ⌝ }
     ensures { λ r. ⌜ RunTold (now (vertices .entry)) (now (walks .entry)) (now (hops .entry)) (queryOf q) (now (out .entry)) (now (out .exit)) r ⌝ }
     ensures { λ r. ⌜ Counts r (now (out .exit)) ⌝ }

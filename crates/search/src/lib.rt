@@ -67,10 +67,10 @@ enum Ended {
 }
 
 // Step 0 and the steps behind it.
-fn all_steps(
+fn all_steps<'a>(
     vertices: &[u8],
-    walks: &[u8],
-    hops: &[u8],
+    walks: &'a [u8],
+    hops: &'a [u8],
     held: &mut [u8],
     settled: &mut [u8],
     parts: &mut [u8],
@@ -145,10 +145,10 @@ fn conclude(
 }
 
 // The run of document 01, for any bytes, query and limit.
-pub fn run(
+pub fn run<'a>(
     vertices: &[u8],
-    walks: &[u8],
-    hops: &[u8],
+    walks: &'a [u8],
+    hops: &'a [u8],
     held: &mut [u8],
     settled: &mut [u8],
     parts: &mut [u8],

@@ -44,10 +44,10 @@ fn settle_next(held: &mut [u8], t: Table, v: usize, slot: usize) -> Table
 }
 
 // One step: x, at its slot, is the next vertex, with the distance d.
-fn step(
+fn step<'a>(
     vertices: &[u8],
-    walks: &[u8],
-    hops: &[u8],
+    walks: &'a [u8],
+    hops: &'a [u8],
     held: &mut [u8],
     settled: &mut [u8],
     parts: &mut [u8],
@@ -137,10 +137,10 @@ fn run_at(
 }
 
 // Steps up to the limit: as many as it and the order allow, or the first that lacks room.
-pub fn steps(
+pub fn steps<'a>(
     vertices: &[u8],
-    walks: &[u8],
-    hops: &[u8],
+    walks: &'a [u8],
+    hops: &'a [u8],
     held: &mut [u8],
     settled: &mut [u8],
     parts: &mut [u8],

@@ -41,10 +41,10 @@ fn put_answer(out: &mut [u8], a: Answer)
 
 // The run. The answer slice gets its six numbers; 1 where it is not 24 bytes, and then nothing is written.
 #[no_mangle]
-pub extern "C" fn siltbrow_run(
+pub extern "C" fn siltbrow_run<'a>(
     vertices: &[u8],
-    walks: &[u8],
-    hops: &[u8],
+    walks: &'a [u8],
+    hops: &'a [u8],
     record_number: u32,
     offset: u32,
     arrival: i32,

@@ -1,53 +1,60 @@
--- `arrivals::arrive` meets its contract by one of the two ways. Assumes nothing.
+-- `arrivals::arrive` meets its contract: the two parts of the tables are passed. Assumes nothing.
 use borrow.Author.Needs.{needs}
-use native.Mathlib.Omega.{arith}
-use Rattle.arrivals.proofs.Changes as ch
+use Rattle.records.specs.Arriving.{tableOf}
+use Rattle.arrivals.proofs.OwnParts.{own-sound, own-enough, own-arrived}
 use Rattle.arrivals.proofs.arrive.Statement.{statement}
 use Rattle.arrivals.proofs.arrive.Tie as tie
 
-add-if1 : tie.Need-add-if1
-add-if1 c =
-    let s = c .before .before .before .before .before .before in record { fits = omega (arith, s .pre .0 .1 .walks, s .pre .0 .1 .hops, s .good) }
+add-arriving : tie.Need-add-arriving
+add-arriving c = search needs
 
-free-requires : tie.Need-free-requires
-free-requires c κs =
-    c .before .before .before .before .before .before .before .pre .0 .0
+arriving-requires : tie.Need-arriving-requires
+unfolding tableOf
+arriving-requires c κs = search needs
 
-meet-all-requires : tie.Need-meet-all-requires
-meet-all-requires c κs =
-    let s = c .before .before .before .before .before .before .before .before .before .before in
-    ((s .pre .0 .0, s .pre .0 .1), (s .pre .1, omega (arith, c .before .before .free .ensures, c .before .if1 .taken, ch.here-room (s .pre .0 .0))))
+add-arriving-2 : tie.Need-add-arriving-2
+add-arriving-2 c = search needs
+
+arriving-requires-2 : tie.Need-arriving-requires-2
+unfolding tableOf
+arriving-requires-2 c κs = search needs
+
+alone-requires : tie.Need-alone-requires
+alone-requires c κs = search needs
+
+pass-requires : tie.Need-pass-requires
+pass-requires c κs =
+    let s = c .before .before .before .before .before .before .before .before .before .before .before .before in
+    let w = c .before .before .before .before .before .arriving .ensures in
+    let h = c .before .before .before .arriving2 .ensures in
+    let q = c .before .alone .ensures in
+    ((s .pre .0 .0, own-sound _ _ _ _ _ _ _ (s .pre .0 .1) w h q, s .pre .0 .2), own-enough _ _ _ _ _ _ _ (s .pre .0 .1) w h q _ (s .pre .1))
 
 same-length : tie.Need-same-length
 same-length c = search needs
 
-returns : tie.Need-returns
-returns c =
-    let s = c .before .before .before .before .before .before .before .before .before .before .before .before .before in (ch.fits-is (c .before .before .meet-all .ensures), s .pre .0 .2)
-
-scarce-requires : tie.Need-scarce-requires
-scarce-requires c κs =
-    let s = c .before .before .before .before .before .before .before .before .before .before .before in (s .pre .0, s .pre .1)
-
 same-length-2 : tie.Need-same-length-2
 same-length-2 c = search needs
 
-same-length-3 : tie.Need-same-length-3
-same-length-3 c = search needs
-
-returns-2 : tie.Need-returns-2
-returns-2 c = c .before .before .before .before .scarce .ensures
+returns : tie.Need-returns
+returns c =
+    let s = c .before .before .before .before .before .before .before .before .before .before .before .before .before .before .before .before .before in
+    let w = c .before .before .before .before .before .before .before .before .before .before .arriving .ensures in
+    let h = c .before .before .before .before .before .before .before .before .arriving2 .ensures in
+    let q = c .before .before .before .before .before .before .alone .ensures in
+    let e = c .before .before .before .before .pass .ensures in
+    (own-arrived _ _ _ _ _ _ _ (s .pre .0 .1) w h q _ _ _ _ (e .0), e .1)
 
 pub arrive-spec : {M : Type 1} → statement M
 arrive-spec =
     tie.close
     (tie.spec
-    add-if1
-    free-requires
-    meet-all-requires
+    add-arriving
+    arriving-requires
+    add-arriving-2
+    arriving-requires-2
+    alone-requires
+    pass-requires
     same-length
-    returns
-    scarce-requires
     same-length-2
-    same-length-3
-    returns-2)
+    returns)
