@@ -64,6 +64,9 @@ module _ (b : Lent) (Q : Query) (limit : ℕ) (slice held settled parts slice′
   number : (i : ℕ) (field : Answer → ℕ) → ((a : Answer) → be32 (answerBytes a) i ≡ field a) → be32 slice′ i ≡ field (R .answered whole .1 .0)
   number i field h = ap (λ (l : List ℕ). be32 l i) (R .answered whole .1 .5) ∙ h (R .answered whole .1 .0)
 
+  pub refusal-at : be32 slice′ 0 ≡ R .answered whole .1 .0 .refusal
+  refusal-at = number 0 (λ a. a .refusal) refusal-read
+
   -- ---- demand 1
   -- Every call with an answer slice of 24 bytes is answered.
   pub answered-always : r ≡ 0
