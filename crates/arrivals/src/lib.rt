@@ -489,7 +489,27 @@ pub fn arrive<'a>(
     requires { ⌜ Enough (rowOf (now vertices) (now walks) (now hops) run) (passes run) (mapOf t (now held)) ⌝ }
     ensures { λ r. ⌜ ArrivedIs t (now (held .exit)) (passed (rowOf (now (vertices .entry)) (now (walks .entry)) (now (hops .entry)) run) (passes run) (mapOf t (now (held .entry)))) r × (now (marks .exit) ≡ replicate 2048 0) ⌝ }
 {
-    let walked_here = arriving(walks, hops, Kind::Walks, run.first_walk, run.first_walk + run.walks);
-    let ridden_here = arriving(walks, hops, Kind::Hops, run.first_hop, run.first_hop + run.hops);
-    pass(held, t, vertices, walked_here, ridden_here, alone(run), marks)
+    let walked_here = arriving(
+        walks,
+        hops,
+        Kind::Walks,
+        run.first_walk,
+        run.first_walk + run.walks,
+    );
+    let ridden_here = arriving(
+        walks,
+        hops,
+        Kind::Hops,
+        run.first_hop,
+        run.first_hop + run.hops,
+    );
+    pass(
+        held,
+        t,
+        vertices,
+        walked_here,
+        ridden_here,
+        alone(run),
+        marks,
+    )
 }

@@ -1,19 +1,20 @@
 -- The program's text: room for all lines, and the tables of the job in the run's hands. Assumes nothing.
 use mathlib.Core.Path.{_≡_, refl, sym, ap, ap₂, subst, _∙_}
+use mathlib.Core.Logic.{_⊎_, inl, inr}
 use mathlib.Core.Bool.{true, cond}
 use mathlib.Core.List.{List, []}
-use Prim.Native.Nat.{ℕ, zero, suc, _+_, _*_, _/_, _≤_}
+use Prim.Native.Nat.{ℕ, zero, suc, _+_, _*_, _/_, _≤_, _<_}
 use native.Mathlib.Omega.{arith}
 use lib.Dec.{leb}
 use lib.IntN.{ℤ}
 use lib.ListN.{length, take, drop, length-append, length-replicate}
-use lib.Seq.{take-at}
+use lib.Seq.{take-at, take-all}
 use borrow.Author.Tests.{le-leb}
 use Rattle.journeys.proofs.Determined.{counts-within}
 use Rattle.journeys.specs.Counting.{none}
 use Rattle.journeys.specs.Query.{Query}
 use Rattle.journeys.specs.Answers.{Answer, Allowed}
-use Rattle.journeys.proofs.Tests.{cond-true, and-true}
+use Rattle.journeys.proofs.Tests.{cond-true, and-true, le-or-lt}
 use Rattle.search.specs.Asked.{queryBy}
 use Rattle.search.specs.Progress.{answerOf}
 use Rattle.search.specs.declared.Answer as search
@@ -121,3 +122,12 @@ module _ (s : List ℕ) (j : Job) (v w h : ℕ) (q : Asked) (e : j ≡ Good v w 
 pub long-says : (s text : List ℕ) → 51221 ≤ length s → Says (take 51221 s) text → Says s text
 unfolding Says SaysOf
 long-says s text h x = let j = long-job s h in subst (λ (r : Read). SaysOf s r text) (sym (j .2)) (subst (λ (r : Read). SaysOf (take 51221 s) r text) (j .1) x)
+
+-- The text of what was read is that of the whole input.
+pub read-answered : (s t out out′ : List ℕ) (r : ℕ) → take 51221 s ≡ t → Answered t out out′ r → Answered s out out′ r
+unfolding Answered
+read-answered s t out out′ r e x = (x .0, go (le-or-lt 51221 (length s)), x .2)
+  where
+    go : (51221 ≤ length s) ⊎ (length s < 51221) → Says s (x .0)
+    go (inl h) = long-says s (x .0) h (subst (λ (z : List ℕ). Says z (x .0)) (sym e) (x .1))
+    go (inr h) = subst (λ (z : List ℕ). Says z (x .0)) (sym e ∙ take-all 51221 s (omega arith)) (x .1)

@@ -5,8 +5,10 @@ use job::Job;
 use records::Offset;
 use records::Seconds;
 use search::Query;
-ghost use Prim.Native.Nat.{_≤_};
-ghost use lib.ListN.{length};
+ghost use mathlib.Core.Path.{_≡_};
+ghost use mathlib.Core.List.{List};
+ghost use Prim.Native.Nat.{ℕ, _≤_};
+ghost use lib.ListN.{length, take};
 ghost use Rattle.io.specs.Counts.{Counts};
 ghost use Rattle.search.specs.Asked.{queryOf};
 ghost use Rattle.reach.specs.Says.{RunTold, Answered};
@@ -76,11 +78,19 @@ fn answer(input: &[u8], out: &mut [u8]) -> usize
     }
 }
 
-// One byte more is read than the largest job has, so that a longer input is seen to be longer.
+// The text of an input of any length, of which the first 51,221 bytes have been read, or all: one byte more than the largest job has, so that a longer input is seen to be longer.
+fn answer_read(input: &[u8], n: usize, out: &mut [u8]) -> usize
+    requires { ⌜ (length (now input) ≡ 51221) × (n ≤ 51221) × (100548 ≤ length (now out)) ⌝ }
+    ensures { λ r. ⌜ ((s : List ℕ) → take 51221 s ≡ take n (now (input .entry)) → Answered s (now (out .entry)) (now (out .exit)) r) ⌝ }
+    ensures { λ r. ⌜ Counts r (now (out .exit)) ⌝ }
+{
+    answer(&input[..n], out)
+}
+
 fn main() {
     let mut input = [0u8; 51221];
     let n = io::read_full(0, &mut input);
     let mut out = [0u8; 100548];
-    let m = answer(&input[..n], &mut out);
+    let m = answer_read(&input, n, &mut out);
     io::write_all(1, &out[..m]);
 }
