@@ -55,12 +55,6 @@ add-one-requires c κs =
       λ h on. st.added-left R (passes (a .run)) (mapOf (a .t) (a .held .now)) (L .j) l q (a .half) (a .marks .now) (s .pre .2) (i .holds .map) h on,
     )
 
-enum-known-next : tie.Need-enum-known-next Inv-loop μ-loop
-enum-known-next c = search needs
-
-enum-told : tie.Need-enum-told Inv-loop μ-loop
-enum-told c = search needs
-
 same-length : tie.Need-same-length Inv-loop μ-loop
 same-length c =
     c .before .before .before .before .add-one .kept .0 ∙ c .before .before .before .before .before .before .before .before .before .loop .inv .1
@@ -129,8 +123,8 @@ add-spec =
     from-at-requires
     offer-at-requires
     add-one-requires
-    enum-known-next
-    enum-told
+    (λ c. search needs)
+    (λ c. search needs)
     same-length
     returns
     add-j

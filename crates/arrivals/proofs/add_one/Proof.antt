@@ -22,21 +22,6 @@ marked-requires : tie.Need-marked-requires
 marked-requires c κs =
     let s = c .before .before .before .before in (omega arith, s .pre .0 .4)
 
-find-requires : tie.Need-find-requires
-find-requires c κs = search needs
-
-enum-told : tie.Need-enum-told
-enum-told c = search needs
-
-enum-told-2 : tie.Need-enum-told-2
-enum-told-2 c = search needs
-
-free-requires : tie.Need-free-requires
-free-requires c κs = search needs
-
-same-length : tie.Need-same-length
-same-length c = search needs
-
 returns : tie.Need-returns
 unfolding ArrivedIs
 returns c =
@@ -68,9 +53,6 @@ meet-requires c κs =
     let z = ch.at-none (a .t) (a .held .now) (a .u) (c .before .before .before .before .before .before .find .ensures) (c .before .before .before .before .enum-told2 .given .1) in
     ((s .pre .0 .0, s .pre .0 .1, s .pre .0 .2, s .pre .0 .3), (s .pre .1 t b, λ x. omega (arith, c .before .before .free .ensures, c .before .if3 .left)))
 
-same-length-2 : tie.Need-same-length-2
-same-length-2 c = search needs
-
 returns-2 : tie.Need-returns-2
 returns-2 c =
     let s = c .before .before .before .before .before .before .before .before .before .before .before .before .before .before .before .before .before in
@@ -97,9 +79,6 @@ meet-requires-2 c κs =
     let f : met (a .off) d e ≡ cond (inHalf (a .half) (a .u) && bit (a .marks .now) (a .u % 32768)) (met (a .off) d e) e = sym (cond-true (met (a .off) d e) e k) in
     let p = ch.at-place (c .before .before .before .find .ensures) (c .before .enum-told .given .1) in
     ((s .pre .0 .0, s .pre .0 .1, s .pre .0 .2, s .pre .0 .3), (s .pre .1 t b, λ x. absurd (ch.held-absent (s .pre .0 .0) p x)))
-
-same-length-3 : tie.Need-same-length-3
-same-length-3 c = search needs
 
 returns-3 : tie.Need-returns-3
 returns-3 c =
@@ -138,17 +117,17 @@ add-one-spec =
     tie.close
     (tie.spec
     marked-requires
-    find-requires
-    enum-told
-    enum-told-2
-    free-requires
-    same-length
+    (λ c κs. search needs)
+    (λ c. search needs)
+    (λ c. search needs)
+    (λ c κs. search needs)
+    (λ c. search needs)
     returns
     meet-requires
-    same-length-2
+    (λ c. search needs)
     returns-2
     meet-requires-2
-    same-length-3
+    (λ c. search needs)
     returns-3
     returns-4
     returns-5)

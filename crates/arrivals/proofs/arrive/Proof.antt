@@ -5,22 +5,13 @@ use Rattle.arrivals.proofs.OwnParts.{own-sound, own-enough, own-arrived
 use Rattle.arrivals.proofs.arrive.Statement.{statement}
 use Rattle.arrivals.proofs.arrive.Tie as tie
 
-add-arriving : tie.Need-add-arriving
-add-arriving c = search needs
-
 arriving-requires : tie.Need-arriving-requires
 unfolding tableOf
 arriving-requires c κs = search needs
 
-add-arriving-2 : tie.Need-add-arriving-2
-add-arriving-2 c = search needs
-
 arriving-requires-2 : tie.Need-arriving-requires-2
 unfolding tableOf
 arriving-requires-2 c κs = search needs
-
-alone-requires : tie.Need-alone-requires
-alone-requires c κs = search needs
 
 pass-requires : tie.Need-pass-requires
 pass-requires c κs =
@@ -29,12 +20,6 @@ pass-requires c κs =
     let h = c .before .before .before .arriving2 .ensures in
     let q = c .before .alone .ensures in
     ((s .pre .0 .0, own-sound _ _ _ _ _ _ _ (s .pre .0 .1) w h q, s .pre .0 .2), own-enough _ _ _ _ _ _ _ (s .pre .0 .1) w h q _ (s .pre .1))
-
-same-length : tie.Need-same-length
-same-length c = search needs
-
-same-length-2 : tie.Need-same-length-2
-same-length-2 c = search needs
 
 returns : tie.Need-returns
 returns c =
@@ -49,12 +34,12 @@ pub arrive-spec : {M : Type 1} → statement M
 arrive-spec =
     tie.close
     (tie.spec
-    add-arriving
+    (λ c. search needs)
     arriving-requires
-    add-arriving-2
+    (λ c. search needs)
     arriving-requires-2
-    alone-requires
+    (λ c κs. search needs)
     pass-requires
-    same-length
-    same-length-2
+    (λ c. search needs)
+    (λ c. search needs)
     returns)

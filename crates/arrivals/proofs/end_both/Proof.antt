@@ -17,18 +17,6 @@ end-half-requires : tie.Need-end-half-requires
 end-half-requires c κs =
     let s = c .before .before .before .before .before .before .before in ((s .pre .0 .0, s .pre .0 .1, s .pre .0 .2), s .pre .1 (s .args .first))
 
-enum-known-st : tie.Need-enum-known-st
-enum-known-st c = search needs
-
-enum-told : tie.Need-enum-told
-enum-told c = search needs
-
-same-length : tie.Need-same-length
-same-length c = search needs
-
-same-length-2 : tie.Need-same-length-2
-same-length-2 c = search needs
-
 returns : tie.Need-returns
 unfolding EndedIs
 returns c =
@@ -39,9 +27,6 @@ returns c =
     let m = mapOf (a .t) (a .held .now) in
     (c .before .before .before .before .before .before .end-half .ensures .1, inl (ch.none-fits (a .t) (c .before .before .before .before .before .before .end-half .last .0) (halved R n (a .first) m) (c .before .before .before .before .before .before .end-half .ensures .0) (c .enum-told .given .1)))
 
-sub-end-half : tie.Need-sub-end-half
-sub-end-half c = search needs
-
 end-half-requires-2 : tie.Need-end-half-requires-2
 end-half-requires-2 c κs =
     let s = c .before .before .before .before .before .before .before .before .before .before .before .before .before .before .before .before .before in
@@ -51,12 +36,6 @@ end-half-requires-2 c κs =
     let m = mapOf (a .t) (a .held .now) in
     let w = ch.fits-leads {m = halved R n (a .first) m} (c .before .before .before .before .before .before .before .before .before .end-half .ensures .0) (c .before .before .before .st .given .1) in
     ((w .holds .order, s .pre .0 .1, c .before .before .before .before .before .before .before .before .before .end-half .ensures .1), en.fresh-still R n (a .first) (1 - a .first) m (omega (arith, s .pre .0 .3)) (w .holds .map) (s .pre .1 (1 - a .first)))
-
-same-length-3 : tie.Need-same-length-3
-same-length-3 c = search needs
-
-same-length-4 : tie.Need-same-length-4
-same-length-4 c = search needs
 
 returns-2 : tie.Need-returns-2
 returns-2 c =
@@ -74,13 +53,13 @@ end-both-spec =
     tie.close
     (tie.spec
     end-half-requires
-    enum-known-st
-    enum-told
-    same-length
-    same-length-2
+    (λ c. search needs)
+    (λ c. search needs)
+    (λ c. search needs)
+    (λ c. search needs)
     returns
-    sub-end-half
+    (λ c. search needs)
     end-half-requires-2
-    same-length-3
-    same-length-4
+    (λ c. search needs)
+    (λ c. search needs)
     returns-2)

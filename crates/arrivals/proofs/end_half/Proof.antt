@@ -36,12 +36,6 @@ clear-requires : tie.Need-clear-requires
 clear-requires c κs =
     c .before .before .before .before .before .before .before .before .before .before .before .before .note-new .kept .1 .1 .1 .1 .1 .1 .0 ∙ en.zero-length (c .before .before .before .before .before .before .before .before .before .before .before .before .before .before .before .before .before .before .before .before .pre .0 .2)
 
-same-length : tie.Need-same-length
-same-length c = search needs
-
-same-length-2 : tie.Need-same-length-2
-same-length-2 c = search needs
-
 returns : tie.Need-returns
 returns c =
     let s = c .before .before .before .before .before .before .before .before .before .before .before .before .before .before .before .before .before .before .before .before .before .before .before in
@@ -62,6 +56,6 @@ end-half-spec =
     sweep-requires
     add-requires
     clear-requires
-    same-length
-    same-length-2
+    (λ c. search needs)
+    (λ c. search needs)
     returns)

@@ -15,12 +15,6 @@ use borrow.Author.Needs.{needs}
 use Rattle.arrivals.proofs.hop_offer.Statement.{statement}
 use Rattle.arrivals.proofs.hop_offer.Tie as tie
 
-hop-at-requires : tie.Need-hop-at-requires
-hop-at-requires c κs = search needs
-
-not-after-requires : tie.Need-not-after-requires
-not-after-requires c κs = search needs
-
 ticks-before-requires : tie.Need-ticks-before-requires
 ticks-before-requires c κs =
     let s = c .before .before .before .before .before .before in
@@ -80,8 +74,8 @@ pub hop-offer-spec : {M : Type 1} → statement M
 hop-offer-spec =
     tie.close
     (tie.spec
-    hop-at-requires
-    not-after-requires
+    (λ c κs. search needs)
+    (λ c κs. search needs)
     ticks-before-requires
     ticks-before-requires-2
     returns

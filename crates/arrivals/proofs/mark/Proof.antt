@@ -8,15 +8,6 @@ use borrow.Author.Needs.{needs}
 use Rattle.arrivals.proofs.mark.Statement.{statement}
 use Rattle.arrivals.proofs.mark.Tie as tie
 
-power-requires : tie.Need-power-requires
-power-requires c κs = search needs
-
-mul-if1 : tie.Need-mul-if1
-mul-if1 c = search needs
-
-slice-read-if1 : tie.Need-slice-read-if1
-slice-read-if1 c = search needs
-
 div-if1 : tie.Need-div-if1
 div-if1 c =
     let a = c .before .before .before .args in
@@ -28,25 +19,10 @@ returns c =
     let h = is-marked (a .marks .now) (a .k) _ (c .before .before .power .ensures) (c .if1 .taken) in
     (sym (cond-true 0 1 h), λ i l. marked-again (a .marks .now) (a .k) h i)
 
-mul-marks : tie.Need-mul-marks
-mul-marks c = search needs
-
-slice-read-marks : tie.Need-slice-read-marks
-slice-read-marks c = search needs
-
 add-marks : tie.Need-add-marks
 add-marks c =
     let a = c .before .before .before .before .before .args in
     record { fits = mark-fits (a .marks .now) (a .k) _ (c .before .before .before .power .ensures) (c .before .if1 .left) (omega (arith, c .slice-known3 .given (a .k / 16))) }
-
-mul-marks-2 : tie.Need-mul-marks-2
-mul-marks-2 c = search needs
-
-slice-write-marks : tie.Need-slice-write-marks
-slice-write-marks c = search needs
-
-same-length : tie.Need-same-length
-same-length c = search needs
 
 returns-2 : tie.Need-returns-2
 returns-2 c =
@@ -58,15 +34,15 @@ pub mark-spec : {M : Type 1} → statement M
 mark-spec =
     tie.close
     (tie.spec
-    power-requires
-    mul-if1
-    slice-read-if1
+    (λ c κs. search needs)
+    (λ c. search needs)
+    (λ c. search needs)
     div-if1
     returns
-    mul-marks
-    slice-read-marks
+    (λ c. search needs)
+    (λ c. search needs)
     add-marks
-    mul-marks-2
-    slice-write-marks
-    same-length
+    (λ c. search needs)
+    (λ c. search needs)
+    (λ c. search needs)
     returns-2)

@@ -4,15 +4,6 @@ use borrow.Author.Needs.{needs}
 use Rattle.arrivals.proofs.marked.Statement.{statement}
 use Rattle.arrivals.proofs.marked.Tie as tie
 
-mul-result : tie.Need-mul-result
-mul-result c = search needs
-
-shared-slice-read-result : tie.Need-shared-slice-read-result
-shared-slice-read-result c = search needs
-
-power-requires : tie.Need-power-requires
-power-requires c κs = search needs
-
 div-result : tie.Need-div-result
 div-result c =
     let a = c .before .before .before .args in
@@ -27,8 +18,8 @@ pub marked-spec : {M : Type 1} → statement M
 marked-spec =
     tie.close
     (tie.spec
-    mul-result
-    shared-slice-read-result
-    power-requires
+    (λ c. search needs)
+    (λ c. search needs)
+    (λ c κs. search needs)
     div-result
     returns)

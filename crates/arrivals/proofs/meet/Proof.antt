@@ -11,24 +11,6 @@ use borrow.Author.Needs.{needs}
 use Rattle.arrivals.proofs.meet.Statement.{statement}
 use Rattle.arrivals.proofs.meet.Tie as tie
 
-find-requires : tie.Need-find-requires
-find-requires c κs = search needs
-
-enum-known-s : tie.Need-enum-known-s
-enum-known-s c = search needs
-
-enum-told : tie.Need-enum-told
-enum-told c = search needs
-
-mul-half-at : tie.Need-mul-half-at
-mul-half-at c = search needs
-
-add-half-at : tie.Need-add-half-at
-add-half-at c = search needs
-
-half-at-requires : tie.Need-half-at-requires
-half-at-requires c κs = search needs
-
 sub-insert : tie.Need-sub-insert
 unfolding vertexAt
 sub-insert c =
@@ -43,9 +25,6 @@ insert-requires c κs =
     let a = s .args in
     let z = ch.at-none (a .t) (a .held .now) (a .u) (c .before .before .before .before .find .ensures) (c .before .before .enum-told .given .1) in
     (s .pre .0 .0, omega (arith, s .pre .0), s .pre .0 .3, ch.half-low (a .vertices .now) (12 * a .u + 8) (c .half-at .result) (c .half-at .ensures) (λ i. c .before .before .before .before .before .before .shared-slice-known .given i .fits), z, s .pre .1 .1 z)
-
-same-length : tie.Need-same-length
-same-length c = search needs
 
 returns : tie.Need-returns
 unfolding vertexAt
@@ -94,9 +73,6 @@ lower-requires c κs =
     let l = ch.less-at o p g in
     (g .holds .order, ch.less-place o p g, s .pre .0 .3, sym (c .before .before .state .ensures) ∙ c .before .if1 .taken)
 
-same-length-2 : tie.Need-same-length-2
-same-length-2 c = search needs
-
 returns-2 : tie.Need-returns-2
 returns-2 c =
     let s = c .before .before .before .before .before .before .before .before .before .before .before .before .before .before .before .before .before .before in
@@ -137,9 +113,6 @@ drop-requires c κs =
     let l = ch.less-at o p g in
     (g .holds .order, ch.less-place o p g)
 
-same-length-3 : tie.Need-same-length-3
-same-length-3 c = search needs
-
 returns-3 : tie.Need-returns-3
 returns-3 c =
     let s = c .before .before .before .before .before .before .before .before .before .before .before .before .before .before .before .before .before .before .before .before .before in
@@ -154,9 +127,6 @@ returns-3 c =
     let x : stateOf (lessOne e) ≢ 0 = λ z. c .before .before .before .before .before .before .before .if1 .left (c .before .before .before .before .before .before .before .before .state .ensures ∙ ap stateOf l ∙ z) in
     let y : remainingOf (lessOne e) ≡ 0 = sym (ap remainingOf l) ∙ sym (c .before .before .before .before .before .remaining .ensures) ∙ c .before .before .before .before .if2 .taken in
     ch.less-then o p g (c .before .before .drop .ensures) (ch.drop-met (a .off) d e k x y)
-
-same-length-4 : tie.Need-same-length-4
-same-length-4 c = search needs
 
 returns-4 : tie.Need-returns-4
 returns-4 c =
@@ -177,24 +147,24 @@ pub meet-spec : {M : Type 1} → statement M
 meet-spec =
     tie.close
     (tie.spec
-    find-requires
-    enum-known-s
-    enum-told
-    mul-half-at
-    add-half-at
-    half-at-requires
+    (λ c κs. search needs)
+    (λ c. search needs)
+    (λ c. search needs)
+    (λ c. search needs)
+    (λ c. search needs)
+    (λ c κs. search needs)
     sub-insert
     insert-requires
-    same-length
+    (λ c. search needs)
     returns
     take-off-requires
     state-requires
     lower-requires
-    same-length-2
+    (λ c. search needs)
     returns-2
     remaining-requires
     drop-requires
-    same-length-3
+    (λ c. search needs)
     returns-3
-    same-length-4
+    (λ c. search needs)
     returns-4)

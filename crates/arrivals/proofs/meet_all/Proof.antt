@@ -54,12 +54,6 @@ meet-requires c κs =
       (st.passed-left R (passes (a .run)) (mapOf (a .t) (a .held .now)) (L .j) l q (s .pre .1 .0) (i .holds .map), λ z. room),
     )
 
-add-j : tie.Need-add-j Inv-loop μ-loop
-add-j c = search needs
-
-loop-less : tie.Need-loop-less Inv-loop μ-loop
-loop-less c = search needs
-
 loop-again : tie.Need-loop-again Inv-loop μ-loop
 loop-again c =
     let s = c .before .before .before .before .before .before .before .before .before .before .before .before .before in
@@ -98,8 +92,8 @@ meet-all-spec =
     from-at-requires
     offer-at-requires
     meet-requires
-    add-j
-    loop-less
+    (λ c. search needs)
+    (λ c. search needs)
     loop-again
     same-length
     returns)

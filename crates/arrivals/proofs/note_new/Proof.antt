@@ -37,12 +37,6 @@ note-one-requires : tie.Need-note-one-requires Inv-loop μ-loop
 note-one-requires c κs =
     let s = c .before .before .before .before .before .before .before .before .before in (s .pre .0 .0, c .before .before .before .loop .inv .1 ∙ s .pre .1 .1)
 
-add-j : tie.Need-add-j Inv-loop μ-loop
-add-j c = search needs
-
-loop-less : tie.Need-loop-less Inv-loop μ-loop
-loop-less c = search needs
-
 loop-again : tie.Need-loop-again Inv-loop μ-loop
 loop-again c =
     let s = c .before .before .before .before .before .before .before .before .before .before .before .before in
@@ -77,8 +71,8 @@ note-new-spec =
     loop-holds
     from-at-requires
     note-one-requires
-    add-j
-    loop-less
+    (λ c. search needs)
+    (λ c. search needs)
     loop-again
     same-length
     returns)

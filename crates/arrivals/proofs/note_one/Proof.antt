@@ -15,21 +15,9 @@ use Rattle.arrivals.proofs.Changes as ch
 use Rattle.arrivals.proofs.note_one.Statement.{statement}
 use Rattle.arrivals.proofs.note_one.Tie as tie
 
-find-requires : tie.Need-find-requires
-find-requires c κs = search needs
-
-enum-told : tie.Need-enum-told
-enum-told c = search needs
-
-enum-told-2 : tie.Need-enum-told-2
-enum-told-2 c = search needs
-
 mark-requires : tie.Need-mark-requires
 mark-requires c κs =
     let s = c .before .before .before .before .before .before .before in (omega arith, s .pre .1)
-
-same-length : tie.Need-same-length
-same-length c = search needs
 
 returns : tie.Need-returns
 returns c =
@@ -57,11 +45,11 @@ pub note-one-spec : {M : Type 1} → statement M
 note-one-spec =
     tie.close
     (tie.spec
-    find-requires
-    enum-told
-    enum-told-2
+    (λ c κs. search needs)
+    (λ c. search needs)
+    (λ c. search needs)
     mark-requires
-    same-length
+    (λ c. search needs)
     returns
     returns-2
     returns-3)

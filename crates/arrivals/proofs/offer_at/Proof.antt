@@ -12,21 +12,6 @@ use borrow.Author.Needs.{needs}
 use Rattle.arrivals.proofs.offer_at.Statement.{statement}
 use Rattle.arrivals.proofs.offer_at.Tie as tie
 
-add-word-at : tie.Need-add-word-at
-add-word-at c = search needs
-
-mul-word-at : tie.Need-mul-word-at
-mul-word-at c = search needs
-
-add-word-at-2 : tie.Need-add-word-at-2
-add-word-at-2 c = search needs
-
-word-at-requires : tie.Need-word-at-requires
-word-at-requires c κs = search needs
-
-walked-requires : tie.Need-walked-requires
-walked-requires c κs = search needs
-
 add-result : tie.Need-add-result
 unfolding walkAt
 add-result c =
@@ -39,9 +24,6 @@ returns c =
     let s = c .before .before .before .before .before .before .before .before .before .before in
     let d : s .args .run .distance + c .before .before .walked .result .0 < 2147483647 = omega (arith, s .pre .0 .lengths (s .args .j) (c .before .before .before .before .before .if1 .taken), s .pre .0 .distance, c .before .before .before .word-at .ensures, c .before .before .walked .ensures) in
     (rw (lt-ltb (s .args .j) (s .args .run .walks) (c .before .before .before .before .before .if1 .taken), c .before .before .walked .ensures, c .before .before .before .word-at .ensures), inl d)
-
-add-hop-offer : tie.Need-add-hop-offer
-add-hop-offer c = search needs
 
 hop-offer-requires : tie.Need-hop-offer-requires
 hop-offer-requires c κs =
@@ -64,13 +46,13 @@ pub offer-at-spec : {M : Type 1} → statement M
 offer-at-spec =
     tie.close
     (tie.spec
-    add-word-at
-    mul-word-at
-    add-word-at-2
-    word-at-requires
-    walked-requires
+    (λ c. search needs)
+    (λ c. search needs)
+    (λ c. search needs)
+    (λ c κs. search needs)
+    (λ c κs. search needs)
     add-result
     returns
-    add-hop-offer
+    (λ c. search needs)
     hop-offer-requires
     returns-2)

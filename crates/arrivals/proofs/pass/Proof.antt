@@ -18,9 +18,6 @@ meet-all-requires c κs =
     let s = c .before .before .before .before .before .before .before .before .before .before in
     ((s .pre .0 .0, s .pre .0 .1), (s .pre .1, omega (arith, c .before .before .free .ensures, c .before .if1 .taken, ch.here-room (s .pre .0 .0))))
 
-same-length : tie.Need-same-length
-same-length c = search needs
-
 returns : tie.Need-returns
 returns c =
     let s = c .before .before .before .before .before .before .before .before .before .before .before .before .before in (ch.fits-is (c .before .before .meet-all .ensures), s .pre .0 .2)
@@ -28,12 +25,6 @@ returns c =
 scarce-requires : tie.Need-scarce-requires
 scarce-requires c κs =
     let s = c .before .before .before .before .before .before .before .before .before .before .before in (s .pre .0, s .pre .1)
-
-same-length-2 : tie.Need-same-length-2
-same-length-2 c = search needs
-
-same-length-3 : tie.Need-same-length-3
-same-length-3 c = search needs
 
 returns-2 : tie.Need-returns-2
 returns-2 c = c .before .before .before .before .scarce .ensures
@@ -45,9 +36,9 @@ pass-spec =
     add-if1
     free-requires
     meet-all-requires
-    same-length
+    (λ c. search needs)
     returns
     scarce-requires
-    same-length-2
-    same-length-3
+    (λ c. search needs)
+    (λ c. search needs)
     returns-2)

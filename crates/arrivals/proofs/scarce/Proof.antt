@@ -37,12 +37,6 @@ end-both-requires c κs =
     let w = c .before .before .before .before .before .before .before .before .before .before .before .before .survey .ensures .0 in
     ((w .holds .order, s .pre .0 .1, c .before .before .before .before .before .before .clear .ensures, omega arith), λ half. en.fresh-touched R n half m (s .pre .1) (w .holds .map))
 
-same-length : tie.Need-same-length
-same-length c = search needs
-
-same-length-2 : tie.Need-same-length-2
-same-length-2 c = search needs
-
 returns : tie.Need-returns
 returns c =
     let s = c .before .before .before .before .before .before .before .before .before .before .before .before .before .before .before .before .before .before .before .before .before .before .before .before .before in
@@ -71,12 +65,6 @@ end-both-requires-2 c κs =
     let w = c .before .before .before .before .before .before .before .before .before .before .before .before .survey .ensures .0 in
     ((w .holds .order, s .pre .0 .1, c .before .before .before .before .before .before .clear .ensures, omega arith), λ half. en.fresh-touched R n half m (s .pre .1) (w .holds .map))
 
-same-length-3 : tie.Need-same-length-3
-same-length-3 c = search needs
-
-same-length-4 : tie.Need-same-length-4
-same-length-4 c = search needs
-
 returns-2 : tie.Need-returns-2
 returns-2 c =
     let s = c .before .before .before .before .before .before .before .before .before .before .before .before .before .before .before .before .before .before .before .before .before .before .before .before .before in
@@ -103,10 +91,10 @@ scarce-spec =
     clear-requires
     add-if1
     end-both-requires
-    same-length
-    same-length-2
+    (λ c. search needs)
+    (λ c. search needs)
     returns
     end-both-requires-2
-    same-length-3
-    same-length-4
+    (λ c. search needs)
+    (λ c. search needs)
     returns-2)

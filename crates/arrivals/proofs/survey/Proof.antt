@@ -65,9 +65,6 @@ add-j : tie.Need-add-j Inv-loop μ-loop
 add-j c =
     let s = c .before .before .before .before .before .before .before .before .before .before .before .before .before .before .before .before .before in record { fits = omega (arith, c .before .before .before .before .before .before .before .before .before .loop-test .taken, s .pre .0 .1 .walks, s .pre .0 .1 .hops, s .good) }
 
-loop-less : tie.Need-loop-less Inv-loop μ-loop
-loop-less c = search needs
-
 loop-again : tie.Need-loop-again Inv-loop μ-loop
 loop-again c =
     let s = c .before .before .before .before .before .before .before .before .before .before .before .before .before .before .before .before .before in
@@ -120,7 +117,7 @@ survey-spec =
     offer-at-requires
     survey-one-requires
     add-j
-    loop-less
+    (λ c. search needs)
     loop-again
     same-length
     same-length-2

@@ -15,15 +15,6 @@ use Rattle.arrivals.proofs.Changes as ch
 use Rattle.arrivals.proofs.survey_one.Statement.{statement}
 use Rattle.arrivals.proofs.survey_one.Tie as tie
 
-find-requires : tie.Need-find-requires
-find-requires c κs = search needs
-
-enum-known-s : tie.Need-enum-known-s
-enum-known-s c = search needs
-
-enum-told : tie.Need-enum-told
-enum-told c = search needs
-
 mark-requires : tie.Need-mark-requires
 mark-requires c κs =
     let s = c .before .before .before .before .before .before .before .before in (c .before .if1 .taken, s .pre .5)
@@ -32,12 +23,6 @@ add-result : tie.Need-add-result
 add-result c =
     let s = c .before .before .before .before .before .before .before .before .before .before .before in
     record { fits = omega (arith, s .pre .4, ch.cond-low (bit (s .args .marks .now) (s .args .u)), c .before .before .mark .ensures .0) }
-
-same-length : tie.Need-same-length
-same-length c = search needs
-
-same-length-2 : tie.Need-same-length-2
-same-length-2 c = search needs
 
 returns : tie.Need-returns
 returns c =
@@ -51,9 +36,6 @@ returns c =
       ap (λ (k : ℕ). a .g + k) (x .ensures .0) ∙ ch.tally-absent (bit (a .marks .now) (a .u)) (a .g) (m (a .u)) z ∙ sym (cond-true (tallied (bit (a .marks .now) (a .u)) (a .g) (m (a .u))) (a .g) (lt-ltb (a .u) 32768 l)),
       λ i h. x .ensures .1 i h ∙ ap (λ (b : Bool). bit (a .marks .now) i || b) (ch.and-missing (eqb (a .u) i) (m (a .u)) z),
     )
-
-same-length-3 : tie.Need-same-length-3
-same-length-3 c = search needs
 
 returns-2 : tie.Need-returns-2
 returns-2 c =
@@ -75,9 +57,6 @@ touch-requires c κs =
     let e = mapOf (a .t) (a .held .now) (a .u) in
     (s .pre .0, p, s .pre .1, omega (arith, s .pre .2, ch.left-known 1 e (ch.here-held (s .pre .0) p)), s .pre .3)
 
-same-length-4 : tie.Need-same-length-4
-same-length-4 c = search needs
-
 returns-3 : tie.Need-returns-3
 returns-3 c =
     let s = c .before .before .before .before .before .before .before .before .before .before .before in
@@ -95,16 +74,16 @@ pub survey-one-spec : {M : Type 1} → statement M
 survey-one-spec =
     tie.close
     (tie.spec
-    find-requires
-    enum-known-s
-    enum-told
+    (λ c κs. search needs)
+    (λ c. search needs)
+    (λ c. search needs)
     mark-requires
     add-result
-    same-length
-    same-length-2
+    (λ c. search needs)
+    (λ c. search needs)
     returns
-    same-length-3
+    (λ c. search needs)
     returns-2
     touch-requires
-    same-length-4
+    (λ c. search needs)
     returns-3)

@@ -12,18 +12,6 @@ use borrow.Author.Needs.{needs}
 use Rattle.arrivals.proofs.sweep_one.Statement.{statement}
 use Rattle.arrivals.proofs.sweep_one.Tie as tie
 
-find-requires : tie.Need-find-requires
-find-requires c κs = search needs
-
-enum-known-s : tie.Need-enum-known-s
-enum-known-s c = search needs
-
-enum-told : tie.Need-enum-told
-enum-told c = search needs
-
-same-length : tie.Need-same-length
-same-length c = search needs
-
 returns : tie.Need-returns
 returns c =
     let s = c .before .before .before .before .before .before in
@@ -42,9 +30,6 @@ state-requires c κs =
     let m = mapOf (a .t) (a .held .now) in
     let e = m (a .v) in
     (o, p)
-
-same-length-2 : tie.Need-same-length-2
-same-length-2 c = search needs
 
 returns-2 : tie.Need-returns-2
 returns-2 c =
@@ -77,9 +62,6 @@ drop-requires c κs =
     let e = m (a .v) in
     (o, p)
 
-same-length-3 : tie.Need-same-length-3
-same-length-3 c = search needs
-
 returns-3 : tie.Need-returns-3
 returns-3 c =
     let s = c .before .before .before .before .before .before .before .before .before .before .before .before .before .before .before .before .before in
@@ -92,9 +74,6 @@ returns-3 c =
     let x : stateOf e ≢ 0 = λ z. c .before .before .before .before .before .before .before .if2 .left (c .before .before .before .before .before .before .before .before .state .ensures ∙ z) in
     ch.leads-gives (c .before .before .drop .ensures)
     (ap (put m (a .v)) (ch.sweep-drop e x (sym (c .before .before .before .before .before .remaining .ensures) ∙ c .before .before .before .before .if3 .taken) ∙ sym (cond-true (swept e) e h)))
-
-same-length-4 : tie.Need-same-length-4
-same-length-4 c = search needs
 
 returns-4 : tie.Need-returns-4
 returns-4 c =
@@ -119,18 +98,18 @@ pub sweep-one-spec : {M : Type 1} → statement M
 sweep-one-spec =
     tie.close
     (tie.spec
-    find-requires
-    enum-known-s
-    enum-told
-    same-length
+    (λ c κs. search needs)
+    (λ c. search needs)
+    (λ c. search needs)
+    (λ c. search needs)
     returns
     state-requires
-    same-length-2
+    (λ c. search needs)
     returns-2
     remaining-requires
     drop-requires
-    same-length-3
+    (λ c. search needs)
     returns-3
-    same-length-4
+    (λ c. search needs)
     returns-4
     returns-5)

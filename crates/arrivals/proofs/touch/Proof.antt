@@ -13,9 +13,6 @@ use borrow.Author.Needs.{needs}
 use Rattle.arrivals.proofs.touch.Statement.{statement}
 use Rattle.arrivals.proofs.touch.Tie as tie
 
-take-off-requires : tie.Need-take-off-requires
-take-off-requires c κs = search needs
-
 state-requires : tie.Need-state-requires
 state-requires c κs =
     let s = c .before .before .before .before .before .before in
@@ -39,9 +36,6 @@ lower-requires c κs =
     let g = c .before .before .before .before .before .before .take-off .ensures in
     let l = ch.less-at o p g in
     (g .holds .order, ch.less-place o p g, s .pre .2, sym (c .before .before .state .ensures) ∙ c .before .if1 .taken)
-
-same-length : tie.Need-same-length
-same-length c = search needs
 
 returns : tie.Need-returns
 returns c =
@@ -68,12 +62,6 @@ remaining-requires c κs =
     let l = ch.less-at o p g in
     (g .holds .order, ch.less-place o p g)
 
-sub-result : tie.Need-sub-result
-sub-result c = search needs
-
-same-length-2 : tie.Need-same-length-2
-same-length-2 c = search needs
-
 returns-2 : tie.Need-returns-2
 returns-2 c =
     let s = c .before .before .before .before .before .before .before .before .before .before .before .before in
@@ -88,9 +76,6 @@ returns-2 c =
     let y : remainingOf (lessOne e) ≡ 0 = sym (ap remainingOf l) ∙ sym (c .before .remaining .ensures) ∙ c .if3 .taken in
     (ch.less-here o p g (ch.keep-touched (a .offered) 0 e k x), ch.tally-dies true (a .g) e k x y ∙ sym (cond-true (tallied true (a .g) e) (a .g) (lt-ltb (a .u) 32768 (c .before .before .before .if2 .taken))))
 
-same-length-3 : tie.Need-same-length-3
-same-length-3 c = search needs
-
 returns-3 : tie.Need-returns-3
 returns-3 c =
     let s = c .before .before .before .before .before .before .before .before .before .before .before .before in
@@ -104,9 +89,6 @@ returns-3 c =
     let x : stateOf (lessOne e) ≢ 0 = λ z. c .before .before .before .before .if1 .left (c .before .before .before .before .before .state .ensures ∙ ap stateOf l ∙ z) in
     let y : remainingOf (lessOne e) ≢ 0 = λ z. c .if3 .left (c .before .remaining .ensures ∙ ap remainingOf l ∙ z) in
     (ch.less-here o p g (ch.keep-touched (a .offered) 0 e k x), ch.tally-lives (ltb (a .u) 32768) true (a .g) e k y)
-
-same-length-4 : tie.Need-same-length-4
-same-length-4 c = search needs
 
 returns-4 : tie.Need-returns-4
 returns-4 c =
@@ -125,16 +107,16 @@ pub touch-spec : {M : Type 1} → statement M
 touch-spec =
     tie.close
     (tie.spec
-    take-off-requires
+    (λ c κs. search needs)
     state-requires
     lower-requires
-    same-length
+    (λ c. search needs)
     returns
     remaining-requires
-    sub-result
-    same-length-2
+    (λ c. search needs)
+    (λ c. search needs)
     returns-2
-    same-length-3
+    (λ c. search needs)
     returns-3
-    same-length-4
+    (λ c. search needs)
     returns-4)

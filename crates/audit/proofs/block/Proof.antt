@@ -12,18 +12,6 @@ use borrow.Author.Needs.{needs}
 use Rattle.audit.proofs.block.Statement.{statement}
 use Rattle.audit.proofs.block.Tie as tie
 
-mul-base : tie.Need-mul-base
-mul-base c = search needs
-
-sub-least : tie.Need-sub-least
-sub-least c = search needs
-
-least-requires : tie.Need-least-requires
-least-requires c κs = search needs
-
-count-departing-requires : tie.Need-count-departing-requires
-count-departing-requires c κs = search needs
-
 judge-requires : tie.Need-judge-requires
 judge-requires c κs =
     let counted = c .before .before .before in
@@ -43,9 +31,6 @@ judge-requires c κs =
       ),
     )
 
-same-length : tie.Need-same-length
-same-length c = search needs
-
 returns : tie.Need-returns
 returns c =
     let found = c .before .before in
@@ -58,15 +43,6 @@ returns c =
       found .judge .ensures ∙ block-found (tablesOf (now (a .vertices)) (now (a .walks)) (now (a .hops))) (counted .count-departing .result) (counted .before .before .least .result) (1904 * a .g) (own .within) n ∙ ap (λ (k : ℕ). vertexRefusals (tablesOf (now (a .vertices)) (now (a .walks)) (now (a .hops))) k (1904 * a .g)) e,
       counted .count-departing .ensures .1,
     )
-
-add-t18 : tie.Need-add-t18
-add-t18 c = search needs
-
-cast-t19 : tie.Need-cast-t19
-cast-t19 c = search needs
-
-same-length-2 : tie.Need-same-length-2
-same-length-2 c = search needs
 
 returns-2 : tie.Need-returns-2
 returns-2 c =
@@ -82,9 +58,6 @@ returns-2 c =
       counted .count-departing .ensures .1,
     )
 
-same-length-3 : tie.Need-same-length-3
-same-length-3 c = search needs
-
 returns-3 : tie.Need-returns-3
 returns-3 c =
     let found = c .before .before .before in
@@ -99,16 +72,16 @@ pub block-spec : {M : Type 1} → statement M
 block-spec =
     tie.close
     (tie.spec
-    mul-base
-    sub-least
-    least-requires
-    count-departing-requires
+    (λ c. search needs)
+    (λ c. search needs)
+    (λ c κs. search needs)
+    (λ c κs. search needs)
     judge-requires
-    same-length
+    (λ c. search needs)
     returns
-    add-t18
-    cast-t19
-    same-length-2
+    (λ c. search needs)
+    (λ c. search needs)
+    (λ c. search needs)
     returns-2
-    same-length-3
+    (λ c. search needs)
     returns-3)

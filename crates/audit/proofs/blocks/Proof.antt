@@ -46,9 +46,6 @@ block-requires c κs =
     let s = c .before .before .before .before .before .before .before in
     (s .pre .0, ((omega arith, loop .inv .2), (s .pre .1 .1 .0, (loop .inv .3, loop .inv .4))))
 
-same-length : tie.Need-same-length Inv-loop μ-loop
-same-length c = search needs
-
 returns : tie.Need-returns Inv-loop μ-loop
 returns c =
     let call = c .before .before .before .before in
@@ -84,9 +81,6 @@ loop-again c =
       block-good (tablesOf (now (a .vertices)) (now (a .walks)) (now (a .hops))) n (loop .g) z ∙ loop .inv .5,
     )
 
-same-length-2 : tie.Need-same-length-2 Inv-loop μ-loop
-same-length-2 c = search needs
-
 returns-2 : tie.Need-returns-2 Inv-loop μ-loop
 unfolding vertexRefusals
 returns-2 c =
@@ -105,10 +99,10 @@ blocks-spec =
     loop-holds
     mul-loop
     block-requires
-    same-length
+    (λ c. search needs)
     returns
     add-g
     loop-less
     loop-again
-    same-length-2
+    (λ c. search needs)
     returns-2)

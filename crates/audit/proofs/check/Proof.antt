@@ -7,12 +7,6 @@ use borrow.Author.Needs.{needs}
 use Rattle.audit.proofs.check.Statement.{statement}
 use Rattle.audit.proofs.check.Tie as tie
 
-judged-requires : tie.Need-judged-requires
-judged-requires c κs = search needs
-
-zero-requires : tie.Need-zero-requires
-zero-requires c κs = search needs
-
 returns : tie.Need-returns
 returns c =
     let call = c .before .before in (
@@ -23,4 +17,4 @@ returns c =
     )
 
 pub check-spec : {M : Type 1} → statement M
-check-spec = tie.close (tie.spec judged-requires zero-requires returns)
+check-spec = tie.close (tie.spec (λ c κs. search needs) (λ c κs. search needs) returns)

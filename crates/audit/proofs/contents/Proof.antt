@@ -20,17 +20,11 @@ none e z = sym (same-number e) ∙ z
 go-on : {r a b q : refusals.Refusal} → r ≡ a → r .number ≡ 0 → q ≡ b → q ≡ orElse a b
 go-on {r} {a} {b} e z f = f ∙ sym (first-none a b (none e z))
 
-walk-records-requires : tie.Need-walk-records-requires
-walk-records-requires c κs = search needs
-
 returns : tie.Need-returns
 returns c =
     let one = c .before .before in
     let a = one .before .before .before .before .before .args in
     stop _ (one .walk-records .ensures) (c .if1 .taken) ∙ sym (contents-are (now (a .vertices)) (now (a .walks)) (now (a .hops)))
-
-hop-records-requires : tie.Need-hop-records-requires
-hop-records-requires c κs = search needs
 
 returns-2 : tie.Need-returns-2
 returns-2 c =
@@ -38,9 +32,6 @@ returns-2 c =
     let one = two .before .before .before in
     let a = one .before .before .before .before .before .args in
     go-on (one .walk-records .ensures) (two .before .if1 .left) (stop _ (two .hop-records .ensures) (c .if2 .taken)) ∙ sym (contents-are (now (a .vertices)) (now (a .walks)) (now (a .hops)))
-
-order-requires : tie.Need-order-requires
-order-requires c κs = search needs
 
 returns-3 : tie.Need-returns-3
 returns-3 c =
@@ -50,9 +41,6 @@ returns-3 c =
     let a = one .before .before .before .before .before .args in
     go-on (one .walk-records .ensures) (two .before .if1 .left)
     (go-on (two .hop-records .ensures) (three .before .if2 .left) (stop _ (three .order .ensures) (c .if3 .taken))) ∙ sym (contents-are (now (a .vertices)) (now (a .walks)) (now (a .hops)))
-
-order-requires-2 : tie.Need-order-requires-2
-order-requires-2 c κs = search needs
 
 returns-4 : tie.Need-returns-4
 returns-4 c =
@@ -90,9 +78,6 @@ vertex-records-requires c κs =
       ),
     )
 
-same-length : tie.Need-same-length
-same-length c = search needs
-
 returns-5 : tie.Need-returns-5
 returns-5 c =
     let last = c .before .before .before .before in
@@ -110,14 +95,14 @@ pub contents-spec : {M : Type 1} → statement M
 contents-spec =
     tie.close
     (tie.spec
-    walk-records-requires
+    (λ c κs. search needs)
     returns
-    hop-records-requires
+    (λ c κs. search needs)
     returns-2
-    order-requires
+    (λ c κs. search needs)
     returns-3
-    order-requires-2
+    (λ c κs. search needs)
     returns-4
     vertex-records-requires
-    same-length
+    (λ c. search needs)
     returns-5)

@@ -21,9 +21,6 @@ after-walks c =
     let cleared = c .before .before .before .before in
     outside-then 0 1904 (now (cleared .before .before .before .before .before .args .scratch)) (cleared .zero .last .0) (c .count-block .last .1 .1 .1 .1 .0) (after-zero cleared) (c .count-block .ensures .1)
 
-zero-requires : tie.Need-zero-requires
-zero-requires c κs = search needs
-
 count-block-requires : tie.Need-count-block-requires
 count-block-requires c κs =
     let cleared = c .before .before .before in
@@ -44,9 +41,6 @@ count-block-requires-2 c κs =
       noted-kept h 1974 (recordsIn h) 0 1904 (now (s .args .scratch)) (first .count-block .last .1 .1 .1 .1 .0) (λ i l. inr (omega arith)) (after-walks first) (s .pre .1 .1),
     )
 
-same-length : tie.Need-same-length
-same-length c = search needs
-
 returns : tie.Need-returns
 returns c =
     let second = c .before .before in
@@ -63,4 +57,4 @@ returns c =
 pub count-departing-spec : {M : Type 1} → statement M
 count-departing-spec =
     tie.close
-    (tie.spec zero-requires count-block-requires count-block-requires-2 same-length returns)
+    (tie.spec (λ c κs. search needs) count-block-requires count-block-requires-2 (λ c. search needs) returns)

@@ -19,24 +19,6 @@ full e =
     let m : min (getD s k 0 + 1) 65535 ≡ getD s k 0 = omega (arith, byte) in
     rw m (sym (set-getD s k 0))
 
-mul-counted : tie.Need-mul-counted
-mul-counted c = search needs
-
-slice-read-counted : tie.Need-slice-read-counted
-slice-read-counted c = search needs
-
-add-scratch : tie.Need-add-scratch
-add-scratch c = search needs
-
-mul-scratch : tie.Need-mul-scratch
-mul-scratch c = search needs
-
-slice-write-scratch : tie.Need-slice-write-scratch
-slice-write-scratch c = search needs
-
-same-length : tie.Need-same-length
-same-length c = search needs
-
 returns : tie.Need-returns
 returns c =
     let a = c .before .before .args in
@@ -55,12 +37,12 @@ pub count-one-spec : {M : Type 1} → statement M
 count-one-spec =
     tie.close
     (tie.spec
-    mul-counted
-    slice-read-counted
-    add-scratch
-    mul-scratch
-    slice-write-scratch
-    same-length
+    (λ c. search needs)
+    (λ c. search needs)
+    (λ c. search needs)
+    (λ c. search needs)
+    (λ c. search needs)
+    (λ c. search needs)
     returns
     returns-2
     returns-3)

@@ -11,26 +11,11 @@ use borrow.Author.Needs.{needs}
 use Rattle.audit.proofs.count_record.Statement.{statement}
 use Rattle.audit.proofs.count_record.Tie as tie
 
-mul-word-at : tie.Need-mul-word-at
-mul-word-at c = search needs
-
-word-at-requires : tie.Need-word-at-requires
-word-at-requires c κs = search needs
-
-cast-from : tie.Need-cast-from
-cast-from c = search needs
-
 returns : tie.Need-returns
 returns c =
     let word = c .before in
     let a = word .before .before .before .args in
     (λ all h. count-miss (a .len) (a .low) (now (a .scratch)) all (a .base) (fromAt (now (a .table)) (a .i)) (λ k l e. omega (arith, word .word-at .ensures)) h, λ k w. refl)
-
-count-one-requires : tie.Need-count-one-requires
-count-one-requires c κs = search needs
-
-same-length : tie.Need-same-length
-same-length c = search needs
 
 returns-2 : tie.Need-returns-2
 returns-2 c =
@@ -57,11 +42,11 @@ pub count-record-spec : {M : Type 1} → statement M
 count-record-spec =
     tie.close
     (tie.spec
-    mul-word-at
-    word-at-requires
-    cast-from
+    (λ c. search needs)
+    (λ c κs. search needs)
+    (λ c. search needs)
     returns
-    count-one-requires
-    same-length
+    (λ c κs. search needs)
+    (λ c. search needs)
     returns-2
     returns-3)

@@ -58,9 +58,6 @@ loop-again c =
       outside-then 0 1904 (now (a .scratch)) (loop .scratch) (call .count-record .last .1 .1 .1 .1 .0) (loop .inv .4) (call .count-record .ensures .1),
     )
 
-same-length : tie.Need-same-length Inv-loop μ-loop
-same-length c = search needs
-
 returns : tie.Need-returns Inv-loop μ-loop
 returns c =
     let loop = c .before .loop in
@@ -85,5 +82,5 @@ count-table-spec =
     add-i
     loop-less
     loop-again
-    same-length
+    (λ c. search needs)
     returns)

@@ -49,9 +49,6 @@ loop-again c = simp length-set (omega arith)
 same-length : tie.Need-same-length Inv-loop μ-loop
 same-length c = omega arith
 
-returns : tie.Need-returns Inv-loop μ-loop
-returns c = search needs
-
 pub empty-ranges-spec : {M : Type 1} → statement M
 empty-ranges-spec =
     tie.close
@@ -70,4 +67,4 @@ empty-ranges-spec =
     loop-less
     loop-again
     same-length
-    returns)
+    (λ c. search needs))

@@ -47,12 +47,6 @@ read-vertex-requires c κs =
     let s = c .before .before .before .before .before .before .before in
     (omega arith, (s .pre .1 .1 .0, (s .pre .1 .1 .1 .0, s .pre .1 .1 .1 .1 (c .before .before .loop .k) (omega arith))))
 
-enum-told : tie.Need-enum-told Inv-loop μ-loop
-enum-told c = search needs
-
-enum-told-2 : tie.Need-enum-told-2 Inv-loop μ-loop
-enum-told-2 c = search needs
-
 returns : tie.Need-returns Inv-loop μ-loop
 unfolding vertexRefusals
 returns c =
@@ -103,8 +97,8 @@ judge-spec =
     shared-slice-read-read-vertex
     cast-read-vertex
     read-vertex-requires
-    enum-told
-    enum-told-2
+    (λ c. search needs)
+    (λ c. search needs)
     returns
     add-k
     loop-less

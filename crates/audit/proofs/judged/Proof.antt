@@ -9,9 +9,6 @@ use borrow.Author.Needs.{needs}
 use Rattle.audit.proofs.judged.Statement.{statement}
 use Rattle.audit.proofs.judged.Tie as tie
 
-lengths-requires : tie.Need-lengths-requires
-lengths-requires c κs = search needs
-
 returns : tie.Need-returns
 unfolding check
 returns c =
@@ -27,9 +24,6 @@ contents-requires c κs =
     let a = s .args in
     (sizes (now (a .vertices)) (now (a .walks)) (now (a .hops)) (sym (same-number (one .lengths .ensures)) ∙ c .before .if1 .left), s .pre)
 
-same-length : tie.Need-same-length
-same-length c = search needs
-
 returns-2 : tie.Need-returns-2
 unfolding check
 returns-2 c =
@@ -40,4 +34,4 @@ returns-2 c =
     ∙ sym (first-none (tableLengths (now (a .vertices)) (now (a .walks)) (now (a .hops))) (contents (tablesOf (now (a .vertices)) (now (a .walks)) (now (a .hops)))) (sym (same-number (one .lengths .ensures)) ∙ call .before .before .if1 .left))
 
 pub judged-spec : {M : Type 1} → statement M
-judged-spec = tie.close (tie.spec lengths-requires returns contents-requires same-length returns-2)
+judged-spec = tie.close (tie.spec (λ c κs. search needs) returns contents-requires (λ c. search needs) returns-2)

@@ -5,22 +5,13 @@ use borrow.Author.Needs.{needs}
 use Rattle.audit.proofs.lengths.Statement.{statement}
 use Rattle.audit.proofs.lengths.Tie as tie
 
-table-ok-requires : tie.Need-table-ok-requires
-table-ok-requires c κs = search needs
-
 returns : tie.Need-returns
 unfolding tableLengths orElse unless
 returns c = simp (← c .before .table-ok .ensures, not-true (c .before .table-ok .result) (c .if1 .taken))
 
-table-ok-requires-2 : tie.Need-table-ok-requires-2
-table-ok-requires-2 c κs = search needs
-
 returns-2 : tie.Need-returns-2
 unfolding tableLengths orElse unless
 returns-2 c = simp (← c .before .before .before .table-ok .ensures, not-false (c .before .before .before .table-ok .result) (c .before .before .if1 .left), ← c .before .table-ok2 .ensures, not-true (c .before .table-ok2 .result) (c .if2 .taken))
-
-table-ok-requires-3 : tie.Need-table-ok-requires-3
-table-ok-requires-3 c κs = search needs
 
 returns-3 : tie.Need-returns-3
 unfolding tableLengths orElse unless
@@ -34,10 +25,10 @@ pub lengths-spec : {M : Type 1} → statement M
 lengths-spec =
     tie.close
     (tie.spec
-    table-ok-requires
+    (λ c κs. search needs)
     returns
-    table-ok-requires-2
+    (λ c κs. search needs)
     returns-2
-    table-ok-requires-3
+    (λ c κs. search needs)
     returns-3
     returns-4)

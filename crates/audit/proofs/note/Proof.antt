@@ -70,9 +70,6 @@ loop-again c =
       outside-near (s .args .at) (s .args .at + 70) (now (s .args .scratch)) (loop .scratch) (call .widen .last .0) _ _ (omega arith) (omega (arith, s .pre .1 (loop .i) (omega arith))) (loop .inv .4) near,
     )
 
-same-length : tie.Need-same-length Inv-loop μ-loop
-same-length c = search needs
-
 returns : tie.Need-returns Inv-loop μ-loop
 returns c =
     let loop = c .before .loop in
@@ -96,5 +93,5 @@ note-spec =
     add-i
     loop-less
     loop-again
-    same-length
+    (λ c. search needs)
     returns)

@@ -8,15 +8,6 @@ use borrow.Author.Needs.{needs}
 use Rattle.audit.proofs.vertex_records.Statement.{statement}
 use Rattle.audit.proofs.vertex_records.Tie as tie
 
-empty-ranges-requires : tie.Need-empty-ranges-requires
-empty-ranges-requires c κs = search needs
-
-note-requires : tie.Need-note-requires
-note-requires c κs = search needs
-
-note-requires-2 : tie.Need-note-requires-2
-note-requires-2 c κs = search needs
-
 blocks-requires : tie.Need-blocks-requires
 blocks-requires c κs =
     let second = c .before .before .before in
@@ -38,19 +29,13 @@ blocks-requires c κs =
       ),
     )
 
-same-length : tie.Need-same-length
-same-length c = search needs
-
-returns : tie.Need-returns
-returns c = search needs
-
 pub vertex-records-spec : {M : Type 1} → statement M
 vertex-records-spec =
     tie.close
     (tie.spec
-    empty-ranges-requires
-    note-requires
-    note-requires-2
+    (λ c κs. search needs)
+    (λ c κs. search needs)
+    (λ c κs. search needs)
     blocks-requires
-    same-length
-    returns)
+    (λ c. search needs)
+    (λ c. search needs))

@@ -37,9 +37,6 @@ loop-again c =
     let k = c .before .loop .k in
     (omega arith, simp length-set (c .before .loop .inv .1), rw (c .before .loop .inv .2) (fill-more k 0 d (omega arith)))
 
-same-length : tie.Need-same-length Inv-loop μ-loop
-same-length c = search needs
-
 returns : tie.Need-returns Inv-loop μ-loop
 returns c =
     let k = c .before .loop .k in
@@ -58,5 +55,5 @@ zero-spec =
     add-k
     loop-less
     loop-again
-    same-length
+    (λ c. search needs)
     returns)

@@ -15,45 +15,6 @@ use borrow.Author.Needs.{needs}
 use Rattle.job.proofs.asked_at.Statement.{statement}
 use Rattle.job.proofs.asked_at.Tie as tie
 
-mul-at : tie.Need-mul-at
-mul-at c = search needs
-
-add-word-at : tie.Need-add-word-at
-add-word-at c = search needs
-
-word-at-requires : tie.Need-word-at-requires
-word-at-requires c κs = search needs
-
-add-word-at-2 : tie.Need-add-word-at-2
-add-word-at-2 c = search needs
-
-word-at-requires-2 : tie.Need-word-at-requires-2
-word-at-requires-2 c κs = search needs
-
-add-word-at-3 : tie.Need-add-word-at-3
-add-word-at-3 c = search needs
-
-word-at-requires-3 : tie.Need-word-at-requires-3
-word-at-requires-3 c κs = search needs
-
-seconds-of-requires : tie.Need-seconds-of-requires
-seconds-of-requires c κs = search needs
-
-add-three-bytes : tie.Need-add-three-bytes
-add-three-bytes c = search needs
-
-three-bytes-requires : tie.Need-three-bytes-requires
-three-bytes-requires c κs = search needs
-
-add-wide : tie.Need-add-wide
-add-wide c = search needs
-
-shared-slice-read-wide : tie.Need-shared-slice-read-wide
-shared-slice-read-wide c = search needs
-
-wide-requires : tie.Need-wide-requires
-wide-requires c κs = search needs
-
 returns : tie.Need-returns
 unfolding questionAt
 returns c =
@@ -71,17 +32,17 @@ pub asked-at-spec : {M : Type 1} → statement M
 asked-at-spec =
     tie.close
     (tie.spec
-    mul-at
-    add-word-at
-    word-at-requires
-    add-word-at-2
-    word-at-requires-2
-    add-word-at-3
-    word-at-requires-3
-    seconds-of-requires
-    add-three-bytes
-    three-bytes-requires
-    add-wide
-    shared-slice-read-wide
-    wide-requires
+    (λ c. search needs)
+    (λ c. search needs)
+    (λ c κs. search needs)
+    (λ c. search needs)
+    (λ c κs. search needs)
+    (λ c. search needs)
+    (λ c κs. search needs)
+    (λ c κs. search needs)
+    (λ c. search needs)
+    (λ c κs. search needs)
+    (λ c. search needs)
+    (λ c. search needs)
+    (λ c κs. search needs)
     returns)

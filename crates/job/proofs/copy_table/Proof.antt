@@ -73,9 +73,6 @@ loop-again c =
       one-more s (a .size) (a .from) (L .j) (omega arith) (L .inv .3) (p .ensures),
     )
 
-same-length : tie.Need-same-length Inv-loop μ-loop
-same-length c = search needs
-
 returns : tie.Need-returns Inv-loop μ-loop
 returns c =
     let L = c .before .loop in
@@ -101,5 +98,5 @@ copy-table-spec =
     add-j
     loop-less
     loop-again
-    same-length
+    (λ c. search needs)
     returns)

@@ -8,12 +8,6 @@ use borrow.Author.Needs.{needs}
 use Rattle.job.proofs.load.Statement.{statement}
 use Rattle.job.proofs.load.Tie as tie
 
-read-requires : tie.Need-read-requires
-read-requires c κs = search needs
-
-enum-known-job : tie.Need-enum-known-job
-enum-known-job c = search needs
-
 copy-table-requires : tie.Need-copy-table-requires
 copy-table-requires c κs =
     let g = c .before .before in
@@ -37,18 +31,6 @@ copy-table-requires-3 c κs =
     let g = c .before .before .before .before .before .before .before .before .before .before in
     let l = laid-of (g .job .given .1) (g .before .before .read .ensures .1) in
     omega arith
-
-enum-told : tie.Need-enum-told
-enum-told c = search needs
-
-same-length : tie.Need-same-length
-same-length c = search needs
-
-same-length-2 : tie.Need-same-length-2
-same-length-2 c = search needs
-
-same-length-3 : tie.Need-same-length-3
-same-length-3 c = search needs
 
 returns : tie.Need-returns
 returns c =
@@ -93,15 +75,15 @@ pub load-spec : {M : Type 1} → statement M
 load-spec =
     tie.close
     (tie.spec
-    read-requires
-    enum-known-job
+    (λ c κs. search needs)
+    (λ c. search needs)
     copy-table-requires
     copy-table-requires-2
     add-copy-table
     copy-table-requires-3
-    enum-told
-    same-length
-    same-length-2
-    same-length-3
+    (λ c. search needs)
+    (λ c. search needs)
+    (λ c. search needs)
+    (λ c. search needs)
     returns
     returns-2)

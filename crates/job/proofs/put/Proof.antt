@@ -54,9 +54,6 @@ loop-again c =
 add-result : tie.Need-add-result Inv-loop μ-loop
 add-result c = omega arith
 
-same-length : tie.Need-same-length Inv-loop μ-loop
-same-length c = search needs
-
 returns : tie.Need-returns Inv-loop μ-loop
 returns c =
     let L = c .before .loop in
@@ -77,5 +74,5 @@ put-spec =
     loop-less
     loop-again
     add-result
-    same-length
+    (λ c. search needs)
     returns)

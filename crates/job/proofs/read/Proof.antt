@@ -23,9 +23,6 @@ loop-holds c = (none-passed _ _, omega arith, refl)
 item-at-requires : tie.Need-item-at-requires Inv-loop μ-loop
 item-at-requires c κs = (omega arith, c .before .loop .inv .0 .all)
 
-enum-told : tie.Need-enum-told Inv-loop μ-loop
-enum-told c = search needs
-
 add-vertices : tie.Need-add-vertices Inv-loop μ-loop
 add-vertices c = omega (arith)
 
@@ -40,9 +37,6 @@ loop-again c =
     let L = c .before .before .before .before .loop in
     let N = next-as (L .inv .0) Vertex (sym (c .before .before .item-at .ensures) ∙ c .enum-told .given .1) in
     (vertex-passed (L .inv .0) (c .before .before .before .loop-test .taken) N, omega arith, refl)
-
-enum-told-2 : tie.Need-enum-told-2 Inv-loop μ-loop
-enum-told-2 c = search needs
 
 add-walks : tie.Need-add-walks Inv-loop μ-loop
 add-walks c = omega (arith)
@@ -59,9 +53,6 @@ loop-again-2 c =
     let N = next-as (L .inv .0) Walk (sym (c .before .before .item-at .ensures) ∙ c .enum-told2 .given .1) in
     (walk-passed (L .inv .0) (c .before .before .before .loop-test .taken) N, omega arith, refl)
 
-enum-told-3 : tie.Need-enum-told-3 Inv-loop μ-loop
-enum-told-3 c = search needs
-
 add-hops : tie.Need-add-hops Inv-loop μ-loop
 add-hops c = omega (arith)
 
@@ -77,9 +68,6 @@ loop-again-3 c =
     let N = next-as (L .inv .0) Hop (sym (c .before .before .item-at .ensures) ∙ c .enum-told3 .given .1) in
     (hop-passed (L .inv .0) (c .before .before .before .loop-test .taken) N, omega arith, refl)
 
-enum-told-4 : tie.Need-enum-told-4 Inv-loop μ-loop
-enum-told-4 c = search needs
-
 ended-requires : tie.Need-ended-requires Inv-loop μ-loop
 ended-requires c κs = omega arith
 
@@ -91,9 +79,6 @@ returns c =
     let l = c .before .before .before .before .loop-test .taken in
     let N = next-as (L .inv .0) Query (sym (c .before .before .before .item-at .ensures) ∙ c .before .enum-told4 .given .1) in
     (c .ended .ensures ∙ at-query (L .inv .0) l N refl, ended-laid s (L .i) (L .vertices) (L .walks) (L .hops) (c .ended .result) (c .ended .ensures) (query-laid (L .inv .0) l N))
-
-enum-known-item : tie.Need-enum-known-item Inv-loop μ-loop
-enum-known-item c = search needs
 
 returns-2 : tie.Need-returns-2 Inv-loop μ-loop
 unfolding jobOf
@@ -115,24 +100,24 @@ read-spec =
     μ-loop
     loop-holds
     item-at-requires
-    enum-told
+    (λ c. search needs)
     add-vertices
     add-i
     loop-less
     loop-again
-    enum-told-2
+    (λ c. search needs)
     add-walks
     add-i-2
     loop-less-2
     loop-again-2
-    enum-told-3
+    (λ c. search needs)
     add-hops
     add-i-3
     loop-less-3
     loop-again-3
-    enum-told-4
+    (λ c. search needs)
     ended-requires
     returns
-    enum-known-item
+    (λ c. search needs)
     returns-2
     returns-3)

@@ -23,12 +23,6 @@ list-walk-requires c κs =
     let i = c .before .before .loop .inv in
     (listed-room _ _ _ _ (c .before .before .before .before .before .pre .0) _ (i .0), omega (arith, c .before .before .before .before .before .pre .2))
 
-enum-known-more : tie.Need-enum-known-more Inv-loop μ-loop
-enum-known-more c = search needs
-
-enum-told : tie.Need-enum-told Inv-loop μ-loop
-enum-told c = search needs
-
 same-length : tie.Need-same-length Inv-loop μ-loop
 same-length c =
     let i = c .before .before .before .before .before .before .before .loop .inv in
@@ -39,12 +33,6 @@ returns c =
     let i = c .before .before .before .before .before .before .before .loop .inv in
     parts-full _ _ _ _ _ _ _ _ _ (i .1) (c .before .before .before .before .before .before .loop-test .taken)
     (listed-more _ _ _ _ (c .before .before .before .before .before .before .before .before .before .before .pre .0) _ _ _ _ (i .0) (listed-is _ _ _ _ _ _ (c .enum-told .given .1) (c .before .before .before .before .list-walk .ensures)))
-
-add-i : tie.Need-add-i Inv-loop μ-loop
-add-i c = search needs
-
-loop-less : tie.Need-loop-less Inv-loop μ-loop
-loop-less c = search needs
 
 loop-again : tie.Need-loop-again Inv-loop μ-loop
 loop-again c =
@@ -72,12 +60,12 @@ list-arriving-spec =
     μ-loop
     loop-holds
     list-walk-requires
-    enum-known-more
-    enum-told
+    (λ c. search needs)
+    (λ c. search needs)
     same-length
     returns
-    add-i
-    loop-less
+    (λ c. search needs)
+    (λ c. search needs)
     loop-again
     same-length-2
     returns-2)

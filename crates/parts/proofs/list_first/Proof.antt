@@ -5,40 +5,16 @@ use Rattle.parts.proofs.list_first.Tie as tie
 use Rattle.parts.proofs.less.Reads as less-reads
 use Rattle.parts.proofs.list_part.Reads as list-part-reads
 
-less-requires : tie.Need-less-requires
-less-requires c κs = search needs
-
-list-part-requires : tie.Need-list-part-requires
-list-part-requires c κs = search needs
-
-enum-known-count : tie.Need-enum-known-count
-enum-known-count c = search needs
-
-enum-told : tie.Need-enum-told
-enum-told c = search needs
-
-same-length : tie.Need-same-length
-same-length c = search needs
-
 returns : tie.Need-returns
 returns c = first-full _ _ _ (c .before .before .before .before .before .less .ensures) _ _ _ (c .before .before .before .before .list-part .ensures) (c .enum-told .given .1)
 
-same-length-2 : tie.Need-same-length-2
-same-length-2 c = search needs
-
 returns-2 : tie.Need-returns-2
 returns-2 c = first-one _ _ _ (c .before .before .before .before .before .before .before .before .less .ensures) _ _ _ (c .before .before .before .before .before .before .before .list-part .ensures) _ (c .before .before .before .count .given .1) (c .if1 .taken)
-
-less-requires-2 : tie.Need-less-requires-2
-less-requires-2 c κs = search needs
 
 list-part-requires-2 : tie.Need-list-part-requires-2
 list-part-requires-2 c κs =
     let a = c .before .before .before .before .before .before .before .before .before .before .before .before .before .args in
     first-room (a .e) (a .allowed) _ (c .before .before .before .before .before .before .before .before .before .before .less .ensures) _ _ _ (c .before .before .before .before .before .before .before .before .before .list-part .ensures) _ (c .before .before .before .before .before .count .given .1)
-
-same-length-3 : tie.Need-same-length-3
-same-length-3 c = search needs
 
 returns-3 : tie.Need-returns-3
 returns-3 c = first-two _ _ _ (c .before .before .before .before .before .before .before .before .before .before .before .before .before .less .ensures) _ _ _ (c .before .before .before .before .before .before .before .before .before .before .before .before .list-part .ensures) _ (c .before .before .before .before .before .before .before .before .count .given .1) (c .before .before .before .before .before .if1 .left) _ (c .before .before .before .less2 .ensures) _ _ (c .before .before .list-part2 .ensures)
@@ -47,15 +23,15 @@ pub list-first-spec : {M : Type 1} → statement M
 list-first-spec =
     tie.close
     (tie.spec
-    less-requires
-    list-part-requires
-    enum-known-count
-    enum-told
-    same-length
+    (λ c κs. search needs)
+    (λ c κs. search needs)
+    (λ c. search needs)
+    (λ c. search needs)
+    (λ c. search needs)
     returns
-    same-length-2
+    (λ c. search needs)
     returns-2
-    less-requires-2
+    (λ c κs. search needs)
     list-part-requires-2
-    same-length-3
+    (λ c. search needs)
     returns-3)

@@ -10,18 +10,9 @@ returns c = listed-none _ _ _ _ _ (c .before .before .pre) (c .if1 .taken)
 returns-2 : tie.Need-returns-2
 returns-2 c = listed-full _ _ _ _ _ (c .before .before .before .pre) (c .before .if1 .left) (c .if2 .taken)
 
-add-part-requires : tie.Need-add-part-requires
-add-part-requires c κs = search needs
-
-add-t7 : tie.Need-add-t7
-add-t7 c = search needs
-
-same-length : tie.Need-same-length
-same-length c = search needs
-
 returns-3 : tie.Need-returns-3
 returns-3 c = listed-one _ _ _ _ _ (c .before .before .before .before .before .before .before .pre) _ (c .before .before .before .before .before .if1 .left) (c .before .before .before .before .if2 .left) (c .before .before .add-part .ensures)
 
 pub list-part-spec : {M : Type 1} → statement M
 list-part-spec =
-    tie.close (tie.spec returns returns-2 add-part-requires add-t7 same-length returns-3)
+    tie.close (tie.spec returns returns-2 (λ c κs. search needs) (λ c. search needs) (λ c. search needs) returns-3)

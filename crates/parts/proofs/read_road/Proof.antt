@@ -5,9 +5,6 @@ use Rattle.parts.proofs.read_road.Statement.{statement}
 use Rattle.parts.proofs.read_road.Tie as tie
 use Rattle.records.proofs.walk_at.Reads as walk-at-reads
 
-walk-at-requires : tie.Need-walk-at-requires
-walk-at-requires c κs = search needs
-
 sub-t6 : tie.Need-sub-t6
 sub-t6 c = omega (arith, len-is _ _ (c .before .before .walk-at .ensures), c .before .before .before .before .pre .1)
 
@@ -15,4 +12,4 @@ returns : tie.Need-returns
 returns c = road-is _ _ _ _ (c .before .before .walk-at .ensures)
 
 pub read-road-spec : {M : Type 1} → statement M
-read-road-spec = tie.close (tie.spec walk-at-requires sub-t6 returns)
+read-road-spec = tie.close (tie.spec (λ c κs. search needs) sub-t6 returns)

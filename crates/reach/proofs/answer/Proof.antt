@@ -11,21 +11,6 @@ use borrow.Author.Needs.{needs}
 use Rattle.reach.proofs.answer.Statement.{statement}
 use Rattle.reach.proofs.answer.Tie as tie
 
-slice-aggregate-load : tie.Need-slice-aggregate-load
-slice-aggregate-load c = search needs
-
-slice-aggregate-load-2 : tie.Need-slice-aggregate-load-2
-slice-aggregate-load-2 c = search needs
-
-slice-aggregate-load-3 : tie.Need-slice-aggregate-load-3
-slice-aggregate-load-3 c = search needs
-
-load-requires : tie.Need-load-requires
-load-requires c κs = search needs
-
-enum-known-v : tie.Need-enum-known-v
-enum-known-v c = search needs
-
 mul-a : tie.Need-mul-a
 mul-a c = omega (arith, (laid _ _ _ _ _ _ (c .before .before .v .given .1) (c .before .before .before .before .before .before .before .load .ensures .0) (c .before .before .before .before .before .before .before .load .ensures .1 .0)) .vertexMost)
 
@@ -53,26 +38,11 @@ array-share-prefix-hops c = omega (arith, (laid _ _ _ _ _ _ (c .before .before .
 slice-aggregate-run-text-3 : tie.Need-slice-aggregate-run-text-3
 slice-aggregate-run-text-3 c = sym (length-take-le _ _ (omega (arith, (laid _ _ _ _ _ _ (c .before .before .before .before .before .v .given .1) (c .before .before .before .before .before .before .before .before .before .before .load .ensures .0) (c .before .before .before .before .before .before .before .before .before .before .load .ensures .1 .0)) .hopMost, (c .before .before .before .before .before .before .before .before .before .before .load .kept .1 .1 .1 .0 ∙ length-replicate {A = ℕ} 16384 0))))
 
-run-text-requires : tie.Need-run-text-requires
-run-text-requires c κs = search needs
-
-enum-known-n : tie.Need-enum-known-n
-enum-known-n c = search needs
-
-fault-line-requires : tie.Need-fault-line-requires
-fault-line-requires c κs = search needs
-
-same-length : tie.Need-same-length
-same-length c = search needs
-
 returns : tie.Need-returns
 returns c = (
   run-answered _ _ _ _ _ _ (c .before .before .before .before .before .before .before .before .before .v .given .1) (c .before .before .before .before .before .before .before .before .before .before .before .before .before .before .load .ensures .0) (c .before .before .before .before .before .before .before .before .before .before .before .before .before .before .load .ensures .1 .0) _ _ _ _ _ _ _ _ _ (toZ w32 (ofZ w32 ((c .before .before .before .before .before .before .before .before .before .v .given .0 .1 .1 .1 .0) .arrival))) (toZ-ofZ w32 ((c .before .before .before .before .before .before .before .before .before .v .given .0 .1 .1 .1 .0) .arrival) (record { sfits = omega (arith, c .before .before .before .before .before .before .before .struct-told .given) })) (c .before .before .before .before .before .before .before .before .before .before .before .before .before .before .load .ensures .1 .1 .0) (c .before .before .before .before .before .before .before .before .before .before .before .before .before .before .load .ensures .1 .1 .1 .0) (c .before .before .before .before .before .before .before .before .before .before .before .before .before .before .load .ensures .1 .1 .1 .1) (c .before .before .run-text .ensures .0),
   c .before .before .run-text .ensures .1,
 )
-
-same-length-2 : tie.Need-same-length-2
-same-length-2 c = search needs
 
 returns-2 : tie.Need-returns-2
 returns-2 c = (
@@ -84,11 +54,11 @@ pub answer-spec : {M : Type 1} → statement M
 answer-spec =
     tie.close
     (tie.spec
-    slice-aggregate-load
-    slice-aggregate-load-2
-    slice-aggregate-load-3
-    load-requires
-    enum-known-v
+    (λ c. search needs)
+    (λ c. search needs)
+    (λ c. search needs)
+    (λ c κs. search needs)
+    (λ c. search needs)
     mul-a
     mul-b
     mul-c
@@ -98,10 +68,10 @@ answer-spec =
     slice-aggregate-run-text-2
     array-share-prefix-hops
     slice-aggregate-run-text-3
-    run-text-requires
-    enum-known-n
-    fault-line-requires
-    same-length
+    (λ c κs. search needs)
+    (λ c. search needs)
+    (λ c κs. search needs)
+    (λ c. search needs)
     returns
-    same-length-2
+    (λ c. search needs)
     returns-2)

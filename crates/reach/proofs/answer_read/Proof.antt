@@ -10,14 +10,8 @@ use Rattle.reach.proofs.answer_read.Tie as tie
 slice-aggregate-answer : tie.Need-slice-aggregate-answer
 slice-aggregate-answer c = let p = c .before .before .before .pre in sym (length-take-le _ _ (omega (arith, p .0, p .1)))
 
-answer-requires : tie.Need-answer-requires
-answer-requires c κs = search needs
-
-same-length : tie.Need-same-length
-same-length c = search needs
-
 returns : tie.Need-returns
 returns c = (λ s e. read-answered s _ _ _ _ e (c .before .before .answer .ensures .0), c .before .before .answer .ensures .1)
 
 pub answer-read-spec : {M : Type 1} → statement M
-answer-read-spec = tie.close (tie.spec slice-aggregate-answer answer-requires same-length returns)
+answer-read-spec = tie.close (tie.spec slice-aggregate-answer (λ c κs. search needs) (λ c. search needs) returns)

@@ -11,24 +11,6 @@ use borrow.Author.Needs.{needs}
 use Rattle.records.proofs.add_part.Statement.{statement}
 use Rattle.records.proofs.add_part.Tie as tie
 
-mul-at : tie.Need-mul-at
-mul-at c = search needs
-
-sub-put-part : tie.Need-sub-put-part
-sub-put-part c = search needs
-
-part-put-part-start : tie.Need-part-put-part-start
-part-put-part-start c = search needs
-
-part-put-part-end : tie.Need-part-put-part-end
-part-put-part-end c = search needs
-
-put-part-requires : tie.Need-put-part-requires
-put-part-requires c κs = search needs
-
-same-length : tie.Need-same-length
-same-length c = search needs
-
 returns : tie.Need-returns
 unfolding word
 returns c =
@@ -40,10 +22,10 @@ pub add-part-spec : {M : Type 1} → statement M
 add-part-spec =
     tie.close
     (tie.spec
-    mul-at
-    sub-put-part
-    part-put-part-start
-    part-put-part-end
-    put-part-requires
-    same-length
+    (λ c. search needs)
+    (λ c. search needs)
+    (λ c. search needs)
+    (λ c. search needs)
+    (λ c κs. search needs)
+    (λ c. search needs)
     returns)

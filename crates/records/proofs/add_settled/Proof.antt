@@ -11,24 +11,6 @@ use borrow.Author.Needs.{needs}
 use Rattle.records.proofs.add_settled.Statement.{statement}
 use Rattle.records.proofs.add_settled.Tie as tie
 
-mul-at : tie.Need-mul-at
-mul-at c = search needs
-
-sub-put-settled : tie.Need-sub-put-settled
-sub-put-settled c = search needs
-
-part-put-settled-start : tie.Need-part-put-settled-start
-part-put-settled-start c = search needs
-
-part-put-settled-end : tie.Need-part-put-settled-end
-part-put-settled-end c = search needs
-
-put-settled-requires : tie.Need-put-settled-requires
-put-settled-requires c κs = search needs
-
-same-length : tie.Need-same-length
-same-length c = search needs
-
 returns : tie.Need-returns
 unfolding word
 returns c =
@@ -40,10 +22,10 @@ pub add-settled-spec : {M : Type 1} → statement M
 add-settled-spec =
     tie.close
     (tie.spec
-    mul-at
-    sub-put-settled
-    part-put-settled-start
-    part-put-settled-end
-    put-settled-requires
-    same-length
+    (λ c. search needs)
+    (λ c. search needs)
+    (λ c. search needs)
+    (λ c. search needs)
+    (λ c κs. search needs)
+    (λ c. search needs)
     returns)

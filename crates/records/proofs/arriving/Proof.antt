@@ -4,15 +4,9 @@ use borrow.Author.Needs.{needs}
 use Rattle.records.proofs.arriving.Statement.{statement}
 use Rattle.records.proofs.arriving.Tie as tie
 
-enum-told : tie.Need-enum-told
-enum-told c = search needs
-
 part-of-requires : tie.Need-part-of-requires
 unfolding tableOf
 part-of-requires c κs = rw (c .enum-told .given .1) at (c .before .before .before .before .pre)
-
-enum-told-2 : tie.Need-enum-told-2
-enum-told-2 c = search needs
 
 part-of-requires-2 : tie.Need-part-of-requires-2
 unfolding tableOf
@@ -29,4 +23,4 @@ returns-2 c = rw (c .before .enum-told2 .given .1) (c .part-of2 .ensures)
 pub arriving-spec : {M : Type 1} → statement M
 arriving-spec =
     tie.close
-    (tie.spec enum-told part-of-requires enum-told-2 part-of-requires-2 returns returns-2)
+    (tie.spec (λ c. search needs) part-of-requires (λ c. search needs) part-of-requires-2 returns returns-2)

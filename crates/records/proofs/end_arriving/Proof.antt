@@ -5,12 +5,6 @@ use borrow.Author.Needs.{needs}
 use Rattle.records.proofs.end_arriving.Statement.{statement}
 use Rattle.records.proofs.end_arriving.Tie as tie
 
-add-next : tie.Need-add-next
-add-next c = search needs
-
-first-arriving-requires : tie.Need-first-arriving-requires
-first-arriving-requires c κs = search needs
-
 returns : tie.Need-returns
 unfolding endOf
 returns c = simp (lt-ltb _ _ (c .before .if1 .taken), c .first-arriving .ensures)
@@ -20,4 +14,4 @@ unfolding endOf
 returns-2 c = simp (le-ltb _ _ (c .if1 .left))
 
 pub end-arriving-spec : {M : Type 1} → statement M
-end-arriving-spec = tie.close (tie.spec add-next first-arriving-requires returns returns-2)
+end-arriving-spec = tie.close (tie.spec (λ c. search needs) (λ c κs. search needs) returns returns-2)

@@ -20,31 +20,10 @@ returns c =
     let s = c .before .before in
     sym (first-past (now (s .args .table)) (s .pre) (s .args .v) (s .args .first) (omega arith))
 
-sub-word-at : tie.Need-sub-word-at
-sub-word-at c = search needs
-
-mul-word-at : tie.Need-mul-word-at
-mul-word-at c = search needs
-
-add-word-at : tie.Need-add-word-at
-add-word-at c = search needs
-
-word-at-requires : tie.Need-word-at-requires
-word-at-requires c κs = search needs
-
 returns-2 : tie.Need-returns-2
 returns-2 c =
     let s = c .before .before .before .before .before in
     sym (first-high (now (s .args .table)) (s .pre) (s .args .v) (s .args .first) (omega arith) (omega arith) (rw (c .before .word-at .ensures) at (c .if3 .taken)))
-
-mul-word-at-2 : tie.Need-mul-word-at-2
-mul-word-at-2 c = search needs
-
-add-word-at-2 : tie.Need-add-word-at-2
-add-word-at-2 c = search needs
-
-word-at-requires-2 : tie.Need-word-at-requires-2
-word-at-requires-2 c κs = search needs
 
 returns-3 : tie.Need-returns-3
 returns-3 c =
@@ -63,13 +42,13 @@ first-ok-spec =
     tie.close
     (tie.spec
     returns
-    sub-word-at
-    mul-word-at
-    add-word-at
-    word-at-requires
+    (λ c. search needs)
+    (λ c. search needs)
+    (λ c. search needs)
+    (λ c κs. search needs)
     returns-2
-    mul-word-at-2
-    add-word-at-2
-    word-at-requires-2
+    (λ c. search needs)
+    (λ c. search needs)
+    (λ c κs. search needs)
     returns-3
     returns-4)

@@ -9,15 +9,6 @@ use borrow.Author.Needs.{needs}
 use Rattle.records.proofs.put_settled.Statement.{statement}
 use Rattle.records.proofs.put_settled.Tie as tie
 
-put-word-requires : tie.Need-put-word-requires
-put-word-requires c κs = search needs
-
-put-word-requires-2 : tie.Need-put-word-requires-2
-put-word-requires-2 c κs = search needs
-
-same-length : tie.Need-same-length
-same-length c = search needs
-
 returns : tie.Need-returns
 unfolding word
 returns c =
@@ -29,4 +20,4 @@ returns c =
     (two-words (now (a .out)) (a .vertex) (a .distance .0) (s .pre) ∙ front (now (a .out)) (settledBytes (settledOf (a .vertex) (a .distance .0))))
 
 pub put-settled-spec : {M : Type 1} → statement M
-put-settled-spec = tie.close (tie.spec put-word-requires put-word-requires-2 same-length returns)
+put-settled-spec = tie.close (tie.spec (λ c κs. search needs) (λ c κs. search needs) (λ c. search needs) returns)

@@ -11,15 +11,6 @@ use borrow.Author.Needs.{needs}
 use Rattle.records.proofs.read_hop.Statement.{statement}
 use Rattle.records.proofs.read_hop.Tie as tie
 
-hop-at-requires : tie.Need-hop-at-requires
-hop-at-requires c κs = search needs
-
-ends-ok-requires : tie.Need-ends-ok-requires
-ends-ok-requires c κs = search needs
-
-times-ok-requires : tie.Need-times-ok-requires
-times-ok-requires c κs = search needs
-
 returns : tie.Need-returns
 returns c =
     let read = c .before .before .before .before .before in
@@ -39,4 +30,4 @@ returns-2 c =
 
 pub read-hop-spec : {M : Type 1} → statement M
 read-hop-spec =
-    tie.close (tie.spec hop-at-requires ends-ok-requires times-ok-requires returns returns-2)
+    tie.close (tie.spec (λ c κs. search needs) (λ c κs. search needs) (λ c κs. search needs) returns returns-2)

@@ -9,15 +9,6 @@ use borrow.Author.Needs.{needs}
 use Rattle.records.proofs.read_vertex.Statement.{statement}
 use Rattle.records.proofs.read_vertex.Tie as tie
 
-vertex-at-requires : tie.Need-vertex-at-requires
-vertex-at-requires c κs = search needs
-
-first-ok-requires : tie.Need-first-ok-requires
-first-ok-requires c κs = search needs
-
-first-ok-requires-2 : tie.Need-first-ok-requires-2
-first-ok-requires-2 c κs = search needs
-
 returns : tie.Need-returns
 returns c =
     let second = c .before .before .before in
@@ -39,4 +30,4 @@ returns-2 c =
 
 pub read-vertex-spec : {M : Type 1} → statement M
 read-vertex-spec =
-    tie.close (tie.spec vertex-at-requires first-ok-requires first-ok-requires-2 returns returns-2)
+    tie.close (tie.spec (λ c κs. search needs) (λ c κs. search needs) (λ c κs. search needs) returns returns-2)

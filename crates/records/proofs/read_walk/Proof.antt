@@ -10,18 +10,6 @@ use borrow.Author.Needs.{needs}
 use Rattle.records.proofs.read_walk.Statement.{statement}
 use Rattle.records.proofs.read_walk.Tie as tie
 
-walk-at-requires : tie.Need-walk-at-requires
-walk-at-requires c κs = search needs
-
-ends-ok-requires : tie.Need-ends-ok-requires
-ends-ok-requires c κs = search needs
-
-length-ok-requires : tie.Need-length-ok-requires
-length-ok-requires c κs = search needs
-
-twin-ok-requires : tie.Need-twin-ok-requires
-twin-ok-requires c κs = search needs
-
 returns : tie.Need-returns
 returns c =
     let read = c .before .before .before .before in
@@ -43,9 +31,9 @@ pub read-walk-spec : {M : Type 1} → statement M
 read-walk-spec =
     tie.close
     (tie.spec
-    walk-at-requires
-    ends-ok-requires
-    length-ok-requires
-    twin-ok-requires
+    (λ c κs. search needs)
+    (λ c κs. search needs)
+    (λ c κs. search needs)
+    (λ c κs. search needs)
     returns
     returns-2)

@@ -9,15 +9,6 @@ use Rattle.records.proofs.Signed.{bits-low, bits-high, less, less-fits}
 use Rattle.records.proofs.seconds_of.Statement.{statement}
 use Rattle.records.proofs.seconds_of.Tie as tie
 
-cast-t4 : tie.Need-cast-t4
-cast-t4 c = search needs
-
-sub-t5 : tie.Need-sub-t5
-sub-t5 c = search needs
-
-cast-t6 : tie.Need-cast-t6
-cast-t6 c = search needs
-
 sub-t7 : tie.Need-sub-t7
 sub-t7 c = less-fits (4294967295 - c .before .args .bits) (omega arith)
 
@@ -35,4 +26,4 @@ returns-2 c =
     rw (less n h, toZ-ofZ w32 (negsuc n) (record { sfits = h }), bits-high b (omega arith) (omega arith))
 
 pub seconds-of-spec : {M : Type 1} → statement M
-seconds-of-spec = tie.close (tie.spec cast-t4 sub-t5 cast-t6 sub-t7 returns returns-2)
+seconds-of-spec = tie.close (tie.spec (λ c. search needs) (λ c. search needs) (λ c. search needs) sub-t7 returns returns-2)

@@ -4,9 +4,6 @@ use Rattle.records.proofs.Signed.{span-is, span-low, span-high}
 use Rattle.records.proofs.ticks_before.Statement.{statement}
 use Rattle.records.proofs.ticks_before.Tie as tie
 
-since-requires : tie.Need-since-requires
-since-requires c κs = search needs
-
 ticks-of-requires : tie.Need-ticks-of-requires
 ticks-of-requires c κs =
     let s = c .before in
@@ -23,4 +20,4 @@ returns c =
     rw (c .ticks-of .ensures, c .before .since .ensures, span-is a b (s .pre .0) (s .pre .1 .0) (s .pre .1 .1 .0))
 
 pub ticks-before-spec : {M : Type 1} → statement M
-ticks-before-spec = tie.close (tie.spec since-requires ticks-of-requires returns)
+ticks-before-spec = tie.close (tie.spec (λ c κs. search needs) ticks-of-requires returns)

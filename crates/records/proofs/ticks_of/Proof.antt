@@ -41,8 +41,5 @@ mul-t4 c =
     let s = c .before .before in
     rw (back s) (record { fits = omega (arith, mul-le-mul (span _ (s .pre .0 .0) (s .pre .0 .1)) (s .pre .1)) })
 
-returns : tie.Need-returns
-returns c = search needs
-
 pub ticks-of-spec : {M : Type 1} → statement M
-ticks-of-spec = tie.close (tie.spec cast-t3 mul-t4 returns)
+ticks-of-spec = tie.close (tie.spec cast-t3 mul-t4 (λ c. search needs))

@@ -9,15 +9,6 @@ returns : tie.Need-returns
 unfolding twinOk
 returns c = simp (eq-eqb _ _ (c .if1 .taken))
 
-cast-at : tie.Need-cast-at
-cast-at c = search needs
-
-walk-at-requires : tie.Need-walk-at-requires
-walk-at-requires c κs = search needs
-
-pair-ok-requires : tie.Need-pair-ok-requires
-pair-ok-requires c κs = search needs
-
 returns-2 : tie.Need-returns-2
 unfolding twinOk
 returns-2 c = simp (ne-eqb _ _ (c .before .before .before .if1 .left), lt-ltb _ _ (c .before .before .if2 .taken), c .pair-ok .ensures, c .before .walk-at .ensures)
@@ -28,4 +19,4 @@ returns-3 c = simp (ne-eqb _ _ (c .before .if1 .left), le-ltb _ _ (c .if2 .left)
 
 pub twin-ok-spec : {M : Type 1} → statement M
 twin-ok-spec =
-    tie.close (tie.spec returns cast-at walk-at-requires pair-ok-requires returns-2 returns-3)
+    tie.close (tie.spec returns (λ c. search needs) (λ c κs. search needs) (λ c κs. search needs) returns-2 returns-3)

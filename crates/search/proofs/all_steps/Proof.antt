@@ -10,20 +10,11 @@ use Rattle.search.proofs.all_steps.Tie as tie
 read-road-requires : tie.Need-read-road-requires
 read-road-requires c κs = let a = c .before .before .before .before .before .before .before in road-fits (lent (now (a .args .vertices)) (now (a .args .walks)) (now (a .args .hops)) (now (a .args .held)) (now (a .args .settled)) (now (a .args .parts))) (queryOf (a .args .q)) (a .pre .0)
 
-cast-t15 : tie.Need-cast-t15
-cast-t15 c = search needs
-
 ticks-of-requires : tie.Need-ticks-of-requires
 ticks-of-requires c κs = let a = c .before .before .before .before .before .before .before .before .before in (window-some (lent (now (a .args .vertices)) (now (a .args .walks)) (now (a .args .hops)) (now (a .args .held)) (now (a .args .settled)) (now (a .args .parts))) (queryOf (a .args .q)) (a .pre .0), a .pre .0 .query .speed-high)
 
 open-requires : tie.Need-open-requires
 open-requires c κs = let a = c .before .before .before .before .before .before .before .before .before .before .before .before in road-needs (lent (now (a .args .vertices)) (now (a .args .walks)) (now (a .args .hops)) (now (a .args .held)) (now (a .args .settled)) (now (a .args .parts))) (queryOf (a .args .q)) (a .pre .0) _ (c .before .before .before .before .read-road .ensures) (a .pre .2)
-
-enum-known-n : tie.Need-enum-known-n
-enum-known-n c = search needs
-
-enum-known-start : tie.Need-enum-known-start
-enum-known-start c = search needs
 
 steps-requires : tie.Need-steps-requires
 steps-requires c κs =
@@ -34,12 +25,6 @@ steps-requires c κs =
       begins b (queryOf (a .args .q)) (a .pre .0) _ _ _ h (c .before .before .before .before .before .before .before .before .before .before .held .given) (c .before .before .before .before .before .before .before .before .parts .given),
     )
 
-same-length : tie.Need-same-length
-same-length c = search needs
-
-same-length-2 : tie.Need-same-length-2
-same-length-2 c = search needs
-
 returns : tie.Need-returns
 returns c =
     let a = c .before .before .before .before .before .before .before .before .before .before .before .before .before .before .before .before .before .before .before .before in
@@ -47,18 +32,6 @@ returns c =
       shut-back b (queryOf (a .args .q)) _ _ _ _ _ (shut b (queryOf (a .args .q)) (a .pre .0) _ _ (shut-as b (queryOf (a .args .q)) (a .pre .0) _ (c .before .before .before .before .before .before .before .before .before .before .before .before .read-road .ensures) _ (window-is b (queryOf (a .args .q)) (a .pre .0) _ (c .before .before .before .before .before .before .before .before .before .before .ticks-of .ensures)) _ _ _ (c .before .before .before .before .before .before .before .open .ensures) _ (c .before .n .given .1))),
       a .pre .1,
     )
-
-same-length-3 : tie.Need-same-length-3
-same-length-3 c = search needs
-
-same-length-4 : tie.Need-same-length-4
-same-length-4 c = search needs
-
-same-length-5 : tie.Need-same-length-5
-same-length-5 c = search needs
-
-same-length-6 : tie.Need-same-length-6
-same-length-6 c = search needs
 
 returns-2 : tie.Need-returns-2
 returns-2 c =
@@ -74,17 +47,17 @@ all-steps-spec =
     tie.close
     (tie.spec
     read-road-requires
-    cast-t15
+    (λ c. search needs)
     ticks-of-requires
     open-requires
-    enum-known-n
-    enum-known-start
+    (λ c. search needs)
+    (λ c. search needs)
     steps-requires
-    same-length
-    same-length-2
+    (λ c. search needs)
+    (λ c. search needs)
     returns
-    same-length-3
-    same-length-4
-    same-length-5
-    same-length-6
+    (λ c. search needs)
+    (λ c. search needs)
+    (λ c. search needs)
+    (λ c. search needs)
     returns-2)

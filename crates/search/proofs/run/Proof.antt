@@ -10,21 +10,6 @@ use borrow.Author.Needs.{needs}
 use Rattle.search.proofs.run.Statement.{statement}
 use Rattle.search.proofs.run.Tie as tie
 
-input-fault-requires : tie.Need-input-fault-requires
-input-fault-requires c κs = search needs
-
-refusal-requires : tie.Need-refusal-requires
-refusal-requires c κs = search needs
-
-same-length : tie.Need-same-length
-same-length c = search needs
-
-same-length-2 : tie.Need-same-length-2
-same-length-2 c = search needs
-
-same-length-3 : tie.Need-same-length-3
-same-length-3 c = search needs
-
 returns : tie.Need-returns
 returns c = let a = c .before .before .before .before .before .before .before .before .before .before .before .before .before .before in refused-early (lent (now (a .args .vertices)) (now (a .args .walks)) (now (a .args .hops)) (now (a .args .held)) (now (a .args .settled)) (now (a .args .parts))) (queryOf (a .args .q)) _ _ (c .before .before .before .input-fault .ensures .0) _ (c .refusal .ensures) (c .before .if1 .taken)
 
@@ -39,56 +24,20 @@ all-steps-requires c κs =
       whole-held (lent (now (a .args .vertices)) (now (a .args .walks)) (now (a .args .hops)) (now (a .args .held)) (now (a .args .settled)) (now (a .args .parts))) (queryOf (a .args .q)) (a .args .limit) _ (c .before .before .before .before .before .before .input-fault .ensures .0) (c .before .before .before .before .if1 .left),
     )
 
-enum-known-p : tie.Need-enum-known-p
-enum-known-p c = search needs
-
 conclude-requires : tie.Need-conclude-requires
 conclude-requires c κs =
     let a = c .before .before .before .before .before .before .before .before .before .before .before .before .before .before .before .before .before .before .before .before .before .before .before .before .before .before .before .before .before .before .before in
     fits-end (lent (now (a .args .vertices)) (now (a .args .walks)) (now (a .args .hops)) (now (a .args .held)) (now (a .args .settled)) (now (a .args .parts))) (queryOf (a .args .q)) (a .args .limit) _ (c .before .before .before .before .before .before .before .before .before .before .before .before .before .before .before .before .before .before .before .before .input-fault .ensures .0) (c .before .before .before .before .before .before .before .before .before .before .before .before .before .before .before .before .before .before .if1 .left) _ _ _ _ _ (subst (Reaches _ _ _ _ _ _) (c .before .before .before .before .p .given .1) (c .before .before .before .before .before .before .before .before .before .before .before .before .before .all-steps .ensures .0)) (c .before .before .before .before .before .before .before .before .before .before .settled .given) (c .before .before .before .before .before .before .before .before .parts .given)
-
-enum-known-number : tie.Need-enum-known-number
-enum-known-number c = search needs
-
-clear-requires : tie.Need-clear-requires
-clear-requires c κs = search needs
-
-clear-requires-2 : tie.Need-clear-requires-2
-clear-requires-2 c κs = search needs
-
-clear-requires-3 : tie.Need-clear-requires-3
-clear-requires-3 c κs = search needs
 
 cast-refusal : tie.Need-cast-refusal
 cast-refusal c =
     let a = c .before .before .before .before .before .before .before .before .before .before .before .before .before .before .before .before .before .before .before .before .before .before .before .before .before .before .before .before .before .before .before .before .before .before .before .before .before .before .before .before in
     omega (arith, step-low (lent (now (a .args .vertices)) (now (a .args .walks)) (now (a .args .hops)) (now (a .args .held)) (now (a .args .settled)) (now (a .args .parts))) (queryOf (a .args .q)) (a .args .limit) _ (c .before .before .before .before .before .before .before .before .before .before .before .before .before .before .before .before .before .before .before .before .before .before .before .before .before .before .before .before .before .input-fault .ensures .0) (c .before .before .before .before .before .before .before .before .before .before .before .before .before .before .before .before .before .before .before .before .before .before .before .before .before .before .before .if1 .left) _ _ _ _ _ (subst (Reaches _ _ _ _ _ _) (c .before .before .before .before .before .before .before .before .before .before .before .before .before .number .given .1) (c .before .before .before .before .before .before .before .before .before .before .before .before .before .before .before .before .before .before .before .before .before .before .all-steps .ensures .0)), a .fits .limit)
 
-refusal-requires-2 : tie.Need-refusal-requires-2
-refusal-requires-2 c κs = search needs
-
-same-length-4 : tie.Need-same-length-4
-same-length-4 c = search needs
-
-same-length-5 : tie.Need-same-length-5
-same-length-5 c = search needs
-
-same-length-6 : tie.Need-same-length-6
-same-length-6 c = search needs
-
 returns-2 : tie.Need-returns-2
 returns-2 c =
     let a = c .before .before .before .before .before .before .before .before .before .before .before .before .before .before .before .before .before .before .before .before .before .before .before .before .before .before .before .before .before .before .before .before .before .before .before .before .before .before in
     concluded (lent (now (a .args .vertices)) (now (a .args .walks)) (now (a .args .hops)) (now (a .args .held)) (now (a .args .settled)) (now (a .args .parts))) (queryOf (a .args .q)) (a .args .limit) _ (c .before .before .before .before .before .before .before .before .before .before .before .before .before .before .before .before .before .before .before .before .before .before .before .before .before .before .before .input-fault .ensures .0) (c .before .before .before .before .before .before .before .before .before .before .before .before .before .before .before .before .before .before .before .before .before .before .before .before .before .if1 .left) _ _ _ _ _ (subst (Reaches _ _ _ _ _ _) (c .before .before .before .before .before .before .before .before .before .before .before .p .given .1) (c .before .before .before .before .before .before .before .before .before .before .before .before .before .before .before .before .before .before .before .before .all-steps .ensures .0)) _ _ _ _ (c .before .before .before .before .before .before .conclude .ensures) (c .before .before .before .before .before .before .before .before .before .before .before .before .before .before .before .before .before .before .before .held .given) (c .before .before .before .before .before .before .before .before .before .before .before .before .before .before .before .before .before .settled .given) (c .before .before .before .before .before .before .before .before .before .before .before .before .before .before .before .parts .given)
-
-same-length-7 : tie.Need-same-length-7
-same-length-7 c = search needs
-
-same-length-8 : tie.Need-same-length-8
-same-length-8 c = search needs
-
-same-length-9 : tie.Need-same-length-9
-same-length-9 c = search needs
 
 returns-3 : tie.Need-returns-3
 returns-3 c =
@@ -99,27 +48,27 @@ pub run-spec : {M : Type 1} → statement M
 run-spec =
     tie.close
     (tie.spec
-    input-fault-requires
-    refusal-requires
-    same-length
-    same-length-2
-    same-length-3
+    (λ c κs. search needs)
+    (λ c κs. search needs)
+    (λ c. search needs)
+    (λ c. search needs)
+    (λ c. search needs)
     returns
     slice-aggregate-all-steps
     all-steps-requires
-    enum-known-p
+    (λ c. search needs)
     conclude-requires
-    enum-known-number
-    clear-requires
-    clear-requires-2
-    clear-requires-3
+    (λ c. search needs)
+    (λ c κs. search needs)
+    (λ c κs. search needs)
+    (λ c κs. search needs)
     cast-refusal
-    refusal-requires-2
-    same-length-4
-    same-length-5
-    same-length-6
+    (λ c κs. search needs)
+    (λ c. search needs)
+    (λ c. search needs)
+    (λ c. search needs)
     returns-2
-    same-length-7
-    same-length-8
-    same-length-9
+    (λ c. search needs)
+    (λ c. search needs)
+    (λ c. search needs)
     returns-3)

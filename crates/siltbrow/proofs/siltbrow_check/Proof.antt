@@ -5,25 +5,10 @@ use borrow.Author.Needs.{needs}
 use Rattle.siltbrow.proofs.siltbrow_check.Statement.{statement}
 use Rattle.siltbrow.proofs.siltbrow_check.Tie as tie
 
-check-requires : tie.Need-check-requires
-check-requires c κs = search needs
-
-cast-result : tie.Need-cast-result
-cast-result c = search needs
-
-mul-result : tie.Need-mul-result
-mul-result c = search needs
-
-cast-result-2 : tie.Need-cast-result-2
-cast-result-2 c = search needs
-
-add-result : tie.Need-add-result
-add-result c = search needs
-
 returns : tie.Need-returns
 unfolding packed
 returns c = ap packed (c .before .before .check .ensures .0)
 
 pub siltbrow-check-spec : {M : Type 1} → statement M
 siltbrow-check-spec =
-    tie.close (tie.spec check-requires cast-result mul-result cast-result-2 add-result returns)
+    tie.close (tie.spec (λ c κs. search needs) (λ c. search needs) (λ c. search needs) (λ c. search needs) (λ c. search needs) returns)

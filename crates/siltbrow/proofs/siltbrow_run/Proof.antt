@@ -12,24 +12,6 @@ use Rattle.siltbrow.proofs.siltbrow_run.Tie as tie
 returns : tie.Need-returns
 returns c = record { untouched = λ n. (refl, refl, refl, refl, refl); answered = λ e. absurd (c .if1 .taken e) }
 
-run-requires : tie.Need-run-requires
-run-requires c κs = search needs
-
-put-answer-requires : tie.Need-put-answer-requires
-put-answer-requires c κs = search needs
-
-same-length : tie.Need-same-length
-same-length c = search needs
-
-same-length-2 : tie.Need-same-length-2
-same-length-2 c = search needs
-
-same-length-3 : tie.Need-same-length-3
-same-length-3 c = search needs
-
-same-length-4 : tie.Need-same-length-4
-same-length-4 c = search needs
-
 returns-2 : tie.Need-returns-2
 returns-2 c =
     let a = c .before .before .before .before .before .before .before .before .before .before .before .before .before .before .before .before .before .before .before .before .before .before in
@@ -40,10 +22,10 @@ siltbrow-run-spec =
     tie.close
     (tie.spec
     returns
-    run-requires
-    put-answer-requires
-    same-length
-    same-length-2
-    same-length-3
-    same-length-4
+    (λ c κs. search needs)
+    (λ c κs. search needs)
+    (λ c. search needs)
+    (λ c. search needs)
+    (λ c. search needs)
+    (λ c. search needs)
     returns-2)

@@ -16,12 +16,6 @@ Inv-loop b₀ r cap i x p₀ winner₀ least₀ b p winner least = Climbing r ca
 abbrev μ-loop : tie.MeasureT-loop
 μ-loop b₀ r cap i x p₀ winner₀ least₀ b p winner least = p
 
-set-word-requires : tie.Need-set-word-requires Inv-loop μ-loop
-set-word-requires c κs = search needs
-
-add-p : tie.Need-add-p Inv-loop μ-loop
-add-p c = search needs
-
 loop-holds : tie.Need-loop-holds Inv-loop μ-loop
 loop-holds c =
     let after-set-word = c .before .before in
@@ -58,9 +52,6 @@ set-tree-requires c κs =
           (λ w. omega (arith, w .1, climb-cur (at-loop .loop .inv), start .pre .0 .small)) (joined1 .if1 .came),
     )
 
-loop-less : tie.Need-loop-less Inv-loop μ-loop
-loop-less c = search needs
-
 loop-again : tie.Need-loop-again Inv-loop μ-loop
 loop-again c =
     let start = c .before .before .before .before .before .before .before .before .before .before .before .before .before .before .before .before in
@@ -93,13 +84,13 @@ change-word-spec =
     (tie.spec
     Inv-loop
     μ-loop
-    set-word-requires
-    add-p
+    (λ c κs. search needs)
+    (λ c. search needs)
     loop-holds
     tree-requires
     word-requires
     set-tree-requires
-    loop-less
+    (λ c. search needs)
     loop-again
     same-length
     returns)

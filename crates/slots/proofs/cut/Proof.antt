@@ -9,21 +9,6 @@ use Rattle.slots.proofs.LinkLaws.{cut-head, cut-next, cut-first, cut-be
 use Rattle.slots.proofs.cut.Statement.{statement}
 use Rattle.slots.proofs.cut.Tie as tie
 
-word-requires : tie.Need-word-requires
-word-requires c κs = search needs
-
-vertex-in-requires : tie.Need-vertex-in-requires
-vertex-in-requires c κs = search needs
-
-bucket-requires : tie.Need-bucket-requires
-bucket-requires c κs = search needs
-
-head-requires : tie.Need-head-requires
-head-requires c κs = search needs
-
-next-requires : tie.Need-next-requires
-next-requires c κs = search needs
-
 set-head-requires : tie.Need-set-head-requires
 set-head-requires c κs =
     let after-bucket = c .before .before .before .before .before .before in
@@ -36,9 +21,6 @@ set-head-requires c κs =
       omega (arith, after-bucket .bucket .ensures .1, start .pre .1 .mask, start .pre .0 .fits),
       omega (arith, cut-next (sized (start .args .r) (start .args .b .now)) (start .pre .0 .fits) (start .pre .1) (start .pre .2) (start .pre .3) ek (after-next .next .ensures), start .pre .2, start .pre .0 .small),
     )
-
-same-length : tie.Need-same-length
-same-length c = search needs
 
 returns : tie.Need-returns
 returns c =
@@ -66,9 +48,6 @@ before-requires c κs =
     let at-head = cut-head (sized (start .args .r) (start .args .b .now)) (start .pre .0 .fits) (start .pre .1) (start .pre .2) (start .pre .3) ek (after-head .head .ensures) in
     (start .pre .0, start .pre .1, at-head .0, omega (arith, at-head .1, else1 .if1 .left))
 
-passed-requires : tie.Need-passed-requires
-passed-requires c κs = search needs
-
 set-next-requires : tie.Need-set-next-requires
 set-next-requires c κs =
     let after-bucket = c .before .before .before .before .before .before .before .before .before in
@@ -84,9 +63,6 @@ set-next-requires c κs =
       omega (arith, low, start .pre .0 .fits),
       ⊎-elim (λ w. omega (arith, w .1, low, start .pre .0 .small)) (λ w. omega (arith, w .1, n-low, start .pre .2, start .pre .0 .small)) (c .passed .ensures),
     )
-
-same-length-2 : tie.Need-same-length-2
-same-length-2 c = search needs
 
 returns-2 : tie.Need-returns-2
 returns-2 c =
@@ -106,16 +82,16 @@ pub cut-spec : {M : Type 1} → statement M
 cut-spec =
     tie.close
     (tie.spec
-    word-requires
-    vertex-in-requires
-    bucket-requires
-    head-requires
-    next-requires
+    (λ c κs. search needs)
+    (λ c κs. search needs)
+    (λ c κs. search needs)
+    (λ c κs. search needs)
+    (λ c κs. search needs)
     set-head-requires
-    same-length
+    (λ c. search needs)
     returns
     before-requires
-    passed-requires
+    (λ c κs. search needs)
     set-next-requires
-    same-length-2
+    (λ c. search needs)
     returns-2)

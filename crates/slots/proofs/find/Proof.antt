@@ -12,9 +12,6 @@ Inv-loop b r cap mask u k s₀ s = Seeking cap mask (cols r b .w) u k s
 abbrev μ-loop : tie.MeasureT-loop
 μ-loop b r cap mask u k s₀ s = s
 
-bucket-requires : tie.Need-bucket-requires Inv-loop μ-loop
-bucket-requires c κs = search needs
-
 first-requires : tie.Need-first-requires Inv-loop μ-loop
 first-requires c κs =
     let start = c .before .before in
@@ -38,9 +35,6 @@ word-requires : tie.Need-word-requires Inv-loop μ-loop
 word-requires c κs =
     let start = c .before .before .before .before .before in
     (start .pre .0 .len, omega (arith, c .loop .inv .mem .0, start .pre .0 .fits))
-
-vertex-in-requires : tie.Need-vertex-in-requires Inv-loop μ-loop
-vertex-in-requires c κs = search needs
 
 next-requires : tie.Need-next-requires Inv-loop μ-loop
 next-requires c κs =
@@ -91,12 +85,12 @@ find-spec =
     (tie.spec
     Inv-loop
     μ-loop
-    bucket-requires
+    (λ c κs. search needs)
     first-requires
     returns
     loop-holds
     word-requires
-    vertex-in-requires
+    (λ c κs. search needs)
     next-requires
     returns-2
     loop-less

@@ -8,9 +8,6 @@ use Rattle.slots.proofs.SearchLaws.{head-low, first-none, first-some}
 use Rattle.slots.proofs.first.Statement.{statement}
 use Rattle.slots.proofs.first.Tie as tie
 
-head-requires : tie.Need-head-requires
-head-requires c κs = search needs
-
 word-requires : tie.Need-word-requires
 word-requires c κs =
     let start = c .before .before in
@@ -22,12 +19,6 @@ returns c =
     let after-head = c .before .before in
     let after-word = c .before in
     first-none (start .pre .1) (after-head .head .ensures) (after-word .word .ensures) (inl (c .if1 .taken))
-
-vertex-in-requires : tie.Need-vertex-in-requires
-vertex-in-requires c κs = search needs
-
-bucket-requires : tie.Need-bucket-requires
-bucket-requires c κs = search needs
 
 returns-2 : tie.Need-returns-2
 returns-2 c =
@@ -54,10 +45,10 @@ pub first-spec : {M : Type 1} → statement M
 first-spec =
     tie.close
     (tie.spec
-    head-requires
+    (λ c κs. search needs)
     word-requires
     returns
-    vertex-in-requires
-    bucket-requires
+    (λ c κs. search needs)
+    (λ c κs. search needs)
     returns-2
     returns-3)

@@ -8,21 +8,6 @@ use Rattle.slots.proofs.LinkLaws.{link-alone, link-first, link-above, l
 use Rattle.slots.proofs.link.Statement.{statement}
 use Rattle.slots.proofs.link.Tie as tie
 
-vertex-in-requires : tie.Need-vertex-in-requires
-vertex-in-requires c κs = search needs
-
-bucket-requires : tie.Need-bucket-requires
-bucket-requires c κs = search needs
-
-first-requires : tie.Need-first-requires
-first-requires c κs = search needs
-
-push-requires : tie.Need-push-requires
-push-requires c κs = search needs
-
-same-length : tie.Need-same-length
-same-length c = search needs
-
 returns : tie.Need-returns
 returns c =
     let start = c .before .before .before .before .before .before .before .before .before .before in
@@ -34,12 +19,6 @@ returns c =
     link-alone (sized (start .args .r) (start .args .b .now)) (start .pre .0 .fits) (start .pre .1) (start .pre .2) (start .pre .3) (start .pre .4)
     (after-bucket .bucket .ensures .0 ∙ ap (bucketOf (start .args .mask)) (after-vertex-in .vertex-in .ensures .0))
     (after-first .first .ensures) (then1 .if1 .taken) (after-push .push .ensures)
-
-push-requires-2 : tie.Need-push-requires-2
-push-requires-2 c κs = search needs
-
-same-length-2 : tie.Need-same-length-2
-same-length-2 c = search needs
 
 returns-2 : tie.Need-returns-2
 returns-2 c =
@@ -66,21 +45,6 @@ before-requires c κs =
     (after-first .first .ensures) (else1 .if1 .left) (else2 .if2 .left) in
     (start .pre .0, start .pre .1, above .0, above .1)
 
-next-requires : tie.Need-next-requires
-next-requires c κs = search needs
-
-lesser-requires : tie.Need-lesser-requires
-lesser-requires c κs = search needs
-
-set-next-requires : tie.Need-set-next-requires
-set-next-requires c κs = search needs
-
-set-next-requires-2 : tie.Need-set-next-requires-2
-set-next-requires-2 c κs = search needs
-
-same-length-3 : tie.Need-same-length-3
-same-length-3 c = search needs
-
 returns-3 : tie.Need-returns-3
 returns-3 c =
     let start = c .before .before .before .before .before .before .before .before .before .before .before .before .before .before .before .before .before .before .before .before in
@@ -100,19 +64,19 @@ pub link-spec : {M : Type 1} → statement M
 link-spec =
     tie.close
     (tie.spec
-    vertex-in-requires
-    bucket-requires
-    first-requires
-    push-requires
-    same-length
+    (λ c κs. search needs)
+    (λ c κs. search needs)
+    (λ c κs. search needs)
+    (λ c κs. search needs)
+    (λ c. search needs)
     returns
-    push-requires-2
-    same-length-2
+    (λ c κs. search needs)
+    (λ c. search needs)
     returns-2
     before-requires
-    next-requires
-    lesser-requires
-    set-next-requires
-    set-next-requires-2
-    same-length-3
+    (λ c κs. search needs)
+    (λ c κs. search needs)
+    (λ c κs. search needs)
+    (λ c κs. search needs)
+    (λ c. search needs)
     returns-3)

@@ -14,12 +14,6 @@ Inv-loop b₀ r cap i x p₀ b p = Climbs r cap (cols r b₀) b i x p
 abbrev μ-loop : tie.MeasureT-loop
 μ-loop b₀ r cap i x p₀ b p = p
 
-set-word-requires : tie.Need-set-word-requires Inv-loop μ-loop
-set-word-requires c κs = search needs
-
-add-p : tie.Need-add-p Inv-loop μ-loop
-add-p c = search needs
-
 loop-holds : tie.Need-loop-holds Inv-loop μ-loop
 loop-holds c =
     let after-set-word = c .before .before in
@@ -34,9 +28,6 @@ tree-requires c κs =
     let start = c .before .before .before .before .before .before .before .before in
     let in-loop = c .before in
     (at-loop .loop .inv .len, climbs-in (start .pre .0 .fits) (at-loop .loop .inv) (in-loop .loop-test .taken))
-
-loop-less : tie.Need-loop-less Inv-loop μ-loop
-loop-less c = search needs
 
 loop-again : tie.Need-loop-again Inv-loop μ-loop
 loop-again c =
@@ -80,9 +71,6 @@ set-tree-requires c κs =
     let in-loop = c .before .before .before .before .before .before .before in
     (at-loop .loop .inv .len, climbs-in (start .pre .0 .fits) (at-loop .loop .inv) (in-loop .loop-test .taken), omega (arith, start .pre .1, start .pre .0 .small))
 
-loop-less-2 : tie.Need-loop-less-2 Inv-loop μ-loop
-loop-less-2 c = search needs
-
 loop-again-2 : tie.Need-loop-again-2 Inv-loop μ-loop
 loop-again-2 c =
     let start = c .before .before .before .before .before .before .before .before .before .before .before .before .before .before .before .before .before in
@@ -114,17 +102,17 @@ lower-word-spec =
     (tie.spec
     Inv-loop
     μ-loop
-    set-word-requires
-    add-p
+    (λ c κs. search needs)
+    (λ c. search needs)
     loop-holds
     tree-requires
-    loop-less
+    (λ c. search needs)
     loop-again
     word-requires
     same-length
     returns
     set-tree-requires
-    loop-less-2
+    (λ c. search needs)
     loop-again-2
     same-length-2
     returns-2)

@@ -5,15 +5,6 @@ use Rattle.columns.specs.Columns.{Cols, setH}
 use Rattle.slots.proofs.push.Statement.{statement}
 use Rattle.slots.proofs.push.Tie as tie
 
-set-next-requires : tie.Need-set-next-requires
-set-next-requires c κs = search needs
-
-set-head-requires : tie.Need-set-head-requires
-set-head-requires c κs = search needs
-
-same-length : tie.Need-same-length
-same-length c = search needs
-
 returns : tie.Need-returns
 returns c =
     let after-set-head = c .before .before in
@@ -22,4 +13,4 @@ returns c =
     after-set-head .set-head .ensures ∙ ap (λ (z : Cols). setH z (start .args .k) (start .args .s)) (after-set-next .set-next .ensures)
 
 pub push-spec : {M : Type 1} → statement M
-push-spec = tie.close (tie.spec set-next-requires set-head-requires same-length returns)
+push-spec = tie.close (tie.spec (λ c κs. search needs) (λ c κs. search needs) (λ c. search needs) returns)

@@ -9,9 +9,6 @@ word-requires c κs =
     let start = c .before in
     (start .pre .0 .room .len, place-low (start .pre .0) (start .pre .1))
 
-distance-in-requires : tie.Need-distance-in-requires
-distance-in-requires c κs = search needs
-
 returns : tie.Need-returns
 returns c =
     let start = c .before .before .before in
@@ -19,4 +16,4 @@ returns c =
     c .distance-in .ensures ∙ sym (place-distance (start .pre .0) (start .pre .1) (after-word .word .ensures))
 
 pub distance-spec : {M : Type 1} → statement M
-distance-spec = tie.close (tie.spec word-requires distance-in-requires returns)
+distance-spec = tie.close (tie.spec word-requires (λ c κs. search needs) returns)

@@ -32,12 +32,6 @@ set-next-requires c κs =
       start .pre .0 .parts (place-pos (start .pre .0) (start .pre .1)) .top16,
     )
 
-add-t12 : tie.Need-add-t12
-add-t12 c = search needs
-
-same-length : tie.Need-same-length
-same-length c = search needs
-
 returns : tie.Need-returns
 returns c =
     let start = c .before .before .before .before .before .before .before .before .before .before .before .before .before .before in
@@ -48,4 +42,4 @@ returns c =
     (after-set-next .set-next .kept .0 ∙ after-vacate .vacate .kept .0 ∙ after-cut .cut .kept .0)
 
 pub drop-spec : {M : Type 1} → statement M
-drop-spec = tie.close (tie.spec cut-requires vacate-requires set-next-requires add-t12 same-length returns)
+drop-spec = tie.close (tie.spec cut-requires vacate-requires set-next-requires (λ c. search needs) (λ c. search needs) returns)

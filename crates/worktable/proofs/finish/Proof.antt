@@ -12,9 +12,6 @@ use Rattle.worktable.proofs.FinishLaws.{lists, finish-count, finish-fil
 use Rattle.worktable.proofs.finish.Statement.{statement}
 use Rattle.worktable.proofs.finish.Tie as tie
 
-pack-requires : tie.Need-pack-requires
-pack-requires c κs = search needs
-
 sort-requires : tie.Need-sort-requires
 sort-requires c κs =
     let after-pack = c .before .before .before in
@@ -26,21 +23,6 @@ sort-requires c κs =
       λ i a l. (omega arith, vertex-low (at (cols (start .args .t .slots) (after-pack .pack .last .0) .w) i)),
     )
 
-mul-o : tie.Need-mul-o
-mul-o c = search needs
-
-sub-clear : tie.Need-sub-clear
-sub-clear c = search needs
-
-part-clear-start : tie.Need-part-clear-start
-part-clear-start c = search needs
-
-part-clear-end : tie.Need-part-clear-end
-part-clear-end c = search needs
-
-clear-requires : tie.Need-clear-requires
-clear-requires c κs = search needs
-
 spread-requires : tie.Need-spread-requires
 spread-requires c κs =
     let after-pack = c .before .before .before .before .before .before .before .before .before .before .before in
@@ -50,9 +32,6 @@ spread-requires c κs =
       same-len-mid (16 * after-pack .pack .result) (length (after-sort .sort .last .0) - 16 * after-pack .pack .result) (after-sort .sort .last .0) (after-clear .clear .last .0) (after-clear .clear .kept .0) ∙ after-sort .sort .kept .0 ∙ after-pack .pack .kept .0 ∙ start .pre .room .len,
       omega (arith, after-pack .pack .ensures .le, start .pre .room .fits),
     )
-
-same-length : tie.Need-same-length
-same-length c = search needs
 
 returns : tie.Need-returns
 returns c =
@@ -71,13 +50,13 @@ pub finish-spec : {M : Type 1} → statement M
 finish-spec =
     tie.close
     (tie.spec
-    pack-requires
+    (λ c κs. search needs)
     sort-requires
-    mul-o
-    sub-clear
-    part-clear-start
-    part-clear-end
-    clear-requires
+    (λ c. search needs)
+    (λ c. search needs)
+    (λ c. search needs)
+    (λ c. search needs)
+    (λ c κs. search needs)
     spread-requires
-    same-length
+    (λ c. search needs)
     returns)

@@ -10,9 +10,6 @@ use Rattle.worktable.proofs.TableLaws.{free-some, gives-new}
 use Rattle.worktable.proofs.insert.Statement.{statement}
 use Rattle.worktable.proofs.insert.Tie as tie
 
-word-of-requires : tie.Need-word-of-requires
-word-of-requires c κs = search needs
-
 next-requires : tie.Need-next-requires
 next-requires c κs =
     let start = c .before .before .before in
@@ -50,9 +47,6 @@ sub-t17 c =
     let start = c .before .before .before .before .before .before .before .before .before .before .before .before .before in
     omega (arith, free-some (start .pre .0) (start .pre .5))
 
-same-length : tie.Need-same-length
-same-length c = search needs
-
 returns : tie.Need-returns
 returns c =
     let start = c .before .before .before .before .before .before .before .before .before .before .before .before .before in
@@ -69,10 +63,10 @@ pub insert-spec : {M : Type 1} → statement M
 insert-spec =
     tie.close
     (tie.spec
-    word-of-requires
+    (λ c κs. search needs)
     next-requires
     link-requires
     lower-word-requires
     sub-t17
-    same-length
+    (λ c. search needs)
     returns)

@@ -22,12 +22,6 @@ word-requires c κs =
     let else1 = c .before in
     (start .pre .room .len, omega (arith, root-low (start .pre) (omega (arith, else1 .if1 .left)) (c .tree .ensures) refl, start .pre .room .fits))
 
-vertex-in-requires : tie.Need-vertex-in-requires
-vertex-in-requires c κs = search needs
-
-distance-in-requires : tie.Need-distance-in-requires
-distance-in-requires c κs = search needs
-
 returns-2 : tie.Need-returns-2
 returns-2 c =
     let start = c .before .before .before .before .before .before .before .before in
@@ -53,7 +47,7 @@ least-spec =
     returns
     tree-requires
     word-requires
-    vertex-in-requires
-    distance-in-requires
+    (λ c κs. search needs)
+    (λ c κs. search needs)
     returns-2
     returns-3)

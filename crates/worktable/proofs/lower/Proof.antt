@@ -11,15 +11,6 @@ use Rattle.worktable.proofs.TableLaws.{place-pos, place-entry, place-di
 use Rattle.worktable.proofs.lower.Statement.{statement}
 use Rattle.worktable.proofs.lower.Tie as tie
 
-word-requires : tie.Need-word-requires
-word-requires c κs = search needs
-
-mul-lower-word : tie.Need-mul-lower-word
-mul-lower-word c = search needs
-
-add-lower-word : tie.Need-add-lower-word
-add-lower-word c = search needs
-
 lower-word-requires : tie.Need-lower-word-requires
 lower-word-requires c κs =
     let start = c .before .before .before .before .before in
@@ -30,9 +21,6 @@ lower-word-requires c κs =
     let ew = after-word .word .ensures in
     let unsettled : stateIn (after-word .word .result) ≡ 0 = sym (place-state o p ew) ∙ start .pre .3 in
     (o .room, p .slot .low, o .parts (place-pos o p) .win, rw (← ew) (lower-key (after-word .word .result) (start .args .d) unsettled (start .pre .2) (then1 .if1 .taken)))
-
-same-length : tie.Need-same-length
-same-length c = search needs
 
 returns : tie.Need-returns
 returns c =
@@ -49,9 +37,6 @@ returns c =
     gives-changed o p ew (lower-used w d unsettled (start .pre .2) (then1 .if1 .taken)) (lower-vertex w d unsettled (start .pre .2) (then1 .if1 .taken))
     (lower-entry w d unsettled (start .pre .2) (then1 .if1 .taken) ∙ sym (known-is (ap (min d) (place-distance o p ew)) (place-state o p ew) (place-remaining o p ew)))
     (after-lower-word .lower-word .ensures) (after-lower-word .lower-word .kept .0)
-
-same-length-2 : tie.Need-same-length-2
-same-length-2 c = search needs
 
 returns-2 : tie.Need-returns-2
 returns-2 c =
@@ -71,11 +56,11 @@ pub lower-spec : {M : Type 1} → statement M
 lower-spec =
     tie.close
     (tie.spec
-    word-requires
-    mul-lower-word
-    add-lower-word
+    (λ c κs. search needs)
+    (λ c. search needs)
+    (λ c. search needs)
     lower-word-requires
-    same-length
+    (λ c. search needs)
     returns
-    same-length-2
+    (λ c. search needs)
     returns-2)

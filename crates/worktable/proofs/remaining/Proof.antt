@@ -9,9 +9,6 @@ word-requires c κs =
     let start = c .before in
     (start .pre .0 .room .len, place-low (start .pre .0) (start .pre .1))
 
-remaining-in-requires : tie.Need-remaining-in-requires
-remaining-in-requires c κs = search needs
-
 returns : tie.Need-returns
 returns c =
     let start = c .before .before .before in
@@ -19,4 +16,4 @@ returns c =
     c .remaining-in .ensures ∙ sym (place-remaining (start .pre .0) (start .pre .1) (after-word .word .ensures))
 
 pub remaining-spec : {M : Type 1} → statement M
-remaining-spec = tie.close (tie.spec word-requires remaining-in-requires returns)
+remaining-spec = tie.close (tie.spec word-requires (λ c κs. search needs) returns)

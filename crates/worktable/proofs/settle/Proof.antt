@@ -10,9 +10,6 @@ use Rattle.worktable.proofs.TableLaws.{place-pos, place-distance, place
 use Rattle.worktable.proofs.settle.Statement.{statement}
 use Rattle.worktable.proofs.settle.Tie as tie
 
-word-requires : tie.Need-word-requires
-word-requires c κs = search needs
-
 add-change-word : tie.Need-add-change-word
 add-change-word c =
     let after-word = c .before in
@@ -26,9 +23,6 @@ change-word-requires : tie.Need-change-word-requires
 change-word-requires c κs =
     let start = c .before .before .before .before in
     (start .pre .0 .room, start .pre .1 .slot .low, start .pre .0 .parts (place-pos (start .pre .0) (start .pre .1)) .win)
-
-same-length : tie.Need-same-length
-same-length c = search needs
 
 returns : tie.Need-returns
 returns c =
@@ -46,4 +40,4 @@ returns c =
     (after-change-word .change-word .ensures) (after-change-word .change-word .kept .0)
 
 pub settle-spec : {M : Type 1} → statement M
-settle-spec = tie.close (tie.spec word-requires add-change-word change-word-requires same-length returns)
+settle-spec = tie.close (tie.spec (λ c κs. search needs) add-change-word change-word-requires (λ c. search needs) returns)

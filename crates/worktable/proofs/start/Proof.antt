@@ -9,12 +9,6 @@ use Rattle.worktable.proofs.TableLaws.{start-holds}
 use Rattle.worktable.proofs.start.Statement.{statement}
 use Rattle.worktable.proofs.start.Tie as tie
 
-lesser-requires : tie.Need-lesser-requires
-lesser-requires c κs = search needs
-
-lesser-requires-2 : tie.Need-lesser-requires-2
-lesser-requires-2 c κs = search needs
-
 returns : tie.Need-returns
 returns c =
     let start = c .before .before .before .before in
@@ -48,9 +42,6 @@ mask-of-requires c κs =
     let after-lesser = c .before .before .before .before .before .before .before .before .before .before in
     (omega (arith, else1 .if1 .left), omega (arith, after-lesser2 .lesser2 .ensures, after-lesser .lesser .ensures))
 
-same-length : tie.Need-same-length
-same-length c = search needs
-
 returns-2 : tie.Need-returns-2
 returns-2 c =
     let after-build = c .before .before .before in
@@ -68,11 +59,11 @@ pub start-spec : {M : Type 1} → statement M
 start-spec =
     tie.close
     (tie.spec
-    lesser-requires
-    lesser-requires-2
+    (λ c κs. search needs)
+    (λ c κs. search needs)
     returns
     blank-requires
     build-requires
     mask-of-requires
-    same-length
+    (λ c. search needs)
     returns-2)

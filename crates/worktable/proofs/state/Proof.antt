@@ -9,9 +9,6 @@ word-requires c κs =
     let start = c .before in
     (start .pre .0 .room .len, place-low (start .pre .0) (start .pre .1))
 
-state-in-requires : tie.Need-state-in-requires
-state-in-requires c κs = search needs
-
 returns : tie.Need-returns
 returns c =
     let start = c .before .before .before in
@@ -19,4 +16,4 @@ returns c =
     c .state-in .ensures ∙ sym (place-state (start .pre .0) (start .pre .1) (after-word .word .ensures))
 
 pub state-spec : {M : Type 1} → statement M
-state-spec = tie.close (tie.spec word-requires state-in-requires returns)
+state-spec = tie.close (tie.spec word-requires (λ c κs. search needs) returns)

@@ -12,21 +12,12 @@ use Rattle.worktable.proofs.TableLaws.{place-low, place-pos, place-dist
 use Rattle.worktable.proofs.take_off.Statement.{statement}
 use Rattle.worktable.proofs.take_off.Tie as tie
 
-word-requires : tie.Need-word-requires
-word-requires c κs = search needs
-
 sub-set-word : tie.Need-sub-set-word
 sub-set-word c =
     let after-word = c .before in
     let start = c .before .before .before .before in
     let some : 0 < remainingIn (after-word .word .result) = omega (arith, start .pre .2, place-remaining (start .pre .0) (start .pre .1) (after-word .word .ensures)) in
     omega (arith, less-some (after-word .word .result) (omega (arith, after-word .word .ok)) some)
-
-set-word-requires : tie.Need-set-word-requires
-set-word-requires c κs = search needs
-
-same-length : tie.Need-same-length
-same-length c = search needs
 
 returns : tie.Need-returns
 returns c =
@@ -44,4 +35,4 @@ returns c =
     (after-set-word .set-word .kept .0)
 
 pub take-off-spec : {M : Type 1} → statement M
-take-off-spec = tie.close (tie.spec word-requires sub-set-word set-word-requires same-length returns)
+take-off-spec = tie.close (tie.spec (λ c κs. search needs) sub-set-word (λ c κs. search needs) (λ c. search needs) returns)

@@ -9,24 +9,6 @@ use Rattle.worktable.proofs.PartsLaws.{same-changed}
 use Rattle.worktable.proofs.vacate.Statement.{statement}
 use Rattle.worktable.proofs.vacate.Tie as tie
 
-word-requires : tie.Need-word-requires
-word-requires c κs = search needs
-
-change-word-requires : tie.Need-change-word-requires
-change-word-requires c κs = search needs
-
-same-length : tie.Need-same-length
-same-length c = search needs
-
-returns : tie.Need-returns
-returns c = search needs
-
-set-word-requires : tie.Need-set-word-requires
-set-word-requires c κs = search needs
-
-same-length-2 : tie.Need-same-length-2
-same-length-2 c = search needs
-
 returns-2 : tie.Need-returns-2
 returns-2 c =
     let start = c .before .before .before .before .before .before .before .before in
@@ -40,10 +22,10 @@ pub vacate-spec : {M : Type 1} → statement M
 vacate-spec =
     tie.close
     (tie.spec
-    word-requires
-    change-word-requires
-    same-length
-    returns
-    set-word-requires
-    same-length-2
+    (λ c κs. search needs)
+    (λ c κs. search needs)
+    (λ c. search needs)
+    (λ c. search needs)
+    (λ c κs. search needs)
+    (λ c. search needs)
     returns-2)

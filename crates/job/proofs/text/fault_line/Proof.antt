@@ -16,12 +16,6 @@ returns c =
     let d = now (s .args .out) in
     none-shown d (faultIn (s .args .n) (length d)) (fault-lacks (s .args .n) (length d) (c .if1 .taken))
 
-slice-aggregate-put : tie.Need-slice-aggregate-put
-slice-aggregate-put c = search needs
-
-put-requires : tie.Need-put-requires
-put-requires c κs = search needs
-
 number-requires : tie.Need-number-requires
 number-requires c κs =
     let s = c .before .before .before .before .before .before .before .before in
@@ -34,9 +28,6 @@ newline-requires c κs =
     let p = c .before .before .before .before .before .before .before .put in
     let q = c .before .before .before .number in
     omega (arith, length-64 (s .args .n) (s .fits .n .fits), p .ensures .next, p .kept .0, q .ensures .next, q .kept .0)
-
-same-length : tie.Need-same-length
-same-length c = search needs
 
 returns-2 : tie.Need-returns-2
 returns-2 c =
@@ -56,9 +47,9 @@ fault-line-spec =
     tie.close
     (tie.spec
     returns
-    slice-aggregate-put
-    put-requires
+    (λ c. search needs)
+    (λ c κs. search needs)
     number-requires
     newline-requires
-    same-length
+    (λ c. search needs)
     returns-2)

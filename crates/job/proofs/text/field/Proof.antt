@@ -7,20 +7,11 @@ use borrow.Author.Needs.{needs}
 use Rattle.job.proofs.text.field.Statement.{statement}
 use Rattle.job.proofs.text.field.Tie as tie
 
-slice-aggregate-put : tie.Need-slice-aggregate-put
-slice-aggregate-put c = search needs
-
-put-requires : tie.Need-put-requires
-put-requires c κs = search needs
-
 number-requires : tie.Need-number-requires
 number-requires c κs =
     let s = c .before .before .before .before .before .before .before in
     let p = c .before .before .before .put in
     omega (arith, length-32 (s .args .x) (s .fits .x .fits), p .ensures .next, p .kept .0, s .pre)
-
-same-length : tie.Need-same-length
-same-length c = search needs
 
 returns : tie.Need-returns
 returns c =
@@ -33,4 +24,4 @@ returns c =
 
 pub field-spec : {M : Type 1} → statement M
 field-spec =
-    tie.close (tie.spec slice-aggregate-put put-requires number-requires same-length returns)
+    tie.close (tie.spec (λ c. search needs) (λ c κs. search needs) number-requires (λ c. search needs) returns)

@@ -58,9 +58,6 @@ loop-again c =
       as-text (more-lines (now (a .label)) (now (a .table)) (a .n) (L .i)) (both (omega (arith, L .inv .2, c .before .before .before .before .loop-test .taken, s .pre .2)) (L .inv .3) (r .ensures .0)),
     )
 
-same-length : tie.Need-same-length Inv-loop μ-loop
-same-length c = search needs
-
 returns : tie.Need-returns Inv-loop μ-loop
 returns c =
     let L = c .before .loop in
@@ -81,5 +78,5 @@ lines-spec =
     add-i
     loop-less
     loop-again
-    same-length
+    (λ c. search needs)
     returns)

@@ -7,27 +7,6 @@ use borrow.Author.Needs.{needs}
 use Rattle.job.proofs.text.lists.Statement.{statement}
 use Rattle.job.proofs.text.lists.Tie as tie
 
-slice-aggregate-lines : tie.Need-slice-aggregate-lines
-slice-aggregate-lines c = search needs
-
-lines-requires : tie.Need-lines-requires
-lines-requires c κs = search needs
-
-slice-aggregate-lines-2 : tie.Need-slice-aggregate-lines-2
-slice-aggregate-lines-2 c = search needs
-
-lines-requires-2 : tie.Need-lines-requires-2
-lines-requires-2 c κs = search needs
-
-slice-aggregate-lines-3 : tie.Need-slice-aggregate-lines-3
-slice-aggregate-lines-3 c = search needs
-
-lines-requires-3 : tie.Need-lines-requires-3
-lines-requires-3 c κs = search needs
-
-same-length : tie.Need-same-length
-same-length c = search needs
-
 returns : tie.Need-returns
 returns c =
     let s = c .before .before .before .before .before .before .before .before .before .before .before .before .before .before .before .before .before .before .before in
@@ -43,11 +22,11 @@ pub lists-spec : {M : Type 1} → statement M
 lists-spec =
     tie.close
     (tie.spec
-    slice-aggregate-lines
-    lines-requires
-    slice-aggregate-lines-2
-    lines-requires-2
-    slice-aggregate-lines-3
-    lines-requires-3
-    same-length
+    (λ c. search needs)
+    (λ c κs. search needs)
+    (λ c. search needs)
+    (λ c κs. search needs)
+    (λ c. search needs)
+    (λ c κs. search needs)
+    (λ c. search needs)
     returns)

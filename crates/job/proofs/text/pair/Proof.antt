@@ -5,15 +5,6 @@ use borrow.Author.Needs.{needs}
 use Rattle.job.proofs.text.pair.Statement.{statement}
 use Rattle.job.proofs.text.pair.Tie as tie
 
-field-requires : tie.Need-field-requires
-field-requires c κs = search needs
-
-field-requires-2 : tie.Need-field-requires-2
-field-requires-2 c κs = search needs
-
-same-length : tie.Need-same-length
-same-length c = search needs
-
 returns : tie.Need-returns
 returns c =
     let s = c .before .before .before .before .before .before .before .before .before in
@@ -22,4 +13,4 @@ returns c =
     (both (omega (arith, p .ensures .1, s .pre)) (p .ensures .0) (q .ensures .0), omega (arith, p .ensures .1, q .ensures .1))
 
 pub pair-spec : {M : Type 1} → statement M
-pair-spec = tie.close (tie.spec field-requires field-requires-2 same-length returns)
+pair-spec = tie.close (tie.spec (λ c κs. search needs) (λ c κs. search needs) (λ c. search needs) returns)

@@ -63,9 +63,6 @@ loop-again c =
 newline-requires : tie.Need-newline-requires Inv-loop μ-loop
 newline-requires c κs = omega arith
 
-same-length : tie.Need-same-length Inv-loop μ-loop
-same-length c = search needs
-
 returns : tie.Need-returns Inv-loop μ-loop
 returns c =
     let L = c .before .before .before .before .before .loop in
@@ -97,5 +94,5 @@ record-line-spec =
     loop-less
     loop-again
     newline-requires
-    same-length
+    (λ c. search needs)
     returns)

@@ -12,24 +12,9 @@ use Rattle.job.proofs.text.report.Tie as tie
 abbrev asked : tie.Start → Answer
 asked c = given (c .args .refusal) (c .args .place) (c .args .settled-count) (c .args .part-count) (c .args .held-count) (c .args .finished) (now (c .args .settled)) (now (c .args .parts)) (now (c .args .held))
 
-add-room : tie.Need-add-room
-add-room c = search needs
-
-add-room-2 : tie.Need-add-room-2
-add-room-2 c = search needs
-
-add-room-3 : tie.Need-add-room-3
-add-room-3 c = search needs
-
-mul-room : tie.Need-mul-room
-mul-room c = search needs
-
 whole-requires : tie.Need-whole-requires
 unfolding fits
 whole-requires c κs = c .before .if1 .taken
-
-same-length : tie.Need-same-length
-same-length c = search needs
 
 returns : tie.Need-returns
 unfolding fits
@@ -48,4 +33,4 @@ returns-2 c =
 pub report-spec : {M : Type 1} → statement M
 report-spec =
     tie.close
-    (tie.spec add-room add-room-2 add-room-3 mul-room whole-requires same-length returns returns-2)
+    (tie.spec (λ c. search needs) (λ c. search needs) (λ c. search needs) (λ c. search needs) whole-requires (λ c. search needs) returns returns-2)

@@ -19,9 +19,6 @@ room c = has-room (asked c) (length (now (c .args .out))) (c .pre)
 answer-line-requires : tie.Need-answer-line-requires
 answer-line-requires c κs = omega (arith, room (c .before .before .before .before .before) .out)
 
-same-length : tie.Need-same-length
-same-length c = search needs
-
 returns : tie.Need-returns
 returns c =
     let s = c .before .before .before .before .before .before .before .before .before in
@@ -40,9 +37,6 @@ end-line-requires c κs =
     let m = c .before .before .before .lists in
     omega (arith, r .out, l .ensures .1, l .kept .0, m .ensures .1, m .kept .0)
 
-same-length-2 : tie.Need-same-length-2
-same-length-2 c = search needs
-
 returns-2 : tie.Need-returns-2
 returns-2 c =
     let s = c .before .before .before .before .before .before .before .before .before .before .before .before .before .before .before .before .before in
@@ -58,9 +52,9 @@ whole-spec =
     tie.close
     (tie.spec
     answer-line-requires
-    same-length
+    (λ c. search needs)
     returns
     lists-requires
     end-line-requires
-    same-length-2
+    (λ c. search needs)
     returns-2)

@@ -4,26 +4,14 @@ use Rattle.search.proofs.fault.buffers.Statement.{statement}
 use Rattle.search.proofs.fault.buffers.Tie as tie
 use borrow.Author.Needs.{needs}
 
-refused-requires : tie.Need-refused-requires
-refused-requires c κs = search needs
-
 returns : tie.Need-returns
 returns c = c .refused .ensures ∙ held-cut _ _ _ (c .before .if1 .taken)
-
-refused-requires-2 : tie.Need-refused-requires-2
-refused-requires-2 c κs = search needs
 
 returns-2 : tie.Need-returns-2
 returns-2 c = c .refused2 .ensures ∙ settled-cut _ _ _ (c .before .before .if1 .left) (c .before .if2 .taken)
 
-refused-requires-3 : tie.Need-refused-requires-3
-refused-requires-3 c κs = search needs
-
 returns-3 : tie.Need-returns-3
 returns-3 c = c .refused3 .ensures ∙ parts-cut _ _ _ (c .before .before .before .if1 .left) (c .before .before .if2 .left) (c .before .if3 .taken)
-
-refused-requires-4 : tie.Need-refused-requires-4
-refused-requires-4 c κs = search needs
 
 returns-4 : tie.Need-returns-4
 returns-4 c = c .refused4 .ensures ∙ none-cut _ _ _ (c .before .before .before .if1 .left) (c .before .before .if2 .left) (c .before .if3 .left)
@@ -32,11 +20,11 @@ pub buffers-spec : {M : Type 1} → statement M
 buffers-spec =
     tie.close
     (tie.spec
-    refused-requires
+    (λ c κs. search needs)
     returns
-    refused-requires-2
+    (λ c κs. search needs)
     returns-2
-    refused-requires-3
+    (λ c κs. search needs)
     returns-3
-    refused-requires-4
+    (λ c κs. search needs)
     returns-4)

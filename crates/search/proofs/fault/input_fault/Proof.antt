@@ -3,14 +3,8 @@ use Rattle.search.proofs.Firstly.{by-lengths, by-buffers, by-contents, 
 use Rattle.search.proofs.fault.input_fault.Statement.{statement}
 use Rattle.search.proofs.fault.input_fault.Tie as tie
 
-check-requires : tie.Need-check-requires
-check-requires c κs = search needs
-
 returns : tie.Need-returns
 returns c = (by-lengths _ _ _ (c .before .before .check .ensures .0) (c .if1 .taken), c .before .before .check .ensures .1)
-
-buffers-requires : tie.Need-buffers-requires
-buffers-requires c κs = search needs
 
 returns-2 : tie.Need-returns-2
 returns-2 c = (
@@ -24,9 +18,6 @@ returns-3 c = (
   c .before .before .before .before .before .before .before .check .ensures .1,
 )
 
-query-fault-requires : tie.Need-query-fault-requires
-query-fault-requires c κs = search needs
-
 returns-4 : tie.Need-returns-4
 returns-4 c = (
   by-query _ _ _ (c .before .before .before .before .before .before .before .before .check .ensures .0) (c .before .before .before .before .before .before .if1 .left) _ (c .before .before .before .before .before .buffers .ensures) (c .before .before .before .if2 .left) (c .before .if3 .left) _ (c .query-fault .ensures),
@@ -37,10 +28,10 @@ pub input-fault-spec : {M : Type 1} → statement M
 input-fault-spec =
     tie.close
     (tie.spec
-    check-requires
+    (λ c κs. search needs)
     returns
-    buffers-requires
+    (λ c κs. search needs)
     returns-2
     returns-3
-    query-fault-requires
+    (λ c κs. search needs)
     returns-4)

@@ -11,36 +11,15 @@ use borrow.Author.Needs.{needs}
 use Rattle.search.proofs.fault.query_fault.Statement.{statement}
 use Rattle.search.proofs.fault.query_fault.Tie as tie
 
-cast-e : tie.Need-cast-e
-cast-e c = search needs
-
-refused-requires : tie.Need-refused-requires
-refused-requires c κs = search needs
-
 returns : tie.Need-returns
 returns c =
     let a = c .before .before .before .before .args in
     c .refused .ensures ∙ walk-fault (a .walks .now) (queryOf (a .q)) (omega (arith, c .before .if1 .taken))
 
-walk-at-requires : tie.Need-walk-at-requires
-walk-at-requires c κs = search needs
-
-refused-requires-2 : tie.Need-refused-requires-2
-refused-requires-2 c κs = search needs
-
 returns-2 : tie.Need-returns-2
 returns-2 c =
     let a = c .before .before .before .before .before .before .before .before .args in
     c .refused2 .ensures ∙ offset-fault (a .walks .now) (queryOf (a .q)) (omega (arith, c .before .before .before .before .before .if1 .left)) (omega (arith, len-is _ _ (c .before .before .before .before .walk-at .ensures), c .before .if2 .taken))
-
-not-after-requires : tie.Need-not-after-requires
-not-after-requires c κs = search needs
-
-not-after-requires-2 : tie.Need-not-after-requires-2
-not-after-requires-2 c κs = search needs
-
-refused-requires-3 : tie.Need-refused-requires-3
-refused-requires-3 c κs = search needs
 
 returns-3 : tie.Need-returns-3
 returns-3 c =
@@ -50,9 +29,6 @@ returns-3 c =
     let o : Q .offset ≤ walkAt (a .walks .now) (Q .walk) .len = omega (arith, len-is _ _ (c .before .before .before .before .before .before .before .before .walk-at .ensures), c .before .before .before .before .before .if2 .left) in
     c .refused3 .ensures ∙ arrival-fault (a .walks .now) Q l o (both-fail _ _ _ _ (c .before .before .before .not-after .ensures) (c .before .before .not-after2 .ensures) (c .before .if3 .taken))
 
-refused-requires-4 : tie.Need-refused-requires-4
-refused-requires-4 c κs = search needs
-
 returns-4 : tie.Need-returns-4
 returns-4 c =
     let a = c .before .before .before .before .before .before .before .before .before .before .before .before .before .before .before .args in
@@ -61,9 +37,6 @@ returns-4 c =
     let o : Q .offset ≤ walkAt (a .walks .now) (Q .walk) .len = omega (arith, len-is _ _ (c .before .before .before .before .before .before .before .before .before .before .before .walk-at .ensures), c .before .before .before .before .before .before .before .before .if2 .left) in
     c .refused4 .ensures ∙ duration-fault (a .walks .now) Q l o (both-pass _ _ _ _ (c .before .before .before .before .before .before .not-after .ensures) (c .before .before .before .before .before .not-after2 .ensures) (c .before .before .before .before .if3 .left)) (not-true _ (c .before .if4 .taken))
 
-refused-requires-5 : tie.Need-refused-requires-5
-refused-requires-5 c κs = search needs
-
 returns-5 : tie.Need-returns-5
 returns-5 c =
     let a = c .before .before .before .before .before .before .before .before .before .before .before .before .before .before .before .before .before .before .args in
@@ -71,9 +44,6 @@ returns-5 c =
     let l : Q .walk < length (a .walks .now) / 16 = omega (arith, c .before .before .before .before .before .before .before .before .before .before .before .before .before .before .before .if1 .left) in
     let o : Q .offset ≤ walkAt (a .walks .now) (Q .walk) .len = omega (arith, len-is _ _ (c .before .before .before .before .before .before .before .before .before .before .before .before .before .before .walk-at .ensures), c .before .before .before .before .before .before .before .before .before .before .before .if2 .left) in
     c .refused5 .ensures ∙ speed-fault (a .walks .now) Q l o (both-pass _ _ _ _ (c .before .before .before .before .before .before .before .before .before .not-after .ensures) (c .before .before .before .before .before .before .before .before .not-after2 .ensures) (c .before .before .before .before .before .before .before .if3 .left)) (not-false _ (c .before .before .before .before .if4 .left)) (not-true _ (c .before .if5 .taken))
-
-refused-requires-6 : tie.Need-refused-requires-6
-refused-requires-6 c κs = search needs
 
 returns-6 : tie.Need-returns-6
 returns-6 c =
@@ -87,19 +57,19 @@ pub query-fault-spec : {M : Type 1} → statement M
 query-fault-spec =
     tie.close
     (tie.spec
-    cast-e
-    refused-requires
+    (λ c. search needs)
+    (λ c κs. search needs)
     returns
-    walk-at-requires
-    refused-requires-2
+    (λ c κs. search needs)
+    (λ c κs. search needs)
     returns-2
-    not-after-requires
-    not-after-requires-2
-    refused-requires-3
+    (λ c κs. search needs)
+    (λ c κs. search needs)
+    (λ c κs. search needs)
     returns-3
-    refused-requires-4
+    (λ c κs. search needs)
     returns-4
-    refused-requires-5
+    (λ c κs. search needs)
     returns-5
-    refused-requires-6
+    (λ c κs. search needs)
     returns-6)

@@ -6,55 +6,28 @@ use borrow.Author.Needs.{needs}
 use Rattle.search.proofs.start.seeds.Statement.{statement}
 use Rattle.search.proofs.start.seeds.Tie as tie
 
-start-requires : tie.Need-start-requires
-start-requires c κs = search needs
-
-capacity-requires : tie.Need-capacity-requires
-capacity-requires c κs = search needs
-
-same-length : tie.Need-same-length
-same-length c = search needs
-
 returns : tie.Need-returns
 returns c = seeded-none _ _ _ _ _ _ _ (omega (arith, c .if1 .taken, c .before .capacity .ensures, c .before .before .before .before .start .ensures .1))
-
-departing-at-requires : tie.Need-departing-at-requires
-departing-at-requires c κs = search needs
 
 insert-requires : tie.Need-insert-requires
 insert-requires c κs =
     let a = c .before .before .before .before .before .before .before .before .before .before in
     first-seed _ _ _ _ _ _ (c .before .before .before .before .before .before .start .ensures .0) (c .before .before .before .before .before .before .start .ensures .1) (omega (arith, c .before .before .if1 .left, c .before .before .before .capacity .ensures, c .before .before .before .before .before .before .start .ensures .1)) (omega (arith, a .pre)) (omega (arith, a .pre)) (c .departing-at .ensures .1)
 
-same-length-2 : tie.Need-same-length-2
-same-length-2 c = search needs
-
 returns-2 : tie.Need-returns-2
 returns-2 c =
     let h = after-first _ _ _ _ _ _ _ _ (c .before .before .before .before .departing-at .ensures .0) (c .before .before .before .before .before .before .before .before .before .before .start .ensures .0) (c .before .before .before .insert .ensures) in
     seeded-one _ _ _ _ _ _ _ _ (not-true _ (c .if2 .taken)) h (c .before .before .before .insert .ensures .capacity ∙ c .before .before .before .before .before .before .before .before .before .before .start .ensures .1) (omega (arith, c .before .before .before .before .before .before .if1 .left, c .before .before .before .before .before .before .before .capacity .ensures, c .before .before .before .before .before .before .before .before .before .before .start .ensures .1))
 
-capacity-requires-2 : tie.Need-capacity-requires-2
-capacity-requires-2 c κs = search needs
-
-same-length-3 : tie.Need-same-length-3
-same-length-3 c = search needs
-
 returns-3 : tie.Need-returns-3
 returns-3 c =
     seeded-few _ _ _ _ _ _ _ (not-false _ (c .before .before .if2 .left)) (omega (arith, c .if3 .taken, c .before .capacity2 .ensures, c .before .before .before .before .before .insert .ensures .capacity, c .before .before .before .before .before .before .before .before .before .before .before .before .start .ensures .1))
-
-departing-at-requires-2 : tie.Need-departing-at-requires-2
-departing-at-requires-2 c κs = search needs
 
 insert-requires-2 : tie.Need-insert-requires-2
 insert-requires-2 c κs =
     let a = c .before .before .before .before .before .before .before .before .before .before .before .before .before .before .before .before .before .before in
     let h = after-first _ _ _ _ _ _ _ _ (c .before .before .before .before .before .before .before .before .departing-at .ensures .0) (c .before .before .before .before .before .before .before .before .before .before .before .before .before .before .start .ensures .0) (c .before .before .before .before .before .before .before .insert .ensures) in
     second-seed _ _ _ _ _ _ _ _ _ h (omega (arith, a .pre)) (a .pre .1 .2) (omega (arith, c .before .before .if3 .left, c .before .before .before .capacity2 .ensures)) (omega (arith, a .pre)) (omega (arith, a .pre)) (c .departing-at2 .ensures .1)
-
-same-length-4 : tie.Need-same-length-4
-same-length-4 c = search needs
 
 returns-4 : tie.Need-returns-4
 returns-4 c =
@@ -65,18 +38,18 @@ pub seeds-spec : {M : Type 1} → statement M
 seeds-spec =
     tie.close
     (tie.spec
-    start-requires
-    capacity-requires
-    same-length
+    (λ c κs. search needs)
+    (λ c κs. search needs)
+    (λ c. search needs)
     returns
-    departing-at-requires
+    (λ c κs. search needs)
     insert-requires
-    same-length-2
+    (λ c. search needs)
     returns-2
-    capacity-requires-2
-    same-length-3
+    (λ c κs. search needs)
+    (λ c. search needs)
     returns-3
-    departing-at-requires-2
+    (λ c κs. search needs)
     insert-requires-2
-    same-length-4
+    (λ c. search needs)
     returns-4)

@@ -3,15 +3,6 @@ use Rattle.search.proofs.Nexts.{next-none, next-beyond, next-at}
 use Rattle.search.proofs.step.next.Statement.{statement}
 use Rattle.search.proofs.step.next.Tie as tie
 
-least-requires : tie.Need-least-requires
-least-requires c κs = search needs
-
-enum-known-slot : tie.Need-enum-known-slot
-enum-known-slot c = search needs
-
-enum-told : tie.Need-enum-told
-enum-told c = search needs
-
 returns : tie.Need-returns
 returns c = next-none _ _ _ _ (c .before .before .least .ensures) (c .enum-told .given .1)
 
@@ -23,4 +14,4 @@ returns-3 c = next-at _ _ _ _ (c .before .before .before .before .least .ensures
 
 pub next-spec : {M : Type 1} → statement M
 next-spec =
-    tie.close (tie.spec least-requires enum-known-slot enum-told returns returns-2 returns-3)
+    tie.close (tie.spec (λ c κs. search needs) (λ c. search needs) (λ c. search needs) returns returns-2 returns-3)

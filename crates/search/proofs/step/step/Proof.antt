@@ -4,35 +4,14 @@ use borrow.Author.Needs.{needs}
 use Rattle.search.proofs.step.step.Statement.{statement}
 use Rattle.search.proofs.step.step.Tie as tie
 
-settle-next-requires : tie.Need-settle-next-requires
-settle-next-requires c κs = search needs
-
 arrive-requires : tie.Need-arrive-requires
 arrive-requires c κs =
     let a = c .before .before .before .before .before .before .before .before .before .before .before .before .before .before in
     let L = c .before .before .before .before .settle-next .ensures in
     ((L .holds .order, a .pre .1 .0 .0, a .pre .1 .0 .1), enough-then _ _ _ _ _ _ _ _ L (a .pre .1 .1 .0))
 
-enum-known-passed : tie.Need-enum-known-passed
-enum-known-passed c = search needs
-
-enum-told : tie.Need-enum-told
-enum-told c = search needs
-
-same-length : tie.Need-same-length
-same-length c = search needs
-
-same-length-2 : tie.Need-same-length-2
-same-length-2 c = search needs
-
 returns : tie.Need-returns
 returns c = (full-held (c .before .before .before .before .before .before .before .before .before .before .before .before .before .before .before .before .before .before .before .before .before .args .p) _ _ _ _ _ _ _ _ _ _ _ _ _ (arrive-full _ _ _ _ _ _ _ _ (c .before .before .before .before .before .before .before .before .before .before .before .settle-next .ensures) _ _ (c .before .before .before .before .before .before .arrive .ensures .0) (c .enum-told .given .1)), c .before .before .before .before .before .before .arrive .ensures .1)
-
-same-length-3 : tie.Need-same-length-3
-same-length-3 c = search needs
-
-same-length-4 : tie.Need-same-length-4
-same-length-4 c = search needs
 
 returns-2 : tie.Need-returns-2
 returns-2 c =
@@ -57,23 +36,8 @@ cast-list-arriving-2 c = omega (arith, c .before .before .before .before .before
 list-arriving-requires : tie.Need-list-arriving-requires
 list-arriving-requires c κs = omega (arith, c .before .before .before .before .before .before .before .before .before .before .before .before .before .before .before .before .before .before .before .before .before .before .before .before .before .before .before .before .before .before .pre .1 .0 .0 .walks, c .before .before .before .before .before .before .before .before .before .before .before .before .before .before .before .before .before .before .before .before .before .before .before .before .before .before .before .before .before .before .pre .1 .1 .1 .1)
 
-enum-known-listed : tie.Need-enum-known-listed
-enum-known-listed c = search needs
-
-enum-told-2 : tie.Need-enum-told-2
-enum-told-2 c = search needs
-
 same-length-5 : tie.Need-same-length-5
 same-length-5 c = omega (arith, c .before .before .before .before .before .before .before .before .before .before .before .before .before .before .before .before .before .before .before .held2 .given, c .before .before .before .before .before .before .before .before .before .before .before .before .before .before .before .before .before .before .before .before .before .before .before .before .held .given)
-
-same-length-6 : tie.Need-same-length-6
-same-length-6 c = search needs
-
-same-length-7 : tie.Need-same-length-7
-same-length-7 c = search needs
-
-same-length-8 : tie.Need-same-length-8
-same-length-8 c = search needs
 
 returns-3 : tie.Need-returns-3
 returns-3 c =
@@ -86,15 +50,6 @@ add-t27 c = omega (arith, c .before .before .before .before .before .before .bef
 same-length-9 : tie.Need-same-length-9
 same-length-9 c = omega (arith, c .before .before .before .before .before .before .before .before .before .before .before .before .before .before .before .before .before .before .before .before .before .held2 .given, c .before .before .before .before .before .before .before .before .before .before .before .before .before .before .before .before .before .before .before .before .before .before .before .before .before .before .held .given)
 
-same-length-10 : tie.Need-same-length-10
-same-length-10 c = search needs
-
-same-length-11 : tie.Need-same-length-11
-same-length-11 c = search needs
-
-same-length-12 : tie.Need-same-length-12
-same-length-12 c = search needs
-
 returns-4 : tie.Need-returns-4
 returns-4 c =
     let f = arrive-fits _ _ _ _ _ _ _ _ (c .before .before .before .before .before .before .before .before .before .before .before .before .before .before .before .before .before .before .before .before .before .before .before .before .before .before .before .settle-next .ensures) _ _ _ (c .before .before .before .before .before .before .before .before .before .before .before .before .before .before .before .before .before .before .before .before .before .before .arrive .ensures .0) (c .before .before .before .before .before .before .before .before .before .before .before .before .before .before .before .before .passed .given .1) in
@@ -104,15 +59,15 @@ pub step-spec : {M : Type 1} → statement M
 step-spec =
     tie.close
     (tie.spec
-    settle-next-requires
+    (λ c κs. search needs)
     arrive-requires
-    enum-known-passed
-    enum-told
-    same-length
-    same-length-2
+    (λ c. search needs)
+    (λ c. search needs)
+    (λ c. search needs)
+    (λ c. search needs)
     returns
-    same-length-3
-    same-length-4
+    (λ c. search needs)
+    (λ c. search needs)
     returns-2
     cast-add-settled
     add-settled-requires
@@ -120,16 +75,16 @@ step-spec =
     cast-list-arriving
     cast-list-arriving-2
     list-arriving-requires
-    enum-known-listed
-    enum-told-2
+    (λ c. search needs)
+    (λ c. search needs)
     same-length-5
-    same-length-6
-    same-length-7
-    same-length-8
+    (λ c. search needs)
+    (λ c. search needs)
+    (λ c. search needs)
     returns-3
     add-t27
     same-length-9
-    same-length-10
-    same-length-11
-    same-length-12
+    (λ c. search needs)
+    (λ c. search needs)
+    (λ c. search needs)
     returns-4)
