@@ -19,7 +19,9 @@ pub mod Coverage
 pub mod Fits
 pub mod Demands
 pub mod Determined
+pub mod Cases
 pub mod Marked
+pub mod Limits
 pub mod Clock
 pub mod ByStep
 pub mod Judged

@@ -11,3 +11,4 @@ pub mod Refusals
 pub mod Answers
 pub mod Clock
 pub mod Marked
+pub mod Limits

@@ -1,0 +1,47 @@
+-- Every limit of document 01 at its last good and its first bad value: the table of specs/Limits under one statement, and the largest counts as laws.
+-- Assumes nothing.
+use mathlib.Core.Path.{_≡_, refl}
+use mathlib.Core.Bool.{true}
+use mathlib.Core.List.{List, _++_}
+use Prim.Native.Nat.{ℕ, _*_, _%_}
+use lib.ListN.{length, take, drop, replicate}
+use Rattle.journeys.specs.Counting.{In}
+use Rattle.journeys.specs.Refusals.{Refusal, fine, unless, orElse, wholeOf, tableOf, tableLengths, bufferLengths}
+use Rattle.journeys.specs.Answers.{Answer, Allowed}
+use Rattle.journeys.specs.Marked.{Case}
+use Rattle.journeys.specs.Limits.{changed, lengthLimits, walkLimits, hopLimits, orderLimits, queryLimits, firstReasons, roomLimits, limits}
+use Rattle.journeys.proofs.Cases.{tested, cases-hold}
+
+table : tested limits ≡ true
+unfolding tested changed lengthLimits walkLimits hopLimits orderLimits queryLimits firstReasons roomLimits limits
+table = refl
+
+-- In each row, whatever answer the definitions allow shows what the row says.
+pub limit-cases : (c : Case) → In c limits → (a : Answer) → Allowed (c .lent) (c .query) (c .limit) a → c .view a ≡ c .want
+limit-cases = cases-hold limits table
+
+-- ---- the largest counts: 65,536 vertices, 262,144 walks and as many hops are good, and one more of any is refused
+abbrev one : ℕ → Refusal
+one place = record { number = 1; place = place }
+
+module _ (v w h : List ℕ) where
+  pub most-records : length v ≡ 12 * 65536 → length w ≡ 16 * 262144 → length h ≡ 16 * 262144 → tableLengths v w h ≡ fine
+  unfolding tableLengths tableOf wholeOf unless orElse
+  most-records a b c = rw a (rw b (rw c refl))
+
+  pub one-vertex-more : length v ≡ 12 * 65537 → tableLengths v w h ≡ one 0
+  unfolding tableLengths tableOf wholeOf unless orElse
+  one-vertex-more a = rw a refl
+
+  pub one-walk-more : length v ≡ 12 * 65536 → length w ≡ 16 * 262145 → tableLengths v w h ≡ one 1
+  unfolding tableLengths tableOf wholeOf unless orElse
+  one-walk-more a b = rw a (rw b refl)
+
+  pub one-hop-more : length v ≡ 12 * 65536 → length w ≡ 16 * 262144 → length h ≡ 16 * 262145 → tableLengths v w h ≡ one 2
+  unfolding tableLengths tableOf wholeOf unless orElse
+  one-hop-more a b c = rw a (rw b (rw c refl))
+
+-- The lent buffers have no limit of count: any whole number of records is good.
+pub any-room : (held settled parts : List ℕ) → length held % 16 ≡ 0 → length settled % 8 ≡ 0 → length parts % 12 ≡ 0 → bufferLengths held settled parts ≡ fine
+unfolding bufferLengths wholeOf unless orElse
+any-room held settled parts a b c = rw a (rw b (rw c refl))
