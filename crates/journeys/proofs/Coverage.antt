@@ -11,8 +11,8 @@ use borrow.Author.Tests.{eq-eqb, ne-eqb}
 use Rattle.journeys.specs.Counting.{none, In}
 use Rattle.journeys.specs.Tables.{Tables, walk, walkCount}
 use Rattle.journeys.specs.Query.{Query, asked, allowed}
-use Rattle.journeys.specs.Journeys.{Distance, Inside, onward, straight, straight-twin}
-use Rattle.journeys.specs.Order.{Settled, settled, Order}
+use Rattle.journeys.specs.Journeys.{Inside, onward, straight, straight-twin}
+use Rattle.journeys.specs.Order.{Settled, settled, IsOrder}
 use Rattle.journeys.specs.Records.{network}
 use Rattle.journeys.specs.Parts.{Part, part, near, firstPart, firstParts, partAt, partsAt, partList, Covered}
 use Rattle.journeys.proofs.Tests.{cond-true, cond-false, Test, same, other, test, le-or-lt}
@@ -231,7 +231,7 @@ module _ (N : Tables) (Q : Query) (ok : Valid N Q) where
       Inside.wait q (onward (arrives-journey N Q ok j))
 
   -- A whole-decimetre place inside a record lies in a listed part exactly if a journey starts there within D.
-  module _ {l : List Settled} (O : Order (Distance N Q) (allowed Q) l) (i x : ℕ) (il : i < walkCount N) (x0 : 0 < x) (xl : x < walk N i .len) where
+  module _ {l : List Settled} (O : IsOrder N Q l) (i x : ℕ) (il : i < walkCount N) (x0 : 0 < x) (xl : x < walk N i .len) where
     pub covered-inside : Covered (partList N Q l) i x → Inside N Q i x (allowed Q)
     covered-inside c =
         place-inside i x (allowed Q) il x0

@@ -2,8 +2,8 @@
 use mathlib.Core.Path.{_≡_, refl, ap}
 use mathlib.Core.Logic.{_⊎_, inl, inr, ⊎-elim, _↔_, _≢_}
 use mathlib.Core.Bool.{Bool, true, false, not, cond}
-use mathlib.Core.List.{List, [], _∷_, _++_}
-use Prim.Native.Nat.{ℕ, suc, _-_, _≤_, _<_}
+use mathlib.Core.List.{List, [], _∷_}
+use Prim.Native.Nat.{ℕ, _-_, _≤_, _<_}
 use native.Mathlib.Omega.{arith}
 use lib.ListN.{length, take}
 use borrow.Author.Tests.{eqb-true, eq-eqb, not-true}
@@ -11,7 +11,7 @@ use Rattle.journeys.specs.Counting.{none, In}
 use Rattle.journeys.specs.Tables.{Tables, walk, vertexCount, walkCount}
 use Rattle.journeys.specs.Query.{Query, allowed}
 use Rattle.journeys.specs.Journeys.{Journey, Distance, Inside}
-use Rattle.journeys.specs.Order.{Settled, settled, Order}
+use Rattle.journeys.specs.Order.{Settled, settled, IsOrder}
 use Rattle.journeys.specs.Network.{Network, Held, distanceIn, within, known, remaining, met, held, row, entry, heldList, Dropped}
 use Rattle.journeys.specs.Records.{network}
 use Rattle.journeys.specs.Parts.{partList, Covered}
@@ -19,13 +19,13 @@ use Rattle.journeys.specs.Answers.{tables}
 use Rattle.journeys.proofs.Tests.{never, and-both, and-true}
 use Rattle.journeys.proofs.Counting.{in-joined, joined-in}
 use Rattle.journeys.proofs.Ways.{Arrives}
-use Rattle.journeys.proofs.Known.{Next, Bound, is-within, within-is}
-use Rattle.journeys.proofs.Firsts.{order-one}
-use Rattle.journeys.proofs.Greedy.{run, arrives-dec, dist-exists}
-use Rattle.journeys.proofs.Settling.{order-exists, order-next, order-end, order-grows, order-state, settled-known}
+use Rattle.journeys.proofs.Known.{is-within, within-is}
+use Rattle.journeys.proofs.Greedy.{arrives-dec, dist-exists}
+use Rattle.journeys.proofs.Settling.{settled-known}
 use Rattle.journeys.proofs.Held.{dropped-stays, dropped-absent}
 use Rattle.journeys.proofs.Valid.{Valid, paired}
-use Rattle.journeys.proofs.Document.{ways, laws, strict, journey-arrives, arrives-journey, dist-distance, order-dist, dist-order, allowed-low}
+use Rattle.journeys.proofs.Document.{ways, laws, journey-arrives, arrives-journey, dist-distance, allowed-low}
+use Rattle.journeys.proofs.OrderLaws.{order-state, order-grows}
 use Rattle.journeys.proofs.Coverage.{covered-inside, inside-covered}
 
 -- ---- journeys and distances
@@ -50,29 +50,7 @@ module _ (N : Tables) (Q : Query) (ok : Valid N Q) where
       go (yes j) = yes (arrives-journey N Q ok j)
       go (no q) = no (λ j. q (journey-arrives N Q ok j))
 
-  -- ---- the order
-  -- There is an order of settling.
-  unfoldable pub orderOf : List Settled
-  orderOf = run (network N Q) (allowed Q) (vertexCount N) []
-
-  pub order-is : Order (Distance N Q) (allowed Q) orderOf
-  unfolding orderOf
-  order-is = dist-order N Q ok (order-exists (network N Q) (ways N Q) (laws N Q ok) (allowed Q) (allowed-low N Q ok) (strict N Q ok))
-
-  -- It is the only one.
-  pub order-unique : {l l′ : List Settled} → Order (Distance N Q) (allowed Q) l → Order (Distance N Q) (allowed Q) l′ → l ≡ l′
-  order-unique O O′ = order-one (network N Q) (ways N Q) (laws N Q ok) (order-dist N Q ok O) (order-dist N Q ok O′)
-
-  module _ {l : List Settled} (O : Order (Distance N Q) (allowed Q) l) where
-    -- The least known of the vertices outside S, if within D, is the next in the order, with its distance.
-    pub next-settled : (k : ℕ) → k ≤ length l → (v : ℕ) → Next (network N Q) (distanceIn (take k l)) v → known (network N Q) (distanceIn (take k l)) v ≤ allowed Q
-        → (k < length l) × (take (suc k) l ≡ take k l ++ settled v (known (network N Q) (distanceIn (take k l)) v) ∷ [])
-    next-settled = order-next (network N Q) (ways N Q) (laws N Q ok) (allowed Q) (allowed-low N Q ok) (strict N Q ok) (order-dist N Q ok O)
-
-    -- If no vertex outside S is known within D, S is everything within D, and the other way round.
-    pub all-settled : (k : ℕ) → Bound (network N Q) (distanceIn (take k l)) (suc (allowed Q)) ↔ (length l ≤ k)
-    all-settled = order-end (network N Q) (ways N Q) (laws N Q ok) (allowed Q) (allowed-low N Q ok) (strict N Q ok) (order-dist N Q ok O)
-
+  module _ {l : List Settled} (O : IsOrder N Q l) where
     -- ---- demand 2
     -- A vertex is listed exactly if a journey from it starts within the window and arrives by T.
     pub listed-exactly : (v : ℕ) → ((d : ℕ) × In (settled v d) l) ↔ ((d : ℕ) × (d ≤ allowed Q) × Journey N Q v d)
@@ -158,11 +136,11 @@ module _ (N : Tables) (Q : Query) (ok : Valid N Q) where
     -- What is known of a settled vertex is its distance.
     pub known-settled : (k v : ℕ) → v < vertexCount N → distanceIn (take k l) v < none → known (network N Q) (distanceIn (take k l)) v ≡ distanceIn (take k l) v
     known-settled k v vn h =
-        settled-known (network N Q) (ways N Q) (laws N Q ok) (order-state (network N Q) (ways N Q) (laws N Q ok) (allowed Q) (allowed-low N Q ok) (strict N Q ok) (order-dist N Q ok O) k) v vn h
+        settled-known (network N Q) (ways N Q) (laws N Q ok) (order-state N Q ok O k) v vn h
 
     -- A dropped vertex is absent at every larger limit.
     pub dropped-stays-absent : (k k′ : ℕ) → k ≤ k′ → (v : ℕ) → Dropped (network N Q) (distanceIn (take k l)) v → entry (network N Q) (distanceIn (take k′ l)) v ≡ []
     dropped-stays-absent k k′ h v g =
         dropped-absent (network N Q) (distanceIn (take k′ l)) v
         (dropped-stays (network N Q) (distanceIn (take k l)) (distanceIn (take k′ l))
-        (λ u s. omega (arith, order-grows (network N Q) (ways N Q) (laws N Q ok) (allowed Q) (allowed-low N Q ok) (strict N Q ok) (order-dist N Q ok O) k k′ h u s)) v g)
+        (λ u s. omega (arith, order-grows N Q ok O k k′ h u s)) v g)

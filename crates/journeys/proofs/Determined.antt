@@ -13,15 +13,14 @@ use Rattle.journeys.proofs.Refusals.{room-exactly}
 use Rattle.journeys.specs.Bytes.{filled}
 use Rattle.journeys.specs.Tables.{vertexCount}
 use Rattle.journeys.specs.Query.{Query, allowed}
-use Rattle.journeys.specs.Journeys.{Distance}
-use Rattle.journeys.specs.Order.{Settled, Order}
+use Rattle.journeys.specs.Order.{Settled, IsOrder}
 use Rattle.journeys.specs.Records.{network}
 use Rattle.journeys.specs.Parts.{partList}
 use Rattle.journeys.specs.Answers.{Lent, Answer, tables, early, refusedEarly, refusedLate, settledBytes, partBytes, roomUpTo, acceptedAfter, answerOver, Allowed}
 use Rattle.journeys.proofs.Tests.{split, cond-true, cond-false}
 use Rattle.journeys.proofs.Greedy.{run}
 use Rattle.journeys.proofs.Valid.{early-valid}
-use Rattle.journeys.proofs.Demands.{orderOf, order-is, order-unique}
+use Rattle.journeys.proofs.OrderLaws.{orderOf, order-is, order-unique}
 
 -- the answer, computed: for the existence and for the marked cases
 unfoldable pub computed : Lent → Query → ℕ → Answer
@@ -64,7 +63,7 @@ module _ (b : Lent) (Q : Query) (limit : ℕ) where
   pub record Accepted (a : Answer) : Type 0 where
     pub fine : early b Q .number ≡ 0
     pub order : List Settled
-    pub is-order : Order (Distance (tables b) Q) (allowed Q) order
+    pub is-order : IsOrder (tables b) Q order
     pub room : roomUpTo b Q order (min limit (length order)) .number ≡ 0
     pub is : a ≡ acceptedAfter b Q order (min limit (length order))
 
@@ -82,7 +81,7 @@ module _ (b : Lent) (Q : Query) (limit : ℕ) where
       absurd (n (ap (λ (y : Answer). y .refusal) (sym (A .refused n)) ∙ r)))
       (split (eqb (early b Q .number) 0))
     where
-      over : early b Q .number ≡ 0 → (l : List Settled) → Order (Distance (tables b) Q) (allowed Q) l
+      over : early b Q .number ≡ 0 → (l : List Settled) → IsOrder (tables b) Q l
           → (eqb (roomUpTo b Q l (min limit (length l)) .number) 0 ≡ true) ⊎ (eqb (roomUpTo b Q l (min limit (length l)) .number) 0 ≡ false) → a ≡ answerOver b Q l limit → Accepted a
       over e l O (inl t) q = record { fine = e; order = l; is-order = O; room = eqb-true _ 0 t; is = q ∙ cond-true (acceptedAfter b Q l (min limit (length l))) _ t }
       over e l O (inr t) q =

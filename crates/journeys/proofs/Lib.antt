@@ -17,6 +17,7 @@ pub mod Document
 pub mod Cover
 pub mod Coverage
 pub mod Fits
+pub mod OrderLaws
 pub mod Demands
 pub mod Determined
 pub mod Cases

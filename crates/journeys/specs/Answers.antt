@@ -8,9 +8,8 @@ use lib.Dec.{eqb, leb}
 use lib.ListN.{length, take}
 use Rattle.journeys.specs.Bytes.{word, filled, cleared}
 use Rattle.journeys.specs.Tables.{Tables, tablesOf}
-use Rattle.journeys.specs.Query.{Query, allowed}
-use Rattle.journeys.specs.Journeys.{Distance}
-use Rattle.journeys.specs.Order.{Settled, Order}
+use Rattle.journeys.specs.Query.{Query}
+use Rattle.journeys.specs.Order.{Settled, IsOrder}
 use Rattle.journeys.specs.Network.{Held, distanceIn, heldList}
 use Rattle.journeys.specs.Records.{network}
 use Rattle.journeys.specs.Parts.{Part, partList}
@@ -131,4 +130,4 @@ module _ (b : Lent) (Q : Query) (l : List Settled) where
 -- The answer that a run may give, for any bytes, query and limit: the refusal of the input, or what the order by the journeys' distances gives.
 pub record Allowed (b : Lent) (Q : Query) (limit : ℕ) (a : Answer) : Type 0 where
   pub refused : early b Q .number ≢ 0 → a ≡ refusedEarly b (early b Q)
-  pub accepted : early b Q .number ≡ 0 → (l : List Settled) × Order (Distance (tables b) Q) (allowed Q) l × (a ≡ answerOver b Q l limit)
+  pub accepted : early b Q .number ≡ 0 → (l : List Settled) × IsOrder (tables b) Q l × (a ≡ answerOver b Q l limit)

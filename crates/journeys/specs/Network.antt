@@ -32,6 +32,10 @@ pub record Held : Type 0 where
 unfoldable pub within : (ℕ → ℕ) → ℕ → Bool
 within far v = ltb (far v) none
 
+-- nothing more is needed of an entry, by whether it is settled, its distance and its remaining: it is settled, and none of its departing records remains
+abbrev pub spent : Bool → ℕ → ℕ → Bool
+spent settled distance remaining = settled && eqb remaining 0
+
 module _ (G : Network) (far : ℕ → ℕ) where
   -- record r leaves v and leads into S; it leaves v and does not; what it then offers v
   unfoldable pub into : ℕ → ℕ → Bool
@@ -55,9 +59,9 @@ module _ (G : Network) (far : ℕ → ℕ) where
   unfoldable pub met : ℕ → Bool
   met v = ltb (G .seed v) none || ltb 0 (count (into v) (G .records))
 
-  -- met, unless it is in S and all its departing records lead into S
+  -- met, unless it is spent: in S, and all its departing records lead into S
   unfoldable pub held : ℕ → Bool
-  held v = met v && not (within far v && eqb (remaining v) 0)
+  held v = met v && not (spent (within far v) (known v) (remaining v))
 
   -- and then it is dropped
   abbrev pub Dropped : ℕ → Type 0

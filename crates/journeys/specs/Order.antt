@@ -4,6 +4,9 @@ use mathlib.Core.Logic.{_⊎_}
 use mathlib.Core.List.{List, [], _∷_}
 use Prim.Native.Nat.{ℕ, _≤_, _<_}
 use Rattle.journeys.specs.Counting.{In}
+use Rattle.journeys.specs.Tables.{Tables}
+use Rattle.journeys.specs.Query.{Query, allowed}
+use Rattle.journeys.specs.Journeys.{Distance}
 
 pub record Settled : Type 0 where
   pub vertex : ℕ
@@ -26,3 +29,7 @@ pub record Order (distance : ℕ → ℕ → Type 0) (D : ℕ) (l : List Settled
   pub ascending : Ascending l
   pub each : (v d : ℕ) → In (settled v d) l → distance v d × (d ≤ D)
   pub all : (v d : ℕ) → distance v d → d ≤ D → In (settled v d) l
+
+-- l is the order of settling for these tables and this query. What is said elsewhere of the order is said by this name, and proved by its laws.
+abbrev pub IsOrder : Tables → Query → List Settled → Type 0
+IsOrder N Q l = Order (Distance N Q) (allowed Q) l

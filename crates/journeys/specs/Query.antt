@@ -25,3 +25,14 @@ before Q second = ticks Q (Q .arrival - second)
 -- the record e of the query
 abbrev pub asked : Tables → Query → Walk
 asked N Q = walk N (Q .walk)
+
+-- what a walk record costs in ticks: its length
+abbrev pub walkTicks : Query → Walk → ℕ
+walkTicks Q w = w .len
+
+-- what is left to the query place from "from" of e, and from "to" along its twin
+abbrev pub fromTicks : Tables → Query → ℕ
+fromTicks N Q = Q .offset
+
+abbrev pub toTicks : Tables → Query → ℕ
+toTicks N Q = asked N Q .len - Q .offset

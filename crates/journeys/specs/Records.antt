@@ -4,7 +4,7 @@ use Prim.Native.Nat.{ℕ, _+_, _-_, min}
 use lib.Dec.{eqb, leb, ltb}
 use Rattle.journeys.specs.Counting.{none, count}
 use Rattle.journeys.specs.Tables.{Tables, Walk, Hop, walk, hop, vertexCount, walkCount, hopCount}
-use Rattle.journeys.specs.Query.{Query, before, asked}
+use Rattle.journeys.specs.Query.{Query, before, asked, walkTicks, fromTicks, toTicks}
 use Rattle.journeys.specs.Network.{Network}
 
 pub data Record : Type 0 where
@@ -19,9 +19,9 @@ abbrev pub to : Record → ℕ
 to (walked w) = w .to
 to (ridden h) = h .to
 
--- A walk offers the far distance plus its length; a hop whose arrival is not after T less the far distance offers T less its departure.
+-- A walk offers the far distance plus its ticks; a hop whose arrival is not after T less the far distance offers T less its departure.
 unfoldable pub offer : Query → Record → ℕ → ℕ
-offer Q (walked w) d = d + w .len
+offer Q (walked w) d = d + walkTicks Q w
 offer Q (ridden h) d = cond (leb (h .arrival) (Q .arrival) && leb d (before Q (h .arrival))) (before Q (h .departure)) none
 
 abbrev pub recordCount : Tables → ℕ
@@ -38,8 +38,8 @@ departing N v = count (λ r. eqb (from (recordAt N r)) v) (recordCount N)
 unfoldable pub seed : Tables → Query → ℕ → ℕ
 seed N Q v =
     let e = asked N Q in
-    min (cond (eqb (e .from) v) (Q .offset) none)
-    (cond (eqb (e .to) v && (not (eqb (e .twin) none) || eqb (Q .offset) (e .len))) (e .len - Q .offset) none)
+    min (cond (eqb (e .from) v) (fromTicks N Q) none)
+    (cond (eqb (e .to) v && (not (eqb (e .twin) none) || eqb (Q .offset) (e .len))) (toTicks N Q) none)
 
 abbrev pub network : Tables → Query → Network
 network N Q =
