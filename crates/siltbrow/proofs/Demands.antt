@@ -1,33 +1,32 @@
--- The three demands, of `siltbrow_run` itself: what its contract `Ran` says to whoever calls it with an answer slice of 24 bytes.
--- Each theorem says in one sentence what it means. That the call ends is part of what the toolchain proves of every function. Assumes nothing.
-use mathlib.Core.Path.{_≡_, sym, ap, subst, _∙_}
-use mathlib.Core.Logic.{_↔_, _≢_}
-use mathlib.Core.Bool.{true, false}
-use mathlib.Core.List.{List, [], flatMap}
+-- The first demand, of `siltbrow_run` itself, and what an accepted run leaves in the lent bytes. The other two demands rest on it: `VerticesInBytes`,
+-- `PlacesInBytes`, `HeldInBytes`. All is said of a call that has completed as its contract says, with an answer slice of 24 bytes (`Completed`), and each theorem says in
+-- one sentence what it means. That the call ends is part of what the toolchain proves of every function. Assumes nothing.
+use mathlib.Core.Path.{_≡_, refl, sym, ap, subst, _∙_}
+use mathlib.Core.Logic.{⊎-elim, _↔_, _≢_}
+use mathlib.Core.Bool.{true, false, cond}
+use mathlib.Core.List.{List, flatMap}
 use Prim.Native.Nat.{ℕ, _≤_, _<_, min}
 use native.Mathlib.Omega.{arith}
-use lib.Dec.{eqb}
-use lib.ListN.{length, take}
-use borrow.Author.Tests.{ne-eqb}
-use Rattle.journeys.specs.Counting.{In}
+use lib.Dec.{eqb, leb}
+use lib.ListN.{length}
+use lib.Seq.{take-all}
+use borrow.Author.Tests.{eqb-true, eqb-false, eq-eqb, ne-eqb, leb-true}
 use Rattle.journeys.specs.Bytes.{be32, word, filled, cleared}
-use Rattle.journeys.specs.Tables.{Tables, walk, vertexCount, walkCount}
-use Rattle.journeys.specs.Query.{Query, allowed}
-use Rattle.journeys.specs.Journeys.{Journey, Distance, Inside}
-use Rattle.journeys.specs.Order as order
-use Rattle.journeys.specs.Order.{Settled, Order}
-use Rattle.journeys.specs.Network.{Network, distanceIn, met, row, entry, heldList, Dropped}
+use Rattle.journeys.specs.Query.{Query}
+use Rattle.journeys.specs.Order.{Settled}
+use Rattle.journeys.specs.Network.{distanceIn, heldList}
 use Rattle.journeys.specs.Records.{network}
-use Rattle.journeys.specs.Parts.{partList, Covered}
+use Rattle.journeys.specs.Parts.{partList}
 use Rattle.journeys.specs.Refusals as refusals
-use Rattle.journeys.specs.Answers.{Lent, Answer, tables, early, refusedEarly, refusedLate, heldBytes, settledBytes, partBytes, roomAt, roomUpTo, acceptedAfter, answerOver, Room}
-use Rattle.journeys.proofs.Tests.{cond-false}
+use Rattle.journeys.specs.Answers.{Lent, Answer, early, refusedEarly, refusedLate, heldBytes, settledBytes, partBytes, roomAt, roomUpTo, acceptedAfter, answerOver, Allowed, Room}
+use Rattle.journeys.proofs.Tests.{split, cond-true, cond-false}
 use Rattle.journeys.proofs.Valid.{Valid, early-valid}
 use Rattle.journeys.proofs.Refusals.{room-is, room-exactly, room-first}
-use Rattle.journeys.proofs.Demands.{order-unique, listed-exactly, figure-exactly, place-exactly, held-exactly, held-means, dropped-stays-absent}
-use Rattle.journeys.proofs.Determined.{Accepted, accepted-run, finished-all}
+use Rattle.journeys.proofs.Demands.{orderOf, order-is, order-unique}
+use Rattle.journeys.proofs.Determined.{Accepted, accepted-run}
 use Rattle.records.proofs.Filling.{word-back}
-use Rattle.siltbrow.specs.Ran.{answerBytes, Ran}
+use Rattle.siltbrow.specs.Ran.{answerBytes}
+use Rattle.siltbrow.specs.Call.{Call, Completed, refusal, place, settledCount, partCount, heldCount, finished, read, Orders, steps, S}
 
 -- the six numbers as they stand in the answer slice
 refusal-read : (a : Answer) → be32 (answerBytes a) 0 ≡ a .refusal
@@ -54,156 +53,176 @@ finished-read : (a : Answer) → be32 (answerBytes a) 20 ≡ a .finished
 unfolding be32 word
 finished-read a = word-back (a .finished)
 
-module _ (b : Lent) (Q : Query) (limit : ℕ) (slice held settled parts slice′ : List ℕ) (r : ℕ) (R : Ran b Q limit slice held settled parts slice′ r) (whole : length slice ≡ 24) where
-  abbrev N : Tables
-  N = tables b
+-- an answer that refuses counts nothing
+abbrev NoneCounted : Answer → Type 0
+NoneCounted a = (a .settledCount ≡ 0) × (a .partCount ≡ 0) × (a .heldCount ≡ 0) × (a .finished ≡ 0)
 
-  abbrev G : Network
-  G = network N Q
+over-counts : (b : Lent) (Q : Query) (limit : ℕ) (l : List Settled) → answerOver b Q l limit .refusal ≢ 0 → NoneCounted (answerOver b Q l limit)
+unfolding answerOver acceptedAfter refusedLate
+over-counts b Q limit l n =
+    let k = min limit (length l) in
+    let late = refusedLate b (roomUpTo b Q l k) in
+    ⊎-elim (λ (t : eqb (roomUpTo b Q l k .number) 0 ≡ true). absurd (n (ap (λ (a : Answer). a .refusal) (cond-true (acceptedAfter b Q l k) late t))))
+    (λ (t : eqb (roomUpTo b Q l k .number) 0 ≡ false). subst NoneCounted (sym (cond-false (acceptedAfter b Q l k) late t)) (refl, refl, refl, refl))
+    (split (eqb (roomUpTo b Q l k .number) 0))
 
-  number : (i : ℕ) (field : Answer → ℕ) → ((a : Answer) → be32 (answerBytes a) i ≡ field a) → be32 slice′ i ≡ field (R .answered whole .1 .0)
-  number i field h = ap (λ (l : List ℕ). be32 l i) (R .answered whole .1 .5) ∙ h (R .answered whole .1 .0)
+none-counted : (b : Lent) (Q : Query) (limit : ℕ) (a : Answer) → Allowed b Q limit a → a .refusal ≢ 0 → NoneCounted a
+unfolding refusedEarly
+none-counted b Q limit a A n =
+    ⊎-elim
+    (λ (t : eqb (early b Q .number) 0 ≡ true).
+    let x = A .accepted (eqb-true (early b Q .number) 0 t) in
+    subst NoneCounted (sym (x .2)) (over-counts b Q limit (x .0) (λ z. n (ap (λ (y : Answer). y .refusal) (x .2) ∙ z))))
+    (λ (t : eqb (early b Q .number) 0 ≡ false). subst NoneCounted (sym (A .refused (eqb-false (early b Q .number) 0 t))) (refl, refl, refl, refl))
+    (split (eqb (early b Q .number) 0))
 
-  pub refusal-at : be32 slice′ 0 ≡ R .answered whole .1 .0 .refusal
-  refusal-at = number 0 (λ a. a .refusal) refusal-read
+module _ (c : Call) (E : Completed c) where
+  abbrev b : Lent
+  b = c .lent
+
+  abbrev Q : Query
+  Q = c .query
+
+  abbrev a : Answer
+  a = E .0 .answered (E .1) .1 .0
+
+  allowed-answer : Allowed b Q (c .limit) a
+  allowed-answer = E .0 .answered (E .1) .1 .1
+
+  held-bytes : c .held ≡ a .held
+  held-bytes = E .0 .answered (E .1) .1 .2
+
+  settled-bytes : c .settled ≡ a .settled
+  settled-bytes = E .0 .answered (E .1) .1 .3
+
+  part-bytes : c .parts ≡ a .parts
+  part-bytes = E .0 .answered (E .1) .1 .4
+
+  number : (i : ℕ) (field : Answer → ℕ) → ((x : Answer) → be32 (answerBytes x) i ≡ field x) → be32 (c .answer) i ≡ field a
+  number i field h = ap (λ (l : List ℕ). be32 l i) (E .0 .answered (E .1) .1 .5) ∙ h a
 
   -- ---- demand 1
   -- Every call with an answer slice of 24 bytes is answered.
-  pub answered-always : r ≡ 0
-  answered-always = R .answered whole .0
+  pub answered-always : c .returned ≡ 0
+  answered-always = E .0 .answered (E .1) .0
 
   -- Bad input is refused by number and place, for the first reason in the fixed order, and no byte of the three buffers is changed.
   pub refused-first : early b Q .number ≢ 0
-      → (be32 slice′ 0 ≡ early b Q .number) × (be32 slice′ 4 ≡ early b Q .place) × (held ≡ b .held) × (settled ≡ b .settled) × (parts ≡ b .parts)
+      → (refusal c ≡ early b Q .number) × (place c ≡ early b Q .place) × (c .held ≡ b .held) × (c .settled ≡ b .settled) × (c .parts ≡ b .parts)
   unfolding refusedEarly
   refused-first n =
-      let g = R .answered whole .1 in
-      let e = g .1 .refused n in (
-        number 0 (λ a. a .refusal) refusal-read ∙ ap (λ (a : Answer). a .refusal) e,
-        number 4 (λ a. a .place) place-read ∙ ap (λ (a : Answer). a .place) e,
-        g .2 ∙ ap (λ (a : Answer). a .held) e,
-        g .3 ∙ ap (λ (a : Answer). a .settled) e,
-        g .4 ∙ ap (λ (a : Answer). a .parts) e,
+      let e = allowed-answer .refused n in (
+        number 0 (λ x. x .refusal) refusal-read ∙ ap (λ (x : Answer). x .refusal) e,
+        number 4 (λ x. x .place) place-read ∙ ap (λ (x : Answer). x .place) e,
+        held-bytes ∙ ap (λ (x : Answer). x .held) e,
+        settled-bytes ∙ ap (λ (x : Answer). x .settled) e,
+        part-bytes ∙ ap (λ (x : Answer). x .parts) e,
       )
 
-  -- Sound input lacks room exactly if a table or list would be larger than lent after a step made. The earliest such step gives the refusal, the lowest
-  -- number first, and all three buffers are zero.
-  pub room-refused : early b Q .number ≡ 0 → {l : List Settled} → Order (Distance N Q) (allowed Q) l → (j : ℕ) → j ≤ min limit (length l) → ¬ Room b Q l j → ((i : ℕ) → i < j → Room b Q l i)
-      → (be32 slice′ 0 ≡ roomAt b Q l j .number) × (be32 slice′ 4 ≡ roomAt b Q l j .place) × (held ≡ cleared (b .held)) × (settled ≡ cleared (b .settled)) × (parts ≡ cleared (b .parts))
+  -- the answer by the one order of settling
+  over : early b Q .number ≡ 0 → (l : List Settled) → Orders c l → a ≡ answerOver b Q l (c .limit)
+  over sound l O =
+      let x = allowed-answer .accepted sound in
+      x .2 ∙ ap (λ (m : List Settled). answerOver b Q m (c .limit)) (order-unique (read c) Q (early-valid b Q sound) (x .1) O)
+
+  -- Sound input that lacks room is refused at the earliest step after which a table or list would be larger than lent, with the lowest number there, and all three
+  -- buffers are zero.
+  pub room-refused : early b Q .number ≡ 0 → (l : List Settled) → Orders c l → (j : ℕ) → j ≤ steps c l → ¬ Room b Q l j → ((i : ℕ) → i < j → Room b Q l i)
+      → (refusal c ≡ roomAt b Q l j .number) × (place c ≡ roomAt b Q l j .place) × (c .held ≡ cleared (b .held)) × (c .settled ≡ cleared (b .settled)) × (c .parts ≡ cleared (b .parts))
   unfolding answerOver refusedLate
-  room-refused fine {l} O j h lacks before =
-      let g = R .answered whole .1 in
-      let x = g .1 .accepted fine in
-      let ok = early-valid b Q fine in
-      let k = min limit (length l) in
+  room-refused sound l O j h lacks before =
+      let k = steps c l in
       let first : roomUpTo b Q l k ≡ roomAt b Q l j = room-first b Q l k j h lacks before in
       let some : eqb (roomUpTo b Q l k .number) 0 ≡ false =
       ne-eqb (roomUpTo b Q l k .number) 0 (λ z. lacks (room-is b Q l j .0 (ap (λ (y : refusals.Refusal). y .number) (sym first) ∙ z))) in
-      let e : g .0 ≡ refusedLate b (roomAt b Q l j) =
-      x .2
-      ∙ ap (λ (m : List Settled). answerOver b Q m limit) (order-unique N Q ok (x .1) O)
-      ∙ cond-false (acceptedAfter b Q l k) (refusedLate b (roomUpTo b Q l k)) some
-      ∙ ap (refusedLate b) first in (
-        number 0 (λ a. a .refusal) refusal-read ∙ ap (λ (a : Answer). a .refusal) e,
-        number 4 (λ a. a .place) place-read ∙ ap (λ (a : Answer). a .place) e,
-        g .2 ∙ ap (λ (a : Answer). a .held) e,
-        g .3 ∙ ap (λ (a : Answer). a .settled) e,
-        g .4 ∙ ap (λ (a : Answer). a .parts) e,
+      let e : a ≡ refusedLate b (roomAt b Q l j) =
+      over sound l O ∙ cond-false (acceptedAfter b Q l k) (refusedLate b (roomUpTo b Q l k)) some ∙ ap (refusedLate b) first in (
+        number 0 (λ x. x .refusal) refusal-read ∙ ap (λ (x : Answer). x .refusal) e,
+        number 4 (λ x. x .place) place-read ∙ ap (λ (x : Answer). x .place) e,
+        held-bytes ∙ ap (λ (x : Answer). x .held) e,
+        settled-bytes ∙ ap (λ (x : Answer). x .settled) e,
+        part-bytes ∙ ap (λ (x : Answer). x .parts) e,
       )
 
-  -- ---- an accepted run
-  module _ (accepted : be32 slice′ 0 ≡ 0) where
-    abbrev pub a : Answer
-    a = R .answered whole .1 .0
+  -- Sound input with room after every step made is accepted.
+  pub room-accepted : early b Q .number ≡ 0 → (l : List Settled) → Orders c l → ((j : ℕ) → j ≤ steps c l → Room b Q l j) → refusal c ≡ 0
+  unfolding answerOver acceptedAfter
+  room-accepted sound l O all =
+      let k = steps c l in
+      let enough = eq-eqb (roomUpTo b Q l k .number) 0 (room-exactly b Q l k .1 all) in
+      number 0 (λ x. x .refusal) refusal-read
+      ∙ ap (λ (x : Answer). x .refusal) (over sound l O ∙ cond-true (acceptedAfter b Q l k) (refusedLate b (roomUpTo b Q l k)) enough)
 
-    pub run : Accepted b Q limit a
-    run = accepted-run b Q limit a (R .answered whole .1 .1) (sym (number 0 (λ x. x .refusal) refusal-read) ∙ accepted)
-
-    pub ok : Valid N Q
-    ok = early-valid b Q (run .fine)
-
-    -- the order of settling, and what of it is settled
-    abbrev pub l : List Settled
-    l = run .order
-
-    pub is-order : Order (Distance N Q) (allowed Q) l
-    is-order = run .is-order
-
-    abbrev pub S : List Settled
-    S = take (min limit (length l)) l
-
-    -- It was accepted for a reason: the input is sound, and there was room after every step made.
-    pub accepted-soundly : (early b Q .number ≡ 0) × ((j : ℕ) → j ≤ min limit (length l) → Room b Q l j)
-    accepted-soundly = (run .fine, room-exactly b Q l (min limit (length l)) .0 (run .room))
-
-    -- The settled list holds S, with zero behind it.
-    pub settled-is : (be32 slice′ 8 ≡ length S) × (settled ≡ filled (b .settled) (flatMap settledBytes S))
-    unfolding acceptedAfter
-    settled-is = (
-      number 8 (λ x. x .settledCount) settled-read ∙ ap (λ (x : Answer). x .settledCount) (run .is),
-      R .answered whole .1 .3 ∙ ap (λ (x : Answer). x .settled) (run .is),
-    )
-
-    -- ---- demand 2
-    module _ (finished : be32 slice′ 20 ≡ 1) where
-      done : (a .settledCount ≡ length l) × (a .settled ≡ filled (b .settled) (flatMap settledBytes l)) × (a .partCount ≡ length (partList N Q l)) × (a .parts ≡ filled (b .parts) (flatMap partBytes (partList N Q l)))
-      done = finished-all b Q limit a run (sym (number 20 (λ x. x .finished) finished-read) ∙ finished)
-
-      -- A finished accepted run lists a vertex exactly if a journey from it starts within the allowed time and arrives by the set hour; its figure is the
-      -- arrival hour less the latest such start.
-      pub demand-2-vertices :
-          (be32 slice′ 8 ≡ length l) × (settled ≡ filled (b .settled) (flatMap settledBytes l))
-          × ((v : ℕ) → ((d : ℕ) × In (order.settled v d) l) ↔ ((d : ℕ) × (d ≤ allowed Q) × Journey N Q v d))
-          × ((v d : ℕ) → In (order.settled v d) l → Distance N Q v d)
-      demand-2-vertices = (
-        number 8 (λ x. x .settledCount) settled-read ∙ done .0,
-        R .answered whole .1 .3 ∙ done .1,
-        listed-exactly N Q ok is-order,
-        figure-exactly N Q ok is-order,
+  -- In every refusal, 1 to 10, nothing is counted: the settled, part and held counts are 0, and finished is 0.
+  pub refused-counts : refusal c ≢ 0 → (settledCount c ≡ 0) × (partCount c ≡ 0) × (heldCount c ≡ 0) × (finished c ≡ 0)
+  refused-counts n =
+      let z = none-counted b Q (c .limit) a allowed-answer (λ e. n (number 0 (λ x. x .refusal) refusal-read ∙ e)) in (
+        number 8 (λ x. x .settledCount) settled-read ∙ z .0,
+        number 12 (λ x. x .partCount) parts-read ∙ z .1,
+        number 16 (λ x. x .heldCount) held-read ∙ z .2,
+        number 20 (λ x. x .finished) finished-read ∙ z .3,
       )
 
-      -- A whole-decimetre place inside a road record lies in a listed part exactly if such a journey starts there.
-      pub demand-2-places :
-          (be32 slice′ 12 ≡ length (partList N Q l)) × (parts ≡ filled (b .parts) (flatMap partBytes (partList N Q l)))
-          × ((i x : ℕ) → i < walkCount N → 0 < x → x < walk N i .len → Covered (partList N Q l) i x ↔ ((d : ℕ) × (d ≤ allowed Q) × Inside N Q i x d))
-      demand-2-places = (
-        number 12 (λ x. x .partCount) parts-read ∙ done .2,
-        R .answered whole .1 .4 ∙ done .3,
-        place-exactly N Q ok is-order,
-      )
+  run : refusal c ≡ 0 → Accepted b Q (c .limit) a
+  run accepted = accepted-run b Q (c .limit) a allowed-answer (sym (number 0 (λ x. x .refusal) refusal-read) ∙ accepted)
 
-    -- ---- demand 3
-    -- At any limit that fits the room the working table holds a vertex exactly if it has been met and is not settled with all its departing records leading
-    -- into S. Its record has what is known of it, its state, and the count of departing records that remain (`row`).
-    pub demand-3 :
-        (be32 slice′ 16 ≡ length (heldList G (distanceIn S))) × (held ≡ filled (b .held) (flatMap heldBytes (heldList G (distanceIn S))))
-        × ((v : ℕ) → v < vertexCount N → In (row G (distanceIn S) v) (heldList G (distanceIn S)) ↔ ((met G (distanceIn S) v ≡ true) × ¬ Dropped G (distanceIn S) v))
-    unfolding acceptedAfter
-    demand-3 = (
-      number 16 (λ x. x .heldCount) held-read ∙ ap (λ (x : Answer). x .heldCount) (run .is),
-      R .answered whole .1 .2 ∙ ap (λ (x : Answer). x .held) (run .is),
-      λ v h.
-          let e = held-exactly N Q ok is-order k v h in
-          let m = held-means N Q ok is-order k v in
-          (λ i. m .0 (e .0 i), λ p. e .1 (m .1 p)),
-    )
-      where
-        k : ℕ
-        k = min limit (length l)
+  -- A call is accepted exactly if its input is sound and has room after every step made.
+  pub accepted-exactly : (refusal c ≡ 0) ↔ ((early b Q .number ≡ 0) × ((l : List Settled) → Orders c l → (j : ℕ) → j ≤ steps c l → Room b Q l j))
+  accepted-exactly = (there, back)
+    where
+      there : refusal c ≡ 0 → (early b Q .number ≡ 0) × ((l : List Settled) → Orders c l → (j : ℕ) → j ≤ steps c l → Room b Q l j)
+      there accepted =
+          let x = run accepted in (
+            x .fine,
+            λ l O.
+                let same = order-unique (read c) Q (early-valid b Q (x .fine)) (x .is-order) O in
+                subst (λ (m : List Settled). (j : ℕ) → j ≤ steps c m → Room b Q m j) same (room-exactly b Q (x .order) (steps c (x .order)) .0 (x .room)),
+          )
 
--- Dropped stays dropped: a vertex that one accepted run has dropped is not held by any other of the same input that goes at least as far.
-module _ (b : Lent) (Q : Query) (limit limit′ : ℕ) (more : limit ≤ limit′) (slice held settled parts slice′ : List ℕ) (r : ℕ) (R : Ran b Q limit slice held settled parts slice′ r)
-    (whole : length slice ≡ 24) (accepted : be32 slice′ 0 ≡ 0) (slice₂ held₂ settled₂ parts₂ slice₂′ : List ℕ) (r₂ : ℕ)
-    (R₂ : Ran b Q limit′ slice₂ held₂ settled₂ parts₂ slice₂′ r₂) (whole₂ : length slice₂ ≡ 24) (accepted₂ : be32 slice₂′ 0 ≡ 0) where
-  abbrev G₂ : Network
-  G₂ = network (tables b) Q
+      back : (early b Q .number ≡ 0) × ((l : List Settled) → Orders c l → (j : ℕ) → j ≤ steps c l → Room b Q l j) → refusal c ≡ 0
+      back p =
+          let ok = early-valid b Q (p .0) in
+          let O = order-is (read c) Q ok in
+          room-accepted (p .0) (orderOf (read c) Q ok) O (p .1 (orderOf (read c) Q ok) O)
 
-  pub demand-3-dropped : (v : ℕ) → Dropped G₂ (distanceIn (S b Q limit slice held settled parts slice′ r R whole accepted)) v
-      → entry G₂ (distanceIn (S b Q limit′ slice₂ held₂ settled₂ parts₂ slice₂′ r₂ R₂ whole₂ accepted₂)) v ≡ []
-  demand-3-dropped v d =
-      let sound = ok b Q limit slice held settled parts slice′ r R whole accepted in
-      let O = is-order b Q limit slice held settled parts slice′ r R whole accepted in
-      let m = l b Q limit slice held settled parts slice′ r R whole accepted in
-      let same = order-unique (tables b) Q sound O (is-order b Q limit′ slice₂ held₂ settled₂ parts₂ slice₂′ r₂ R₂ whole₂ accepted₂) in
-      subst (λ (n : List Settled). entry G₂ (distanceIn (take (min limit′ (length n)) n)) v ≡ []) same
-      (dropped-stays-absent (tables b) Q sound O (min limit (length m)) (min limit′ (length m)) (omega arith) v d)
+  -- ---- what an accepted run leaves; l is the order of settling
+  module _ (accepted : refusal c ≡ 0) where
+    pub valid : Valid (read c) Q
+    valid = early-valid b Q (run accepted .fine)
+
+    -- there is an order
+    abbrev pub theOrder : List Settled
+    theOrder = orderOf (read c) Q valid
+
+    pub is-order : Orders c theOrder
+    is-order = order-is (read c) Q valid
+
+    module _ (l : List Settled) (O : Orders c l) where
+      is : a ≡ acceptedAfter b Q l (steps c l)
+      is = run accepted .is ∙ ap (λ (m : List Settled). acceptedAfter b Q m (steps c m)) (order-unique (read c) Q valid (run accepted .is-order) O)
+
+      -- The settled bytes are S in its order, with zero behind it.
+      pub settled-are : (settledCount c ≡ length (S c l)) × (c .settled ≡ filled (b .settled) (flatMap settledBytes (S c l)))
+      unfolding acceptedAfter
+      settled-are = (number 8 (λ x. x .settledCount) settled-read ∙ ap (λ (x : Answer). x .settledCount) is, settled-bytes ∙ ap (λ (x : Answer). x .settled) is)
+
+      -- The part bytes are the parts of step 0 and of S in their order, with zero behind them.
+      pub parts-are : (partCount c ≡ length (partList (read c) Q (S c l))) × (c .parts ≡ filled (b .parts) (flatMap partBytes (partList (read c) Q (S c l))))
+      unfolding acceptedAfter
+      parts-are = (number 12 (λ x. x .partCount) parts-read ∙ ap (λ (x : Answer). x .partCount) is, part-bytes ∙ ap (λ (x : Answer). x .parts) is)
+
+      -- The held bytes are the working table ascending by vertex, with zero behind it.
+      pub held-are :
+          (heldCount c ≡ length (heldList (network (read c) Q) (distanceIn (S c l))))
+          × (c .held ≡ filled (b .held) (flatMap heldBytes (heldList (network (read c) Q) (distanceIn (S c l)))))
+      unfolding acceptedAfter
+      held-are = (number 16 (λ x. x .heldCount) held-read ∙ ap (λ (x : Answer). x .heldCount) is, held-bytes ∙ ap (λ (x : Answer). x .held) is)
+
+      -- A finished run has settled the whole order.
+      pub finished-whole : finished c ≡ 1 → S c l ≡ l
+      unfolding acceptedAfter
+      finished-whole f =
+          let z : _≡_ {A = ℕ} (cond (leb (length l) (steps c l)) 1 0) 1 = sym (number 20 (λ x. x .finished) finished-read ∙ ap (λ (x : Answer). x .finished) is) ∙ f in
+          ⊎-elim (λ (t : leb (length l) (steps c l) ≡ true). take-all (steps c l) l (leb-true (length l) (steps c l) t))
+          (λ (t : leb (length l) (steps c l) ≡ false). absurd (let w : _≡_ {A = ℕ} 0 1 = rw t at z in omega arith))
+          (split (leb (length l) (steps c l)))

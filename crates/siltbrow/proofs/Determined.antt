@@ -4,16 +4,45 @@ use mathlib.Core.List.{List}
 use Prim.Native.Nat.{ℕ}
 use native.Mathlib.Decide.{ℕ-discrete}
 use lib.ListN.{length}
+use contract.Lifetimes.{Lfts}
+use borrow.Fn.World.{ArgsD}
+use borrow.Fn.Kinds.{endedOf}
+use denote.Triple.Clauses.{AtExit}
 use denote.Ref.{now}
 use Rattle.journeys.specs.Query.{Query}
 use Rattle.journeys.specs.Answers.{Lent, Answer}
 use Rattle.journeys.proofs.Determined.{answer-unique}
+use Rattle.search.specs.Asked.{queryBy}
+use Rattle.search.specs.Progress.{lent}
 use Rattle.siltbrow.specs.Ran.{answerBytes, Ran}
+use Rattle.siltbrow.specs.Call.{Call, Completed}
+use Rattle.siltbrow.proofs.siltbrow_run as siltbrow_run
+use Rattle.siltbrow.proofs.siltbrow_run.Kinds as kinds
 use Rattle.siltbrow.proofs.siltbrow_check.Reads as siltbrow-check
 use Rattle.siltbrow.proofs.siltbrow_run.Reads as siltbrow-run
 
 pub one-siltbrow-check : (κs : _) (a : _) (z z′ : _) (e e′ : _) → siltbrow-check.Post κs a z e → siltbrow-check.Post κs a z′ e′ → z ≡ z′
 one-siltbrow-check κs a z z′ e e′ p q = p ∙ sym q
+
+-- the call that the contract of `siltbrow_run` speaks of: its thirteen arguments, what it returns, and its slices at the exit, in the order of its signature
+module _ (κs : Lfts 6) (args : ArgsD siltbrow_run.signature κs) (returned : ℕ) (exit : AtExit (endedOf 6 kinds.ps kinds.r) κs) where
+  abbrev pub called : Call
+  called =
+      record {
+        lent = lent (now (args .0)) (now (args .1 .0)) (now (args .1 .1 .0)) (now (args .1 .1 .1 .1 .1 .1 .1 .1 .1 .0)) (now (args .1 .1 .1 .1 .1 .1 .1 .1 .1 .1 .0)) (now (args .1 .1 .1 .1 .1 .1 .1 .1 .1 .1 .1 .0));
+        query = queryBy (args .1 .1 .1 .0) (args .1 .1 .1 .1 .0) (args .1 .1 .1 .1 .1 .0) (args .1 .1 .1 .1 .1 .1 .0) (args .1 .1 .1 .1 .1 .1 .1 .0);
+        limit = args .1 .1 .1 .1 .1 .1 .1 .1 .0;
+        slice = now (args .1 .1 .1 .1 .1 .1 .1 .1 .1 .1 .1 .1 .0);
+        held = now (exit .1 .1 .1 .1 .1 .1 .1 .1 .1 .0);
+        settled = now (exit .1 .1 .1 .1 .1 .1 .1 .1 .1 .1 .0);
+        parts = now (exit .1 .1 .1 .1 .1 .1 .1 .1 .1 .1 .1 .0);
+        answer = now (exit .1 .1 .1 .1 .1 .1 .1 .1 .1 .1 .1 .1 .0);
+        returned = returned;
+      }
+
+-- What is said of a call that has completed (`Completed`) is said of every call of `siltbrow_run` with an answer slice of 24 bytes.
+pub call-completed : (κs : _) (a : _) (z : _) (e : _) → siltbrow-run.Post κs a z e → length (called κs a z e .slice) ≡ 24 → Completed (called κs a z e)
+call-completed κs a z e p whole = (p, whole)
 
 -- the answers for one slice of any length
 ran-one : (b : Lent) (Q : Query) (limit : ℕ) (slice h s p a h′ s′ p′ a′ : List ℕ) (r r′ : ℕ) → Ran b Q limit slice h s p a r → Ran b Q limit slice h′ s′ p′ a′ r′
@@ -36,7 +65,8 @@ ran-one b Q limit slice h s p a h′ s′ p′ a′ r r′ x y = go (ℕ-discret
         let g = y .untouched n in
         (f .0 ∙ sym (g .0), f .1 ∙ sym (g .1), f .2 ∙ sym (g .2), f .3 ∙ sym (g .3), f .4 ∙ sym (g .4))
 
+-- Two calls with the same arguments return the same and leave the same bytes in all four slices.
 pub one-siltbrow-run : (κs : _) (a : _) (z z′ : _) (e e′ : _) → siltbrow-run.Post κs a z e → siltbrow-run.Post κs a z′ e′
-    → (z ≡ z′) × (now (e .1 .1 .1 .1 .1 .1 .1 .1 .1 .0) ≡ now (e′ .1 .1 .1 .1 .1 .1 .1 .1 .1 .0)) × (now (e .1 .1 .1 .1 .1 .1 .1 .1 .1 .1 .0) ≡ now (e′ .1 .1 .1 .1 .1 .1 .1 .1 .1 .1 .0))
-    × (now (e .1 .1 .1 .1 .1 .1 .1 .1 .1 .1 .1 .0) ≡ now (e′ .1 .1 .1 .1 .1 .1 .1 .1 .1 .1 .1 .0)) × (now (e .1 .1 .1 .1 .1 .1 .1 .1 .1 .1 .1 .1 .0) ≡ now (e′ .1 .1 .1 .1 .1 .1 .1 .1 .1 .1 .1 .1 .0))
+    → let c = called κs a z e in let c′ = called κs a z′ e′ in
+    (z ≡ z′) × (c .held ≡ c′ .held) × (c .settled ≡ c′ .settled) × (c .parts ≡ c′ .parts) × (c .answer ≡ c′ .answer)
 one-siltbrow-run κs a z z′ e e′ p q = ran-one _ _ _ _ _ _ _ _ _ _ _ _ z z′ p q
