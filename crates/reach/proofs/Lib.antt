@@ -1,3 +1,4 @@
 pub mod Texts
 pub mod Determined
+pub mod JobSizes
 pub mod Room
