@@ -25,7 +25,7 @@ use Rattle.journeys.proofs.Tests.{cond-true, cond-false}
 use Rattle.journeys.proofs.Counting.{flat-append, flat-length}
 use Rattle.journeys.proofs.Valid.{Valid, early-valid}
 use Rattle.journeys.proofs.Refusals.{or-fine, unless-fine, room-is, room-exactly, room-first}
-use Rattle.journeys.proofs.Demands.{orderOf, order-is}
+use Rattle.journeys.proofs.OrderLaws.{orderOf, order-is}
 use Rattle.journeys.proofs.Document.{ways, laws, strict, order-dist, allowed-low}
 use Rattle.journeys.proofs.Settling.{order-size}
 use Rattle.journeys.proofs.Fits.{parts-most, distinct}

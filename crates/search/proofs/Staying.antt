@@ -19,7 +19,7 @@ use Rattle.journeys.proofs.Tests.{cond-true, cond-false}
 use Rattle.journeys.proofs.Valid.{Valid}
 use Rattle.journeys.proofs.Decoding.{vertex-count, walk-count}
 use Rattle.journeys.proofs.Document.{ways, laws, strict, order-dist, allowed-low}
-use Rattle.journeys.proofs.Demands.{orderOf, order-is}
+use Rattle.journeys.proofs.OrderLaws.{orderOf, order-is}
 use Rattle.journeys.proofs.Settling.{order-end, order-size}
 use Rattle.records.specs.Arriving.{firstOf, endOf}
 use Rattle.records.specs.declared.Kind.the-variants.{Walks, Hops}

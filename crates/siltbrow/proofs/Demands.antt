@@ -22,7 +22,7 @@ use Rattle.journeys.specs.Answers.{Lent, Answer, early, refusedEarly, refusedLa
 use Rattle.journeys.proofs.Tests.{split, cond-true, cond-false}
 use Rattle.journeys.proofs.Valid.{Valid, early-valid}
 use Rattle.journeys.proofs.Refusals.{room-is, room-exactly, room-first}
-use Rattle.journeys.proofs.Demands.{orderOf, order-is, order-unique}
+use Rattle.journeys.proofs.OrderLaws.{orderOf, order-is, order-unique}
 use Rattle.journeys.proofs.Determined.{Accepted, accepted-run}
 use Rattle.records.proofs.Filling.{word-back}
 use Rattle.siltbrow.specs.Ran.{answerBytes}
