@@ -1,14 +1,19 @@
--- Any two answers that the contract allows are equal, and so are any two states of the scratch. Assumes nothing.
-use mathlib.Core.Path.{_≡_, sym, ap, _∙_}
-use Rattle.journeys.specs.Refusals as refusals
+-- Any two answers that a contract allows are equal, and so are any two states of the scratch. Assumes nothing.
+use mathlib.Core.Path.{_≡_, sym, _∙_}
 use denote.Ref.{now}
-use Rattle.audit.specs.declared.Refusal.{Refusal}
-use Rattle.audit.specs.Judging.{told}
+use Rattle.words.proofs.Told.{told-injective}
+use Rattle.audit.proofs.lengths.Reads as lengths
+use Rattle.audit.proofs.contents.Reads as contents
 use Rattle.audit.proofs.check.Reads as check
 
--- the definition that gives number and place tells different answers apart
-pub told-injective : (a b : Refusal) → told a ≡ told b → a ≡ b
-told-injective a b e = ap (λ (r : refusals.Refusal). record { number = r .number; place = r .place }) e
+pub one-lengths : (κs : _) (a : _) (z z′ : _) (e e′ : _) → lengths.Post κs a z e → lengths.Post κs a z′ e′ → z ≡ z′
+one-lengths κs a z z′ e e′ p q = told-injective z z′ (p ∙ sym q)
+
+pub one-contents : (κs : _) (a : _) (z z′ : _) (e e′ : _) → contents.Post κs a z e → contents.Post κs a z′ e′ → z ≡ z′
+one-contents κs a z z′ e e′ p q = told-injective z z′ (p .0 ∙ sym (q .0))
+
+pub one-contents-scratch : (κs : _) (a : _) (z z′ : _) (e e′ : _) → contents.Post κs a z e → contents.Post κs a z′ e′ → now (e .1 .1 .1 .0) ≡ now (e′ .1 .1 .1 .0)
+one-contents-scratch κs a z z′ e e′ p q = p .1 ∙ sym (q .1)
 
 pub one-check : (κs : _) (a : _) (z z′ : _) (e e′ : _) → check.Post κs a z e → check.Post κs a z′ e′ → z ≡ z′
 one-check κs a z z′ e e′ p q = told-injective z z′ (p .0 ∙ sym (q .0))

@@ -2,12 +2,14 @@
 use mathlib.Core.Path.{_≡_, refl, sym, ap, _∙_}
 use mathlib.Core.Logic.{⊎-elim, _≢_}
 use mathlib.Core.Bool.{Bool, true, false}
-use Prim.Native.Nat.{ℕ, zero, suc, _+_, _≤_, _<_}
+use Prim.Native.Nat.{ℕ, zero, suc, _+_, _-_, _≤_, _<_}
+use native.Mathlib.Nat.{sub-zero}
 use native.Mathlib.Omega.{arith}
 use lib.Dec.{eqb}
-use borrow.Author.Tests.{eq-eqb, ne-eqb, eqb-true}
+use borrow.Author.Tests.{eq-eqb, eqb-true}
 use Rattle.journeys.specs.Refusals.{Refusal, fine, unless, orElse, firstFrom, firstBad}
-use Rattle.journeys.proofs.Tests.{split, never, same-or-below}
+use Rattle.journeys.proofs.Tests.{split, never}
+use Rattle.journeys.proofs.Refusals.{or-first, or-next, unless-good, unless-bad}
 
 abbrev pub refusing : ℕ → (ℕ → Bool) → ℕ → Refusal
 refusing number good i = unless (good i) number i
@@ -16,28 +18,17 @@ pub same-number : {a b : Refusal} → a ≡ b → a .number ≡ b .number
 same-number e = ap (λ (r : Refusal). r .number) e
 
 -- ---- the first of two
-pub first-none : (a b : Refusal) → a .number ≡ 0 → orElse a b ≡ b
-unfolding orElse
-first-none a b e = rw (eq-eqb (a .number) 0 e)
-
-pub first-some : (a b : Refusal) → a .number ≢ 0 → orElse a b ≡ a
-unfolding orElse
-first-some a b e = rw (ne-eqb (a .number) 0 e)
-
 or-assoc : (a b c : Refusal) → orElse (orElse a b) c ≡ orElse a (orElse b c)
 or-assoc a b c =
     ⊎-elim (λ (t : eqb (a .number) 0 ≡ true). by-none (eqb-true (a .number) 0 t)) (λ (t : eqb (a .number) 0 ≡ false). by-some t) (split _)
   where
     by-none : a .number ≡ 0 → orElse (orElse a b) c ≡ orElse a (orElse b c)
-    by-none e = ap (λ (x : Refusal). orElse x c) (first-none a b e) ∙ sym (first-none a (orElse b c) e)
+    by-none e = ap (λ (x : Refusal). orElse x c) (or-next a b e) ∙ sym (or-next a (orElse b c) e)
 
     by-some : eqb (a .number) 0 ≡ false → orElse (orElse a b) c ≡ orElse a (orElse b c)
     by-some t =
         let n : a .number ≢ 0 = λ (e : a .number ≡ 0). never (eq-eqb (a .number) 0 e) t in
-        ap (λ (x : Refusal). orElse x c) (first-some a b n) ∙ first-some a c n ∙ sym (first-some a (orElse b c) n)
-
-none-left : (b : Refusal) → orElse fine b ≡ b
-none-left b = first-none fine b refl
+        ap (λ (x : Refusal). orElse x c) (or-first a b n) ∙ or-first a c n ∙ sym (or-first a (orElse b c) n)
 
 -- ---- a scan
 pub scan-append : (f : ℕ → Refusal) (m n i : ℕ) → firstFrom f (m + n) i ≡ orElse (firstFrom f m i) (firstFrom f n (i + m))
@@ -45,7 +36,7 @@ unfolding firstFrom
 scan-append f zero n i =
     let e : 0 + n ≡ n = omega arith in
     let k : i + 0 ≡ i = omega arith in
-    rw (e, k) (sym (none-left (firstFrom f n i)))
+    rw (e, k) (sym (or-next fine (firstFrom f n i) refl))
 scan-append f (suc m) n i =
     let e : suc m + n ≡ suc (m + n) = omega arith in
     let k : i + 1 + m ≡ i + suc m = omega arith in
@@ -54,43 +45,37 @@ scan-append f (suc m) n i =
     ∙ sym (or-assoc (f i) (firstFrom f m (i + 1)) (firstFrom f n (i + suc m)))
 
 module _ (number : ℕ) (good : ℕ → Bool) where
-  good-none : (i : ℕ) → good i ≡ true → refusing number good i ≡ fine
-  unfolding unless
-  good-none i e = rw e
-
-  bad-is : (i : ℕ) → good i ≡ false → refusing number good i ≡ record { number = number; place = i }
-  unfolding unless
-  bad-is i e = rw e
-
   pub scan-step : (m n i : ℕ) → m ≡ suc n → good i ≡ true → firstFrom (refusing number good) m i ≡ firstFrom (refusing number good) n (i + 1)
   unfolding firstFrom
   scan-step m n i e g =
       ap (λ (x : ℕ). firstFrom (refusing number good) x i) e
-      ∙ ap (λ (x : Refusal). orElse x (firstFrom (refusing number good) n (i + 1))) (good-none i g)
-      ∙ none-left (firstFrom (refusing number good) n (i + 1))
+      ∙ ap (λ (x : Refusal). orElse x (firstFrom (refusing number good) n (i + 1))) (unless-good (good i) number i g)
+      ∙ or-next fine (firstFrom (refusing number good) n (i + 1)) refl
 
   pub scan-stop : (m n i : ℕ) → m ≡ suc n → 0 < number → good i ≡ false → firstFrom (refusing number good) m i ≡ record { number = number; place = i }
   unfolding firstFrom
   scan-stop m n i e p g =
       ap (λ (x : ℕ). firstFrom (refusing number good) x i) e
-      ∙ ap (λ (x : Refusal). orElse x (firstFrom (refusing number good) n (i + 1))) (bad-is i g)
-      ∙ first-some (record { number = number; place = i }) (firstFrom (refusing number good) n (i + 1)) (λ (z : number ≡ 0). omega arith)
+      ∙ ap (λ (x : Refusal). orElse x (firstFrom (refusing number good) n (i + 1))) (unless-bad (good i) number i g)
+      ∙ or-first (record { number = number; place = i }) (firstFrom (refusing number good) n (i + 1)) (λ (z : number ≡ 0). omega arith)
 
   pub scan-end : (m i : ℕ) → m ≡ 0 → firstFrom (refusing number good) m i ≡ fine
   unfolding firstFrom
   scan-end m i e = ap (λ (x : ℕ). firstFrom (refusing number good) x i) e
 
-  -- a scan that finds nothing has seen good records alone
-  pub scan-good : (n i : ℕ) → 0 < number → firstFrom (refusing number good) n i .number ≡ 0 → (k : ℕ) → i ≤ k → k < i + n → good k ≡ true
-  scan-good zero i p e k a b = absurd (omega arith)
-  scan-good (suc n) i p e k a b =
-      ⊎-elim (λ (g : good i ≡ true).
-      ⊎-elim (λ (q : i ≡ k). ap good (sym q) ∙ g)
-      (λ (q : i < k). scan-good n (i + 1) p (sym (same-number (scan-step (suc n) n i refl g)) ∙ e) k (omega arith) (omega arith))
-      (same-or-below a))
-      (λ (g : good i ≡ false). absurd (let z : number ≡ 0 = sym (same-number (scan-stop (suc n) n i refl p g)) ∙ e in let y : ⊥ = omega arith in y))
-      (split (good i))
+  -- a loop that has come to record i of n, where what is left gives the answer r of the whole: one record more, where it stops, and its end
+  abbrev pub left : ℕ → ℕ → Refusal
+  left n i = firstFrom (refusing number good) (n - i) i
 
-  pub all-good : (n : ℕ) → 0 < number → firstBad number good n .number ≡ 0 → (k : ℕ) → k < n → good k ≡ true
+  pub left-start : (n : ℕ) → left n 0 ≡ firstBad number good n
   unfolding firstBad
-  all-good n p e k l = scan-good n 0 p e k (omega arith) (omega arith)
+  left-start n = rw sub-zero
+
+  pub left-good : {r : Refusal} (n i : ℕ) → i < n → good i ≡ true → left n i ≡ r → left n (i + 1) ≡ r
+  left-good n i l g e = sym (scan-step (n - i) (n - (i + 1)) i (omega arith) g) ∙ e
+
+  pub left-bad : {q r : Refusal} (n i : ℕ) → 0 < number → i < n → good i ≡ false → left n i ≡ r → q ≡ record { number = number; place = i } → q ≡ r
+  left-bad n i p l g e f = f ∙ sym (scan-stop (n - i) (n - (i + 1)) i (omega arith) p g) ∙ e
+
+  pub left-none : {q r : Refusal} (n i : ℕ) → n ≤ i → left n i ≡ r → q ≡ fine → q ≡ r
+  left-none n i l e f = f ∙ sym (scan-end (n - i) i (omega arith)) ∙ e

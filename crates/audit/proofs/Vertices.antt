@@ -17,11 +17,12 @@ use Rattle.records.specs.Columns.{leaving, arrivingBelow}
 use Rattle.records.proofs.Columns.{departing-is}
 use Rattle.records.proofs.Judged.{vertex-ok}
 use Rattle.audit.specs.Judging.{vertexRefusals}
-use Rattle.audit.specs.Scratch.{Counted}
-use Rattle.audit.proofs.Scan.{refusing, scan-append, scan-stop, scan-end, first-none, first-some}
+use Rattle.departing.specs.Scratch.{Counted}
+use Rattle.journeys.proofs.Refusals.{or-next, or-first}
+use Rattle.audit.proofs.Scan.{refusing, scan-append, scan-stop, scan-end}
 
 -- ---- the counters are the departing records
-module _ (v w h s : List ℕ) (len low base : ℕ) (c : Counted len low s (λ k. leaving w (base + k) + leaving h (base + k))) where
+module _ (v w h s : List ℕ) (len low base : ℕ) (c : Counted len low s (λ k. leaving 16 w (base + k) + leaving 16 h (base + k))) where
   pub departs-exact : (k : ℕ) → k < low → getD s k 0 ≡ departing (tablesOf v w h) (base + k)
   departs-exact k l =
       omega (arith, departing-is v w h (base + k), c .stopped k (omega (arith, c .within)), c .exact k l)
@@ -37,7 +38,7 @@ module _ (v w h s : List ℕ) (len low base : ℕ) (c : Counted len low s (λ k.
       (λ (e : f .departing ≡ departing (tablesOf v w h) x).
       omega (arith, departing-is v w h x, c .passed l, bytes (12 * x + 8), bytes (12 * x + 8 + 1))) in
       vertex-ok v w h x n
-      ∙ and-left (eqb (f .zeros) 0) (and-right (eqb (f .firstWalk) (arrivingBelow w x) && eqb (f .firstHop) (arrivingBelow h x)) wrong)
+      ∙ and-left (eqb (f .zeros) 0) (and-right (eqb (f .firstWalk) (arrivingBelow 16 w x) && eqb (f .firstHop) (arrivingBelow 16 h x)) wrong)
 
 -- ---- a block of which the first vertices are judged
 module _ (N : Tables) (low len base : ℕ) (h : low ≤ len) where
@@ -48,12 +49,12 @@ module _ (N : Tables) (low len base : ℕ) (h : low ≤ len) where
       ap (λ (n : ℕ). firstFrom (refusing 6 (vertexOk N)) n base) (sym e) ∙ scan-append (refusing 6 (vertexOk N)) low (len - low) base
 
   pub block-found : vertexRefusals N low base .number ≢ 0 → vertexRefusals N low base ≡ vertexRefusals N len base
-  block-found n = sym (split-block ∙ first-some (vertexRefusals N low base) (vertexRefusals N (len - low) (base + low)) n)
+  block-found n = sym (split-block ∙ or-first (vertexRefusals N low base) (vertexRefusals N (len - low) (base + low)) n)
 
   pub block-passed : vertexRefusals N low base .number ≡ 0 → low < len → vertexOk N (base + low) ≡ false → record { number = 6; place = base + low } ≡ vertexRefusals N len base
   unfolding vertexRefusals
   block-passed z l bad =
-      sym (split-block ∙ first-none (vertexRefusals N low base) (vertexRefusals N (len - low) (base + low)) z
+      sym (split-block ∙ or-next (vertexRefusals N low base) (vertexRefusals N (len - low) (base + low)) z
       ∙ scan-stop 6 (vertexOk N) (len - low) (len - low - 1) (base + low) (omega arith) (omega arith) bad)
 
 -- ---- one block more, of n vertices in all
@@ -69,12 +70,12 @@ module _ (N : Tables) (n g : ℕ) where
       ∙ scan-append (refusing 6 (vertexOk N)) some (n - 1904 * g - some) (1904 * g)
 
   pub block-refuses : vertexRefusals N some (1904 * g) .number ≢ 0 → vertexRefusals N some (1904 * g) ≡ vertexRefusals N (n - 1904 * g) (1904 * g)
-  block-refuses q = sym (cut ∙ first-some (vertexRefusals N some (1904 * g)) (vertexRefusals N (n - 1904 * g - some) (1904 * g + some)) q)
+  block-refuses q = sym (cut ∙ or-first (vertexRefusals N some (1904 * g)) (vertexRefusals N (n - 1904 * g - some) (1904 * g + some)) q)
 
   pub block-good : vertexRefusals N some (1904 * g) .number ≡ 0 → vertexRefusals N (n - 1904 * (g + 1)) (1904 * (g + 1)) ≡ vertexRefusals N (n - 1904 * g) (1904 * g)
   unfolding vertexRefusals
   block-good q =
-      sym (cut ∙ first-none (vertexRefusals N some (1904 * g)) (vertexRefusals N (n - 1904 * g - some) (1904 * g + some)) q ∙ next)
+      sym (cut ∙ or-next (vertexRefusals N some (1904 * g)) (vertexRefusals N (n - 1904 * g - some) (1904 * g + some)) q ∙ next)
     where
       next : vertexRefusals N (n - 1904 * g - some) (1904 * g + some) ≡ vertexRefusals N (n - 1904 * (g + 1)) (1904 * (g + 1))
       next =

@@ -16,7 +16,8 @@ use Rattle.journeys.specs.Journeys.{Journey}
 use Rattle.journeys.specs.Clock.{tick, arrivalTick, ClockJourney, from-end, to-end, at-to, by-walk, by-hop}
 use Rattle.journeys.proofs.Tests.{le-or-lt}
 use Rattle.journeys.proofs.Seconds.{same-leb}
-use Rattle.journeys.proofs.Valid.{Valid, good-hop}
+use Rattle.journeys.proofs.Valid.{good-hop}
+use Rattle.journeys.specs.Valid.{Valid}
 
 -- ---- integers as differences of two numbers
 is-true : {b : Bool} → T b → b ≡ true

@@ -1,13 +1,13 @@
 -- Laws of `least`, `count`, `joined` and `In`. Assumes nothing.
 use mathlib.Core.Path.{_≡_, refl, sym, ap, ap₂, _∙_, subst}
 use mathlib.Core.Logic.{_⊎_, inl, inr, ⊎-elim}
-use mathlib.Core.Bool.{Bool, true, false, cond}
+use mathlib.Core.Bool.{Bool, true, false}
 use mathlib.Core.List.{List, [], _∷_, _++_, flatMap, append-nil, append-assoc}
 use Prim.Native.Nat.{ℕ, zero, suc, _+_, _*_, _≤_, _<_, min}
 use native.Mathlib.Omega.{arith}
 use lib.ListN.{length, getD, length-append, List·getD-append}
 use lib.Seq.{getD-at}
-use Rattle.journeys.specs.Counting.{none, least, count, joined, In}
+use Rattle.journeys.specs.Counting.{none, least, one, count, joined, In}
 use Rattle.journeys.proofs.Tests.{split, le-or-lt, same-or-below, last-or-below}
 
 -- what holds below n and at n holds below suc n
@@ -61,9 +61,6 @@ least-skip f i (suc j) h q =
     (same-or-below h)
 
 -- ---- count
-abbrev pub one : Bool → ℕ
-one b = cond b 1 0
-
 pub is-one : {b : Bool} → b ≡ true → one b ≡ 1
 is-one e = cc
 

@@ -19,7 +19,8 @@ use Rattle.journeys.proofs.Tests.{cond-true, cond-false, Test, same, ot
 use Rattle.journeys.proofs.Counting.{in-left, in-right, in-append, in-flat, flat-in, in-joined, joined-in}
 use Rattle.journeys.proofs.Firsts.{order-first}
 use Rattle.journeys.proofs.Cover.{Road, Sound, FromPlace, Piece, first, later, covers-from, from-covers}
-use Rattle.journeys.proofs.Valid.{Valid, good-walk, paired, allowed-some}
+use Rattle.journeys.proofs.Valid.{good-walk, paired, allowed-some}
+use Rattle.journeys.specs.Valid.{Valid}
 use Rattle.journeys.proofs.Document.{ways, laws, journey-arrives, arrives-journey, order-dist, allowed-low}
 
 abbrev pub thePart : ℕ → ℕ → ℕ → Part

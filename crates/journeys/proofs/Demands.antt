@@ -23,7 +23,8 @@ use Rattle.journeys.proofs.Known.{is-within, within-is}
 use Rattle.journeys.proofs.Greedy.{arrives-dec, dist-exists}
 use Rattle.journeys.proofs.Settling.{settled-known}
 use Rattle.journeys.proofs.Held.{dropped-stays, dropped-absent}
-use Rattle.journeys.proofs.Valid.{Valid, paired}
+use Rattle.journeys.proofs.Valid.{paired}
+use Rattle.journeys.specs.Valid.{Valid}
 use Rattle.journeys.proofs.Document.{ways, laws, journey-arrives, arrives-journey, dist-distance, allowed-low}
 use Rattle.journeys.proofs.OrderLaws.{order-state, order-grows}
 use Rattle.journeys.proofs.Coverage.{covered-inside, inside-covered}

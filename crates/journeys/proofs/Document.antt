@@ -15,7 +15,8 @@ use Rattle.journeys.specs.Order.{Order}
 use Rattle.journeys.specs.Records.{Record, walked, ridden, from, to, offer, recordCount, recordAt, seed, network}
 use Rattle.journeys.proofs.Tests.{split, and-both, and-true, or-cases, or-left, or-right, cond-true, cond-false, le-or-lt}
 use Rattle.journeys.proofs.Ways.{Ways, Arrives, ends, leads, Dist, Laws, Strict, Loopless, arrives-up}
-use Rattle.journeys.proofs.Valid.{Valid, good-walk, good-hop, allowed-high}
+use Rattle.journeys.proofs.Valid.{good-walk, good-hop, allowed-high}
+use Rattle.journeys.specs.Valid.{Valid}
 
 -- ---- the meaning of the offers
 abbrev pub End : Tables → Query → ℕ → ℕ → Type 0

@@ -10,7 +10,7 @@ use lib.Dec.{eqb, leb, ltb}
 use borrow.Author.Tests.{eqb-false, lt-ltb, le-ltb}
 use lib.ListN.{length, take, drop, length-append, take-append-drop}
 use lib.Seq.{take-nil}
-use Rattle.journeys.specs.Counting.{none, count, joined, In}
+use Rattle.journeys.specs.Counting.{none, count, joined, In, one}
 use Rattle.journeys.specs.Bytes.{midnight}
 use Rattle.journeys.specs.Tables.{Tables, walk, hop, walkCount}
 use Rattle.journeys.specs.Query.{Query, before, asked, allowed}
@@ -20,10 +20,11 @@ use Rattle.journeys.specs.Network.{Network, distanceIn, within, known, h
 use Rattle.journeys.specs.Records.{Record, offer, recordCount, recordAt, seed, network}
 use Rattle.journeys.specs.Parts.{Part, part, near, firstPart, firstParts, partAt, partsAt, partList}
 use Rattle.journeys.proofs.Tests.{Test, same, other, test, le-or-lt}
-use Rattle.journeys.proofs.Counting.{one, is-one, is-zero, count-most, count-join, in-append, in-left, flat-in, joined-in}
+use Rattle.journeys.proofs.Counting.{is-one, is-zero, count-most, count-join, in-append, in-left, flat-in, joined-in}
 use Rattle.journeys.proofs.Known.{By, known-by, known-seed, known-record}
 use Rattle.journeys.proofs.Firsts.{distance-in}
-use Rattle.journeys.proofs.Valid.{Valid, good-walk, good-hop, paired, allowed-high}
+use Rattle.journeys.proofs.Valid.{good-walk, good-hop, paired, allowed-high}
+use Rattle.journeys.specs.Valid.{Valid}
 use Rattle.journeys.proofs.Document.{Numbered, of-walk, of-hop, numbered, ways}
 use Rattle.journeys.proofs.Cover.{Piece, first, later}
 use Rattle.journeys.proofs.Coverage.{road, sound, listed-piece, first-walk, firsts-cases, at-walk}

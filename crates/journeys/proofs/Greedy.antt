@@ -9,11 +9,11 @@ use native.Mathlib.Decide.{decLe}
 use native.Mathlib.Omega.{arith}
 use lib.Dec.{leb}
 use lib.ListN.{length, length-append}
-use Rattle.journeys.specs.Counting.{none, count, In}
+use Rattle.journeys.specs.Counting.{none, count, In, one}
 use Rattle.journeys.specs.Order.{Settled, settled}
 use Rattle.journeys.specs.Network.{Network, distanceIn, within, known}
 use Rattle.journeys.proofs.Tests.{Test, same, other, test, TestLe, fits, over, testLe, le-or-lt, last-or-below}
-use Rattle.journeys.proofs.Counting.{in-snoc, below-suc, one, is-one, is-zero, count-same, count-all, none-count}
+use Rattle.journeys.proofs.Counting.{in-snoc, below-suc, is-one, is-zero, count-same, count-all, none-count}
 use Rattle.journeys.proofs.Ways.{Ways, Arrives, Dist, Laws, Strict, dist-one, arrives-up}
 use Rattle.journeys.proofs.Place.{key, top, place, key-top, top-key}
 use Rattle.journeys.proofs.Known.{upd, upd-same, upd-other, not-within, within-is, within-same, within-other, Right, Bound, Next, ended, next-dist, next-right, next-first}

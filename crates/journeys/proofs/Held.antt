@@ -7,11 +7,11 @@ use Prim.Native.Nat.{ℕ, suc, _+_, _-_, _≤_, _<_, min}
 use native.Mathlib.Omega.{arith}
 use lib.Dec.{eqb, ltb}
 use borrow.Author.Tests.{ltb-true, ltb-false, lt-ltb, eq-eqb, ne-eqb}
-use Rattle.journeys.specs.Counting.{none, least, count, joined}
+use Rattle.journeys.specs.Counting.{none, least, count, joined, one}
 use Rattle.journeys.specs.Order.{Settled}
 use Rattle.journeys.specs.Network.{Network, Held, distanceIn, within, into, outside, known, remaining, met, held, row, entry, heldList, Dropped}
 use Rattle.journeys.proofs.Tests.{split, never, and-left, and-right, and-true, or-cases, or-left, or-right, or-none, cond-true, cond-false, same-test, le-or-lt}
-use Rattle.journeys.proofs.Counting.{one, is-one, least-empty, least-skip, count-mono, count-grows, count-skip, count-join, count-none, some-count, joined-same}
+use Rattle.journeys.proofs.Counting.{is-one, least-empty, least-skip, count-mono, count-grows, count-skip, count-join, count-none, some-count, joined-same}
 use Rattle.journeys.proofs.Ways.{Ways, Arrives, leads, Laws, Loopless}
 use Rattle.journeys.proofs.Place.{key, key-less}
 use Rattle.journeys.proofs.Known.{upd, is-within, not-within, within-is, within-same, within-other, is-into, known-most, known-by, By, Next, next-dist}

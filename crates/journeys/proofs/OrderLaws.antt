@@ -15,7 +15,7 @@ use Rattle.journeys.proofs.Known.{Next, Bound}
 use Rattle.journeys.proofs.Firsts.{order-one}
 use Rattle.journeys.proofs.Greedy.{State, run}
 use Rattle.journeys.proofs.Settling as settling
-use Rattle.journeys.proofs.Valid.{Valid}
+use Rattle.journeys.specs.Valid.{Valid}
 use Rattle.journeys.proofs.Document.{ways, laws, strict, order-dist, dist-order, allowed-low}
 use Rattle.journeys.proofs.Fits as fits
 

@@ -2,15 +2,16 @@
 use mathlib.Core.Path.{_≡_, refl, sym, ap, subst, _∙_}
 use mathlib.Core.Logic.{_⊎_, inl, inr, ⊎-elim, _↔_, _≢_}
 use mathlib.Core.Bool.{Bool, true, false}
-use mathlib.Core.List.{List}
+use mathlib.Core.List.{List, [], _∷_}
 use Prim.Native.Nat.{ℕ, zero, suc, _+_, _/_, _≤_, _<_}
 use native.Mathlib.Omega.{arith}
 use lib.Dec.{eqb, leb}
 use lib.ListN.{length, take}
 use borrow.Author.Tests.{eqb-true, eqb-false, eq-eqb, ne-eqb, leb-true, le-leb}
+use Rattle.journeys.specs.Counting.{In}
 use Rattle.journeys.specs.Query.{Query}
 use Rattle.journeys.specs.Order.{Settled}
-use Rattle.journeys.specs.Refusals.{Refusal, fine, unless, orElse, firstFrom, firstBad}
+use Rattle.journeys.specs.Refusals.{Refusal, fine, unless, orElse, chain, firstFrom, firstBad}
 use Rattle.journeys.specs.Answers.{Lent, heldAfter, partsAfter, roomAt, roomUpTo, Room}
 use Rattle.journeys.proofs.Tests.{split, cond-true, cond-false, same-or-below}
 
@@ -47,6 +48,25 @@ pub or-next : (a b : Refusal) → a .number ≡ 0 → orElse a b ≡ b
 unfolding orElse
 or-next a b e = cond-true b a (eq-eqb (a .number) 0 e)
 
+-- ---- a chain: its first link decides where it refuses, else the others do; and it is fine where every link is
+pub chain-first : (a : Refusal) (l : List Refusal) → a .number ≢ 0 → chain (a ∷ l) ≡ a
+chain-first a [] n = refl
+chain-first a (b ∷ l) n = or-first a (chain (b ∷ l)) n
+
+pub chain-next : (a b : Refusal) (l : List Refusal) → a .number ≡ 0 → chain (a ∷ b ∷ l) ≡ chain (b ∷ l)
+chain-next a b l e = or-next a (chain (b ∷ l)) e
+
+pub chain-fine : (l : List Refusal) → chain l .number ≡ 0 → (a : Refusal) → In a l → a .number ≡ 0
+chain-fine [] e a i = absurd i
+chain-fine (b ∷ []) e a (inl q) = ap (λ (r : Refusal). r .number) q ∙ e
+chain-fine (b ∷ c ∷ l) e a (inl q) = ap (λ (r : Refusal). r .number) q ∙ or-fine b (chain (c ∷ l)) e .0
+chain-fine (b ∷ c ∷ l) e a (inr i) = chain-fine (c ∷ l) (or-fine b (chain (c ∷ l)) e .1) a i
+
+pub chain-none : (l : List Refusal) → ((a : Refusal) → In a l → a .number ≡ 0) → chain l .number ≡ 0
+chain-none [] h = refl
+chain-none (a ∷ []) h = h a (inl refl)
+chain-none (a ∷ b ∷ l) h = ap (λ (r : Refusal). r .number) (chain-next a b l (h a (inl refl))) ∙ chain-none (b ∷ l) (λ c i. h c (inr i))
+
 -- Nothing is refused where each place is fine.
 pub from-none : (f : ℕ → Refusal) (n i : ℕ) → ((k : ℕ) → i ≤ k → k < i + n → f k .number ≡ 0) → firstFrom f n i ≡ fine
 unfolding firstFrom
@@ -62,11 +82,11 @@ from-first f (suc m) i k a b n h =
     (λ (q : i < k). or-next (f i) _ (h i (omega arith) q) ∙ from-first f m (i + 1) k (omega arith) (omega arith) n (λ j c d. h j (omega arith) d))
     (same-or-below a)
 
-unless-good : (good : Bool) (number place : ℕ) → good ≡ true → unless good number place ≡ fine
+pub unless-good : (good : Bool) (number place : ℕ) → good ≡ true → unless good number place ≡ fine
 unfolding unless
 unless-good good number place e = cond-true fine _ e
 
-unless-bad : (good : Bool) (number place : ℕ) → good ≡ false → unless good number place ≡ record { number = number; place = place }
+pub unless-bad : (good : Bool) (number place : ℕ) → good ≡ false → unless good number place ≡ record { number = number; place = place }
 unfolding unless
 unless-bad good number place e = cond-false fine _ e
 

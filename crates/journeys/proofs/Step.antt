@@ -6,10 +6,10 @@ use mathlib.Core.Bool.{Bool, true, false, not, cond, _&&_}
 use Prim.Native.Nat.{ℕ, _+_, _≤_, _<_, min}
 use native.Mathlib.Omega.{arith}
 use lib.Dec.{eqb}
-use Rattle.journeys.specs.Counting.{none, least, count}
+use Rattle.journeys.specs.Counting.{none, least, count, one}
 use Rattle.journeys.specs.Network.{Network, within, into, outside, offered, known, remaining}
 use Rattle.journeys.proofs.Tests.{Test, same, other, test, and-right, cond-false}
-use Rattle.journeys.proofs.Counting.{one, least-min, least-skip, count-join, count-skip}
+use Rattle.journeys.proofs.Counting.{least-min, least-skip, count-join, count-skip}
 use Rattle.journeys.proofs.Known.{upd, upd-same, upd-other, not-within, within-same, within-other}
 
 module _ (G : Network) where

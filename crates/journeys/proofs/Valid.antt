@@ -1,4 +1,4 @@
--- What holds of tables and a query that are not refused. Assumes nothing.
+-- What is not refused is valid, and what a valid record says. Assumes nothing.
 use mathlib.Core.Path.{_≡_}
 use mathlib.Core.Logic.{⊎-elim, _≢_}
 use mathlib.Core.Bool.{true, _&&_}
@@ -13,38 +13,12 @@ use Rattle.journeys.specs.Counting.{none}
 use Rattle.journeys.specs.Bytes.{midnight}
 use Rattle.journeys.specs.Tables.{Tables, tablesOf, vertexCount, walkCount, hopCount, walk, hop}
 use Rattle.journeys.specs.Query.{Query, asked, allowed}
-use Rattle.journeys.specs.Refusals.{unless, firstBad, wholeOf, tableOf, tableLengths, bufferLengths, endsOk, pairOk, walkOk, hopOk, walkAscends, hopAscends, vertexOk, contents, queryRefusal, check}
+use Rattle.journeys.specs.Refusals.{unless, firstBad, wholeOf, tableOf, tableLengths, bufferLengths, endsOk, lengthOk, pairOk, walkOk, hopOk, walkAscends, hopAscends, vertexOk, contents, queryRefusal, check}
+use Rattle.journeys.specs.Valid.{ValidTables, ValidQuery, Valid}
 use Rattle.journeys.specs.Answers.{Lent, tables, early}
 use Rattle.journeys.proofs.Tests.{and-both, or-cases}
 use Rattle.journeys.proofs.Refusals.{or-fine, unless-fine, bad-fine}
 use Rattle.journeys.proofs.Decoding.{vertex-count, walk-count, hop-count}
-
--- ---- the tables
-pub record ValidTables (N : Tables) : Type 0 where
-  pub vertices-some : 1 ≤ vertexCount N
-  pub vertices-few : vertexCount N ≤ 65536
-  pub walks-few : walkCount N ≤ 262144
-  pub hops-few : hopCount N ≤ 262144
-  pub walks : (i : ℕ) → i < walkCount N → walkOk N i ≡ true
-  pub hops : (j : ℕ) → j < hopCount N → hopOk N j ≡ true
-  pub walks-ascend : (i : ℕ) → i < walkCount N → walkAscends N i ≡ true
-  pub hops-ascend : (j : ℕ) → j < hopCount N → hopAscends N j ≡ true
-  pub vertices : (v : ℕ) → v < vertexCount N → vertexOk N v ≡ true
-
-pub record ValidQuery (N : Tables) (Q : Query) : Type 0 where
-  pub walk-low : Q .walk < walkCount N
-  pub offset-low : Q .offset ≤ asked N Q .len
-  pub arrival-low : midnight ≤ Q .arrival
-  pub arrival-high : Q .arrival ≤ midnight + 172800
-  pub duration-low : 1 ≤ Q .duration
-  pub duration-high : Q .duration ≤ 86400
-  pub speed-low : 1 ≤ Q .speed
-  pub speed-high : Q .speed ≤ 100
-
--- both
-pub record Valid (N : Tables) (Q : Query) : Type 0 where
-  pub tables : ValidTables N
-  pub query : ValidQuery N Q
 
 pub contents-valid : (N : Tables) → 1 ≤ vertexCount N → vertexCount N ≤ 65536 → walkCount N ≤ 262144 → hopCount N ≤ 262144 → contents N .number ≡ 0 → ValidTables N
 unfolding contents
@@ -86,7 +60,7 @@ query-valid N Q e =
       speed-high = leb-true _ _ (speed .1);
     }
 
-table-fits : (size low high : ℕ) (b : List ℕ) → tableOf size low high b ≡ true → (low ≤ length b / size) × (length b / size ≤ high)
+pub table-fits : (size low high : ℕ) (b : List ℕ) → tableOf size low high b ≡ true → (low ≤ length b / size) × (length b / size ≤ high)
 unfolding tableOf
 table-fits size low high b e =
     let p = and-both (wholeOf size b && leb low (length b / size)) _ e in
@@ -133,7 +107,7 @@ pub record GoodHop (N : Tables) (j : ℕ) : Type 0 where
   pub rides : hop N j .departure < hop N j .arrival
   pub arrival-high : hop N j .arrival ≤ midnight + 172800
 
-ends-good : (n from to : ℕ) → endsOk n from to ≡ true → (from < n) × (to < n) × (from ≢ to)
+pub ends-good : (n from to : ℕ) → endsOk n from to ≡ true → (from < n) × (to < n) × (from ≢ to)
 unfolding endsOk
 ends-good n from to e =
     let a = and-both (ltb from n && ltb to n) _ e in
@@ -144,7 +118,7 @@ module _ (N : Tables) (ok : ValidTables N) where
   pub good-walk : (i : ℕ) → i < walkCount N → GoodWalk N i
   unfolding walkOk
   good-walk i l =
-      let a = and-both (endsOk (vertexCount N) (walk N i .from) (walk N i .to) && (leb 1 (walk N i .len) && leb (walk N i .len) 100000)) _ (ok .walks i l) in
+      let a = and-both (endsOk (vertexCount N) (walk N i .from) (walk N i .to) && lengthOk (walk N i .len)) _ (ok .walks i l) in
       let b = and-both (endsOk (vertexCount N) (walk N i .from) (walk N i .to)) _ (a .0) in
       let c = and-both (leb 1 (walk N i .len)) _ (b .1) in
       let e = ends-good (vertexCount N) (walk N i .from) (walk N i .to) (b .0) in

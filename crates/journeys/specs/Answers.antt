@@ -2,7 +2,7 @@
 use mathlib.Core.Path.{_≡_}
 use mathlib.Core.Logic.{_≢_}
 use mathlib.Core.Bool.{cond}
-use mathlib.Core.List.{List, _++_, flatMap}
+use mathlib.Core.List.{List, [], _∷_, _++_, flatMap}
 use Prim.Native.Nat.{ℕ, _+_, _/_, _≤_, min}
 use lib.Dec.{eqb, leb}
 use lib.ListN.{length, take}
@@ -13,7 +13,7 @@ use Rattle.journeys.specs.Order.{Settled, IsOrder}
 use Rattle.journeys.specs.Network.{Held, distanceIn, heldList}
 use Rattle.journeys.specs.Records.{network}
 use Rattle.journeys.specs.Parts.{Part, partList}
-use Rattle.journeys.specs.Refusals.{Refusal, unless, orElse, firstFrom, tableLengths, bufferLengths, contents, queryRefusal}
+use Rattle.journeys.specs.Refusals.{Refusal, unless, orElse, chain, firstFrom, tableLengths, bufferLengths, contents, queryRefusal}
 
 -- the bytes lent: three tables, and three buffers as they are at the call
 pub record Lent : Type 0 where
@@ -42,8 +42,12 @@ tables b = tablesOf (b .vertices) (b .walks) (b .hops)
 -- refusals 1 to 7, which change no lent byte
 unfoldable pub early : Lent → Query → Refusal
 early b Q =
-    orElse (tableLengths (b .vertices) (b .walks) (b .hops))
-    (orElse (bufferLengths (b .held) (b .settled) (b .parts)) (orElse (contents (tables b)) (queryRefusal (tables b) Q)))
+    chain
+    (tableLengths (b .vertices) (b .walks) (b .hops)
+    ∷ bufferLengths (b .held) (b .settled) (b .parts)
+    ∷ contents (tables b)
+    ∷ queryRefusal (tables b) Q
+    ∷ [])
 
 unfoldable pub refusedEarly : Lent → Refusal → Answer
 refusedEarly b r =

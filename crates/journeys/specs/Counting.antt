@@ -14,10 +14,13 @@ unfoldable pub least : (ℕ → ℕ) → ℕ → ℕ
 least f zero = none
 least f (suc n) = min (least f n) (f n)
 
--- how many of 0 .. n - 1 pass the test
+-- a test as a number, and how many of 0 .. n - 1 pass one
+abbrev pub one : Bool → ℕ
+one b = cond b 1 0
+
 unfoldable pub count : (ℕ → Bool) → ℕ → ℕ
 count p zero = 0
-count p (suc n) = count p n + cond (p n) 1 0
+count p (suc n) = count p n + one (p n)
 
 -- f 0 ++ f 1 ++ .. ++ f (n - 1)
 unfoldable pub joined {ℓ} : {A : Type ℓ} → (ℕ → List A) → ℕ → List A

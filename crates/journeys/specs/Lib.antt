@@ -8,6 +8,7 @@ pub mod Network
 pub mod Records
 pub mod Parts
 pub mod Refusals
+pub mod Valid
 pub mod Answers
 pub mod Clock
 pub mod Marked

@@ -1,6 +1,6 @@
 -- Refusals 1 to 7: which input is refused, by number and place, for the first reason in the fixed order. Assumes nothing.
 use mathlib.Core.Bool.{Bool, not, cond, _&&_, _||_}
-use mathlib.Core.List.{List}
+use mathlib.Core.List.{List, [], _∷_}
 use Prim.Native.Nat.{ℕ, zero, suc, _+_, _-_, _/_, _%_}
 use lib.Dec.{eqb, leb, ltb}
 use lib.ListN.{length}
@@ -21,10 +21,17 @@ fine = record { number = 0; place = 0 }
 unfoldable pub unless : Bool → ℕ → ℕ → Refusal
 unless good number place = cond good fine (record { number = number; place = place })
 
--- the first of two; the first of the n from place i on
+-- the first of two
 unfoldable pub orElse : Refusal → Refusal → Refusal
 orElse a b = cond (eqb (a .number) 0) b a
 
+-- the first of a chain; every operation has its own, in the order of its reasons
+abbrev pub chain : List Refusal → Refusal
+chain [] = fine
+chain (a ∷ []) = a
+chain (a ∷ b ∷ l) = orElse a (chain (b ∷ l))
+
+-- the first of the n from place i on
 unfoldable pub firstFrom : (ℕ → Refusal) → ℕ → ℕ → Refusal
 firstFrom f zero i = fine
 firstFrom f (suc n) i = orElse (f i) (firstFrom f n (i + 1))
@@ -42,40 +49,46 @@ tableOf size low high b = wholeOf size b && leb low (length b / size) && leb (le
 
 unfoldable pub tableLengths : List ℕ → List ℕ → List ℕ → Refusal
 tableLengths v w h =
-    orElse (unless (tableOf 12 1 65536 v) 1 0) (orElse (unless (tableOf 16 0 262144 w) 1 1) (unless (tableOf 16 0 262144 h) 1 2))
+    chain (unless (tableOf 12 1 65536 v) 1 0 ∷ unless (tableOf 16 0 262144 w) 1 1 ∷ unless (tableOf 16 0 262144 h) 1 2 ∷ [])
 
 unfoldable pub bufferLengths : List ℕ → List ℕ → List ℕ → Refusal
-bufferLengths held settled parts = orElse (unless (wholeOf 16 held) 1 3) (orElse (unless (wholeOf 8 settled) 1 4) (unless (wholeOf 12 parts) 1 5))
+bufferLengths held settled parts = chain (unless (wholeOf 16 held) 1 3 ∷ unless (wholeOf 8 settled) 1 4 ∷ unless (wholeOf 12 parts) 1 5 ∷ [])
 
 -- two different vertices of n
 unfoldable pub endsOk : ℕ → ℕ → ℕ → Bool
 endsOk n from to = ltb from n && ltb to n && not (eqb from to)
 
--- 2: t is the same road as w the other way and names i back; only FFFFFFFF is no twin
+-- 2: the length in decimetres; t is the same road as w the other way and names i back
+abbrev pub lengthOk : ℕ → Bool
+lengthOk len = leb 1 len && leb len 100000
+
 unfoldable pub pairOk : ℕ → Walk → Walk → Bool
 pairOk i w t = eqb (t .twin) i && eqb (t .from) (w .to) && eqb (t .to) (w .from) && eqb (t .len) (w .len)
 
+-- 3: times from -86,400 to 172,800, the departure before the arrival
+abbrev pub timesOk : ℕ → ℕ → Bool
+timesOk departure arrival = leb (midnight - 86400) departure && ltb departure arrival && leb arrival (midnight + 172800)
+
+-- 4, 5: "to" of a record not below that of the one before
+abbrev pub ascendsBy : (ℕ → ℕ) → ℕ → Bool
+ascendsBy to i = eqb i 0 || leb (to (i - 1)) (to i)
+
 module _ (N : Tables) where
+  -- only FFFFFFFF is no twin
+  abbrev pub twinOk : ℕ → Walk → Bool
+  twinOk i w = eqb (w .twin) none || (ltb (w .twin) (walkCount N) && pairOk i w (walk N (w .twin)))
+
   unfoldable pub walkOk : ℕ → Bool
-  walkOk i =
-      let w = walk N i in
-      endsOk (vertexCount N) (w .from) (w .to)
-      && (leb 1 (w .len) && leb (w .len) 100000)
-      && (eqb (w .twin) none || (ltb (w .twin) (walkCount N) && pairOk i w (walk N (w .twin))))
+  walkOk i = let w = walk N i in endsOk (vertexCount N) (w .from) (w .to) && lengthOk (w .len) && twinOk i w
 
-  -- 3: times from -86,400 to 172,800, the departure before the arrival
   unfoldable pub hopOk : ℕ → Bool
-  hopOk j =
-      let h = hop N j in
-      endsOk (vertexCount N) (h .from) (h .to)
-      && (leb (midnight - 86400) (h .departure) && ltb (h .departure) (h .arrival) && leb (h .arrival) (midnight + 172800))
+  hopOk j = let h = hop N j in endsOk (vertexCount N) (h .from) (h .to) && timesOk (h .departure) (h .arrival)
 
-  -- 4, 5: "to" not below the one before
   unfoldable pub walkAscends : ℕ → Bool
-  walkAscends i = eqb i 0 || leb (walk N (i - 1) .to) (walk N i .to)
+  walkAscends = ascendsBy (λ i. walk N i .to)
 
   unfoldable pub hopAscends : ℕ → Bool
-  hopAscends j = eqb j 0 || leb (hop N (j - 1) .to) (hop N j .to)
+  hopAscends = ascendsBy (λ j. hop N j .to)
 
   -- 6: the firsts are the numbers of records with a smaller "to"
   unfoldable pub vertexOk : ℕ → Bool
@@ -88,20 +101,24 @@ module _ (N : Tables) where
 
   unfoldable pub contents : Refusal
   contents =
-      orElse (firstBad 2 walkOk (walkCount N))
-      (orElse (firstBad 3 hopOk (hopCount N))
-      (orElse (firstBad 4 walkAscends (walkCount N))
-      (orElse (firstBad 5 hopAscends (hopCount N))
-      (firstBad 6 vertexOk (vertexCount N)))))
+      chain
+      (firstBad 2 walkOk (walkCount N)
+      ∷ firstBad 3 hopOk (hopCount N)
+      ∷ firstBad 4 walkAscends (walkCount N)
+      ∷ firstBad 5 hopAscends (hopCount N)
+      ∷ firstBad 6 vertexOk (vertexCount N)
+      ∷ [])
 
   -- 7
   unfoldable pub queryRefusal : Query → Refusal
   queryRefusal Q =
-      orElse (unless (ltb (Q .walk) (walkCount N)) 7 0)
-      (orElse (unless (leb (Q .offset) (asked N Q .len)) 7 1)
-      (orElse (unless (leb midnight (Q .arrival) && leb (Q .arrival) (midnight + 172800)) 7 2)
-      (orElse (unless (leb 1 (Q .duration) && leb (Q .duration) 86400) 7 3)
-      (unless (leb 1 (Q .speed) && leb (Q .speed) 100) 7 4))))
+      chain
+      (unless (ltb (Q .walk) (walkCount N)) 7 0
+      ∷ unless (leb (Q .offset) (asked N Q .len)) 7 1
+      ∷ unless (leb midnight (Q .arrival) && leb (Q .arrival) (midnight + 172800)) 7 2
+      ∷ unless (leb 1 (Q .duration) && leb (Q .duration) 86400) 7 3
+      ∷ unless (leb 1 (Q .speed) && leb (Q .speed) 100) 7 4
+      ∷ [])
 
 -- the check alone
 unfoldable pub check : List ℕ → List ℕ → List ℕ → Refusal

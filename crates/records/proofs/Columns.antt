@@ -11,7 +11,7 @@ use Rattle.journeys.specs.Counting.{count}
 use Rattle.journeys.specs.Tables.{Walk, Hop, walkAt, hopAt, tablesOf, walk, hop, walkCount, hopCount}
 use Rattle.journeys.specs.Records.{walked, ridden, from, recordAt, departing}
 use Rattle.journeys.proofs.Tests.{or-cases, cond-true, cond-false, le-or-lt, same-or-below}
-use Rattle.journeys.proofs.Counting.{is-one, count-most, count-same, count-skip, count-append}
+use Rattle.journeys.proofs.Counting.{is-one, count-most, count-same, count-skip, count-grows, count-append}
 use Rattle.journeys.proofs.Decoding.{walk-at, hop-at, walk-count, hop-count}
 use Rattle.records.specs.Columns.{recordsIn, fromAt, toAt, ascendsAt, Ascending, arrivingBelow, leaving}
 
@@ -20,116 +20,111 @@ unfolding count
 all-count p zero h = refl
 all-count p (suc n) h = omega (arith, all-count p n (λ i l. h i (omega arith)), is-one (h n (omega arith)))
 
-count-grows : (p : ℕ → Bool) (k n : ℕ) → k ≤ n → count p k ≤ count p n
-count-grows p k n h =
-    let e : k + (n - k) ≡ n = omega arith in
-    omega (arith, count-append p k (n - k), ap (count p) e)
-
 -- ---- "to" ascends
-step-up : (t : List ℕ) (i : ℕ) → ascendsAt t (suc i) ≡ true → toAt t i ≤ toAt t (suc i)
+step-up : (size : ℕ) (t : List ℕ) (i : ℕ) → ascendsAt size t (suc i) ≡ true → toAt size t i ≤ toAt size t (suc i)
 unfolding ascendsAt
-step-up t i e =
+step-up size t i e =
     let p : suc i - 1 ≡ i = omega arith in
     ⊎-elim (λ (z : eqb (suc i) 0 ≡ true). absurd (omega (arith, eqb-true (suc i) 0 z)))
-    (λ (l : leb (toAt t (suc i - 1)) (toAt t (suc i)) ≡ true). leb-true (toAt t i) (toAt t (suc i)) (rw p at l))
-    (or-cases (eqb (suc i) 0) (leb (toAt t (suc i - 1)) (toAt t (suc i))) e)
+    (λ (l : leb (toAt size t (suc i - 1)) (toAt size t (suc i)) ≡ true). leb-true (toAt size t i) (toAt size t (suc i)) (rw p at l))
+    (or-cases (eqb (suc i) 0) (leb (toAt size t (suc i - 1)) (toAt size t (suc i))) e)
 
-module _ (t : List ℕ) (up : Ascending t) where
-  pub climbs : (i j : ℕ) → i ≤ j → j < recordsIn t → toAt t i ≤ toAt t j
+module _ (size : ℕ) (t : List ℕ) (up : Ascending size t) where
+  pub climbs : (i j : ℕ) → i ≤ j → j < recordsIn size t → toAt size t i ≤ toAt size t j
   climbs i zero h l =
       let e : i ≡ 0 = omega arith in
       rw e (omega arith)
   climbs i (suc j) h l =
       ⊎-elim (λ (e : i ≡ suc j). rw e (omega arith))
-      (λ (k : i < suc j). omega (arith, climbs i j (omega arith) (omega arith), step-up t j (up (suc j) l)))
+      (λ (k : i < suc j). omega (arith, climbs i j (omega arith) (omega arith), step-up size t j (up (suc j) l)))
       (same-or-below h)
 
   module _ (v : ℕ) where
     abbrev below : ℕ → Bool
-    below i = ltb (toAt t i) v
+    below i = ltb (toAt size t i) v
 
     -- the records before `first` are below v
-    pub low-count : (first : ℕ) → first ≤ recordsIn t → (0 < first → toAt t (first - 1) < v) → count below first ≡ first
+    pub low-count : (first : ℕ) → first ≤ recordsIn size t → (0 < first → toAt size t (first - 1) < v) → count below first ≡ first
     low-count first h l =
-        all-count below first (λ i k. lt-ltb (toAt t i) v (omega (arith, climbs i (first - 1) (omega arith) (omega arith), l (omega arith))))
+        all-count below first (λ i k. lt-ltb (toAt size t i) v (omega (arith, climbs i (first - 1) (omega arith) (omega arith), l (omega arith))))
 
-    pub high-count : (first : ℕ) → first ≤ recordsIn t → (first < recordsIn t → v ≤ toAt t first) → count below (recordsIn t) ≡ count below first
+    pub high-count : (first : ℕ) → first ≤ recordsIn size t → (first < recordsIn size t → v ≤ toAt size t first) → count below (recordsIn size t) ≡ count below first
     high-count first h l =
-        count-skip below first (recordsIn t) h (λ i a b. le-ltb (toAt t i) v (omega (arith, climbs first i a b, l (omega arith))))
+        count-skip below first (recordsIn size t) h (λ i a b. le-ltb (toAt size t i) v (omega (arith, climbs first i a b, l (omega arith))))
 
-    pub first-right : (first : ℕ) → first ≤ recordsIn t → (0 < first → toAt t (first - 1) < v) → (first < recordsIn t → v ≤ toAt t first) → eqb first (arrivingBelow t v) ≡ true
+    pub first-right : (first : ℕ) → first ≤ recordsIn size t → (0 < first → toAt size t (first - 1) < v) → (first < recordsIn size t → v ≤ toAt size t first) → eqb first (arrivingBelow size t v) ≡ true
     unfolding arrivingBelow
     first-right first h l k = eq-eqb first _ (sym (high-count first h k ∙ low-count first h l))
 
-    pub first-high : (first : ℕ) → 0 < first → first ≤ recordsIn t → v ≤ toAt t (first - 1) → eqb first (arrivingBelow t v) ≡ false
+    pub first-high : (first : ℕ) → 0 < first → first ≤ recordsIn size t → v ≤ toAt size t (first - 1) → eqb first (arrivingBelow size t v) ≡ false
     unfolding arrivingBelow
     first-high first p h l =
-        ne-eqb first _ (λ (e : first ≡ count below (recordsIn t)). omega (arith, high-count (first - 1) (omega arith) (λ _. l), count-most below (first - 1)))
+        ne-eqb first _ (λ (e : first ≡ count below (recordsIn size t)). omega (arith, high-count (first - 1) (omega arith) (λ _. l), count-most below (first - 1)))
 
-    pub first-low : (first : ℕ) → first < recordsIn t → toAt t first < v → eqb first (arrivingBelow t v) ≡ false
+    pub first-low : (first : ℕ) → first < recordsIn size t → toAt size t first < v → eqb first (arrivingBelow size t v) ≡ false
     unfolding arrivingBelow
     first-low first h l =
         let e : first + 1 - 1 ≡ first = omega arith in
         ne-eqb first _
-        (λ (q : first ≡ count below (recordsIn t)).
-        omega (arith, low-count (first + 1) (omega arith) (λ _. rw e l), count-grows below (first + 1) (recordsIn t) (omega arith)))
+        (λ (q : first ≡ count below (recordsIn size t)).
+        omega (arith, low-count (first + 1) (omega arith) (λ _. rw e l), count-grows below (first + 1) (recordsIn size t) (omega arith)))
 
-    pub first-past : (first : ℕ) → recordsIn t < first → eqb first (arrivingBelow t v) ≡ false
+    pub first-past : (first : ℕ) → recordsIn size t < first → eqb first (arrivingBelow size t v) ≡ false
     unfolding arrivingBelow
-    first-past first h = ne-eqb first _ (λ (q : first ≡ count below (recordsIn t)). omega (arith, count-most below (recordsIn t)))
+    first-past first h = ne-eqb first _ (λ (q : first ≡ count below (recordsIn size t)). omega (arith, count-most below (recordsIn size t)))
 
-    pub first-named : (first : ℕ) → first < recordsIn t → (0 < first → toAt t (first - 1) < v) → leb v (toAt t first) ≡ eqb first (arrivingBelow t v)
+    pub first-named : (first : ℕ) → first < recordsIn size t → (0 < first → toAt size t (first - 1) < v) → leb v (toAt size t first) ≡ eqb first (arrivingBelow size t v)
     first-named first h l =
-        ⊎-elim (λ (e : v ≤ toAt t first). le-leb v (toAt t first) e ∙ sym (first-right first (omega arith) l (λ _. e)))
-        (λ (e : toAt t first < v). lt-leb v (toAt t first) e ∙ sym (first-low first h e))
-        (le-or-lt v (toAt t first))
+        ⊎-elim (λ (e : v ≤ toAt size t first). le-leb v (toAt size t first) e ∙ sym (first-right first (omega arith) l (λ _. e)))
+        (λ (e : toAt size t first < v). lt-leb v (toAt size t first) e ∙ sym (first-low first h e))
+        (le-or-lt v (toAt size t first))
 
 -- ---- the tables of `journeys`
 module _ (v w h : List ℕ) where
-  pub walk-to : (i : ℕ) → i < recordsIn w → walk (tablesOf v w h) i .to ≡ toAt w i
+  pub walk-to : (i : ℕ) → i < recordsIn 16 w → walk (tablesOf v w h) i .to ≡ toAt 16 w i
   unfolding walkAt
   walk-to i l = ap (λ (x : Walk). x .to) (walk-at v w h i l)
 
-  pub walk-from : (i : ℕ) → i < recordsIn w → walk (tablesOf v w h) i .from ≡ fromAt w i
+  pub walk-from : (i : ℕ) → i < recordsIn 16 w → walk (tablesOf v w h) i .from ≡ fromAt 16 w i
   unfolding walkAt
   walk-from i l = ap (λ (x : Walk). x .from) (walk-at v w h i l)
 
-  pub hop-to : (j : ℕ) → j < recordsIn h → hop (tablesOf v w h) j .to ≡ toAt h j
+  pub hop-to : (j : ℕ) → j < recordsIn 16 h → hop (tablesOf v w h) j .to ≡ toAt 16 h j
   unfolding hopAt
   hop-to j l = ap (λ (x : Hop). x .to) (hop-at v w h j l)
 
-  pub hop-from : (j : ℕ) → j < recordsIn h → hop (tablesOf v w h) j .from ≡ fromAt h j
+  pub hop-from : (j : ℕ) → j < recordsIn 16 h → hop (tablesOf v w h) j .from ≡ fromAt 16 h j
   unfolding hopAt
   hop-from j l = ap (λ (x : Hop). x .from) (hop-at v w h j l)
 
-  pub walks-below : (x : ℕ) → count (λ i. ltb (walk (tablesOf v w h) i .to) x) (walkCount (tablesOf v w h)) ≡ arrivingBelow w x
+  pub walks-below : (x : ℕ) → count (λ i. ltb (walk (tablesOf v w h) i .to) x) (walkCount (tablesOf v w h)) ≡ arrivingBelow 16 w x
   unfolding arrivingBelow
-  walks-below x = rw (walk-count v w h) (count-same _ _ (recordsIn w) (λ i l. ap (λ (k : ℕ). ltb k x) (walk-to i l)))
+  walks-below x = rw (walk-count v w h) (count-same _ _ (recordsIn 16 w) (λ i l. ap (λ (k : ℕ). ltb k x) (walk-to i l)))
 
-  pub hops-below : (x : ℕ) → count (λ j. ltb (hop (tablesOf v w h) j .to) x) (hopCount (tablesOf v w h)) ≡ arrivingBelow h x
+  pub hops-below : (x : ℕ) → count (λ j. ltb (hop (tablesOf v w h) j .to) x) (hopCount (tablesOf v w h)) ≡ arrivingBelow 16 h x
   unfolding arrivingBelow
-  hops-below x = rw (hop-count v w h) (count-same _ _ (recordsIn h) (λ j l. ap (λ (k : ℕ). ltb k x) (hop-to j l)))
+  hops-below x = rw (hop-count v w h) (count-same _ _ (recordsIn 16 h) (λ j l. ap (λ (k : ℕ). ltb k x) (hop-to j l)))
 
-  record-walk : (r : ℕ) → r < recordsIn w → from (recordAt (tablesOf v w h) r) ≡ fromAt w r
+  record-walk : (r : ℕ) → r < recordsIn 16 w → from (recordAt (tablesOf v w h) r) ≡ fromAt 16 w r
   unfolding recordAt
   record-walk r l =
       ap from (cond-true (walked (walk (tablesOf v w h) r)) (ridden (hop (tablesOf v w h) (r - walkCount (tablesOf v w h)))) (lt-ltb r _ (rw (walk-count v w h) l)))
       ∙ walk-from r l
 
-  record-hop : (j : ℕ) → j < recordsIn h → from (recordAt (tablesOf v w h) (recordsIn w + j)) ≡ fromAt h j
+  record-hop : (j : ℕ) → j < recordsIn 16 h → from (recordAt (tablesOf v w h) (recordsIn 16 w + j)) ≡ fromAt 16 h j
   unfolding recordAt
   record-hop j l =
       let N = tablesOf v w h in
-      let k : recordsIn w + j - recordsIn w ≡ j = omega arith in
-      ap from (cond-false (walked (walk N (recordsIn w + j))) (ridden (hop N (recordsIn w + j - walkCount N))) (le-ltb (recordsIn w + j) _ (rw (walk-count v w h) (omega arith))))
+      let k : recordsIn 16 w + j - recordsIn 16 w ≡ j = omega arith in
+      ap from (cond-false (walked (walk N (recordsIn 16 w + j))) (ridden (hop N (recordsIn 16 w + j - walkCount N))) (le-ltb (recordsIn 16 w + j) _ (rw (walk-count v w h) (omega arith))))
       ∙ rw (walk-count v w h, k) (hop-from j l)
 
   -- walks and hops together
-  pub departing-is : (x : ℕ) → departing (tablesOf v w h) x ≡ leaving w x + leaving h x
+  pub departing-is : (x : ℕ) → departing (tablesOf v w h) x ≡ leaving 16 w x + leaving 16 h x
   unfolding departing leaving
   departing-is x =
       rw (walk-count v w h, hop-count v w h)
-      (count-append _ (recordsIn w) (recordsIn h)
+      (count-append _ (recordsIn 16 w) (recordsIn 16 h)
       ∙ ap₂ (λ (a b : ℕ). a + b)
-      (count-same _ _ (recordsIn w) (λ r l. ap (λ (k : ℕ). eqb k x) (record-walk r l)))
-      (count-same _ _ (recordsIn h) (λ j l. ap (λ (k : ℕ). eqb k x) (record-hop j l))))
+      (count-same _ _ (recordsIn 16 w) (λ r l. ap (λ (k : ℕ). eqb k x) (record-walk r l)))
+      (count-same _ _ (recordsIn 16 h) (λ j l. ap (λ (k : ℕ). eqb k x) (record-hop j l))))

@@ -1,52 +1,37 @@
 -- Any two answers that a contract allows are equal, and so are any two states of a buffer that was lent. Assumes nothing.
-use mathlib.Core.Path.{_≡_, sym, ap, _∙_}
-use Prim.Native.Nat.{ℕ}
-use lib.IntN.{ℤ}
+use mathlib.Core.Path.{_≡_, sym, _∙_}
 use denote.Ref.{now}
 use Rattle.records.proofs.Told.{vertex-injective, walk-injective, hop-injective}
-use Rattle.records.proofs.word.Reads as word
-use Rattle.records.proofs.word_at.Reads as word-at
-use Rattle.records.proofs.half_at.Reads as half-at
-use Rattle.records.proofs.seconds_of.Reads as seconds-of
-use Rattle.records.proofs.not_after.Reads as not-after
-use Rattle.records.proofs.sooner.Reads as sooner
+use Rattle.records.proofs.refusal.Reads as refusal
+use Rattle.records.proofs.hop_start.Reads as hop-start
+use Rattle.records.proofs.from_at.Reads as from-at
+use Rattle.records.proofs.to_at.Reads as to-at
 use Rattle.records.proofs.vertex_at.Reads as vertex-at
 use Rattle.records.proofs.walk_at.Reads as walk-at
 use Rattle.records.proofs.hop_at.Reads as hop-at
 use Rattle.records.proofs.first_arriving.Reads as first-arriving
 use Rattle.records.proofs.end_arriving.Reads as end-arriving
-use Rattle.records.proofs.since.Reads as since
-use Rattle.records.proofs.ticks_of.Reads as ticks-of
-use Rattle.records.proofs.ticks_before.Reads as ticks-before
-use Rattle.records.proofs.walked.Reads as walked
 use Rattle.records.proofs.read_vertex.Reads as read-vertex
 use Rattle.records.proofs.read_walk.Reads as read-walk
 use Rattle.records.proofs.read_hop.Reads as read-hop
 use Rattle.records.proofs.arriving.Reads as arriving
-use Rattle.records.proofs.put_word.Reads as put-word
 use Rattle.records.proofs.put_settled.Reads as put-settled
 use Rattle.records.proofs.put_part.Reads as put-part
 use Rattle.records.proofs.add_settled.Reads as add-settled
 use Rattle.records.proofs.add_part.Reads as add-part
 
 -- ---- answers
-pub one-word : (κs : _) (a : _) (z z′ : _) (e e′ : _) → word.Post κs a z e → word.Post κs a z′ e′ → z ≡ z′
-one-word κs a z z′ e e′ p q = p ∙ sym q
+pub one-refusal : (κs : _) (a : _) (z z′ : _) (e e′ : _) → refusal.Post κs a z e → refusal.Post κs a z′ e′ → z ≡ z′
+one-refusal κs a z z′ e e′ p q = p ∙ sym q
 
-pub one-word-at : (κs : _) (a : _) (z z′ : _) (e e′ : _) → word-at.Post κs a z e → word-at.Post κs a z′ e′ → z ≡ z′
-one-word-at κs a z z′ e e′ p q = p ∙ sym q
+pub one-hop-start : (κs : _) (a : _) (z z′ : _) (e e′ : _) → hop-start.Post κs a z e → hop-start.Post κs a z′ e′ → z ≡ z′
+one-hop-start κs a z z′ e e′ p q = p ∙ sym q
 
-pub one-half-at : (κs : _) (a : _) (z z′ : _) (e e′ : _) → half-at.Post κs a z e → half-at.Post κs a z′ e′ → z ≡ z′
-one-half-at κs a z z′ e e′ p q = p ∙ sym q
+pub one-from-at : (κs : _) (a : _) (z z′ : _) (e e′ : _) → from-at.Post κs a z e → from-at.Post κs a z′ e′ → z ≡ z′
+one-from-at κs a z z′ e e′ p q = p ∙ sym q
 
-pub one-seconds-of : (κs : _) (a : _) (z z′ : _) (e e′ : _) → seconds-of.Post κs a z e → seconds-of.Post κs a z′ e′ → z ≡ z′
-one-seconds-of κs a z z′ e e′ p q = p ∙ sym q
-
-pub one-not-after : (κs : _) (a : _) (z z′ : _) (e e′ : _) → not-after.Post κs a z e → not-after.Post κs a z′ e′ → z ≡ z′
-one-not-after κs a z z′ e e′ p q = p ∙ sym q
-
-pub one-sooner : (κs : _) (a : _) (z z′ : _) (e e′ : _) → sooner.Post κs a z e → sooner.Post κs a z′ e′ → z ≡ z′
-one-sooner κs a z z′ e e′ p q = p ∙ sym q
+pub one-to-at : (κs : _) (a : _) (z z′ : _) (e e′ : _) → to-at.Post κs a z e → to-at.Post κs a z′ e′ → z ≡ z′
+one-to-at κs a z z′ e e′ p q = p ∙ sym q
 
 pub one-vertex-at : (κs : _) (a : _) (z z′ : _) (e e′ : _) → vertex-at.Post κs a z e → vertex-at.Post κs a z′ e′ → z ≡ z′
 one-vertex-at κs a z z′ e e′ p q = p ∙ sym q
@@ -63,18 +48,6 @@ one-first-arriving κs a z z′ e e′ p q = p ∙ sym q
 pub one-end-arriving : (κs : _) (a : _) (z z′ : _) (e e′ : _) → end-arriving.Post κs a z e → end-arriving.Post κs a z′ e′ → z ≡ z′
 one-end-arriving κs a z z′ e e′ p q = p ∙ sym q
 
-pub one-since : (κs : _) (a : _) (z z′ : _) (e e′ : _) → since.Post κs a z e → since.Post κs a z′ e′ → z ≡ z′
-one-since κs a z z′ e e′ p q = ap (λ (x : ℤ). record { 0 = x }) (p ∙ sym q)
-
-pub one-ticks-of : (κs : _) (a : _) (z z′ : _) (e e′ : _) → ticks-of.Post κs a z e → ticks-of.Post κs a z′ e′ → z ≡ z′
-one-ticks-of κs a z z′ e e′ p q = ap (λ (x : ℕ). record { 0 = x }) (p ∙ sym q)
-
-pub one-ticks-before : (κs : _) (a : _) (z z′ : _) (e e′ : _) → ticks-before.Post κs a z e → ticks-before.Post κs a z′ e′ → z ≡ z′
-one-ticks-before κs a z z′ e e′ p q = ap (λ (x : ℕ). record { 0 = x }) (p ∙ sym q)
-
-pub one-walked : (κs : _) (a : _) (z z′ : _) (e e′ : _) → walked.Post κs a z e → walked.Post κs a z′ e′ → z ≡ z′
-one-walked κs a z z′ e e′ p q = ap (λ (x : ℕ). record { 0 = x }) (p ∙ sym q)
-
 pub one-read-vertex : (κs : _) (a : _) (z z′ : _) (e e′ : _) → read-vertex.Post κs a z e → read-vertex.Post κs a z′ e′ → z ≡ z′
 one-read-vertex κs a z z′ e e′ p q = vertex-injective z z′ (p ∙ sym q)
 
@@ -89,9 +62,6 @@ pub one-arriving : (κs : _) (a : _) (z z′ : _) (e e′ : _) → arriving.Post
 one-arriving κs a z z′ e e′ p q = p ∙ sym q
 
 -- ---- buffers
-pub one-put-word : (κs : _) (a : _) (z z′ : _) (e e′ : _) → put-word.Post κs a z e → put-word.Post κs a z′ e′ → now (e .0) ≡ now (e′ .0)
-one-put-word κs a z z′ e e′ p q = p ∙ sym q
-
 pub one-put-settled : (κs : _) (a : _) (z z′ : _) (e e′ : _) → put-settled.Post κs a z e → put-settled.Post κs a z′ e′ → now (e .0) ≡ now (e′ .0)
 one-put-settled κs a z z′ e e′ p q = p ∙ sym q
 

@@ -1,50 +1,40 @@
 -- A record judged in the bytes of its table is judged as `journeys` does. Assumes nothing.
-use mathlib.Core.Path.{_≡_, ap}
-use mathlib.Core.Logic.{⊎-elim}
+use mathlib.Core.Path.{_≡_}
 use mathlib.Core.Bool.{true, false, _&&_}
-use mathlib.Core.List.{List}
+use mathlib.Core.List.{List, []}
 use Prim.Native.Nat.{ℕ, _/_, _<_}
-use lib.Dec.{eqb, ltb}
+use lib.Dec.{eqb}
 use lib.ListN.{length}
-use borrow.Author.Tests.{ltb-true}
-use Rattle.journeys.specs.Tables.{Walk, vertexAt, walkAt, hopAt, tablesOf, walk}
+use Rattle.journeys.specs.Tables.{vertexAt, walkAt, hopAt, tablesOf}
 use Rattle.journeys.specs.Records.{departing}
-use Rattle.journeys.specs.Refusals.{endsOk, pairOk, walkOk, hopOk, vertexOk}
-use Rattle.journeys.proofs.Tests.{split}
-use Rattle.journeys.proofs.Decoding.{vertex-at, walk-at, hop-at, vertex-count, walk-count}
+use Rattle.journeys.specs.Refusals.{endsOk, lengthOk, twinOk, timesOk, walkOk, hopOk, vertexOk}
+use Rattle.journeys.proofs.Decoding.{vertex-at, walk-at, hop-at, vertex-count}
 use Rattle.records.specs.Columns.{recordsIn, arrivingBelow}
 use Rattle.records.specs.declared.VertexRead.the-variants as vertices
 use Rattle.records.specs.declared.WalkRead.the-variants as walks
 use Rattle.records.specs.declared.HopRead.the-variants as hops
 use Rattle.records.specs.Meaning.{vertexOf, walkOf, hopOf}
-use Rattle.records.specs.Readings.{lengthOk, twinOk, timesOk, toldVertex, toldWalk, toldHop, vertexReading, walkReading, hopReading}
+use Rattle.records.specs.Readings.{toldVertex, toldWalk, toldHop, vertexReading, walkReading, hopReading}
 use Rattle.records.proofs.Columns.{walks-below, hops-below}
 
 module _ (v w h : List ℕ) where
-  -- a twin is looked up only where it is a record of the table
-  twin-same : (i : ℕ) (x : Walk) → ltb (x .twin) (recordsIn w) && pairOk i x (walk (tablesOf v w h) (x .twin)) ≡ ltb (x .twin) (recordsIn w) && pairOk i x (walkAt w (x .twin))
-  twin-same i x =
-      ⊎-elim (λ (t : ltb (x .twin) (recordsIn w) ≡ true). ap (λ (y : Walk). ltb (x .twin) (recordsIn w) && pairOk i x y) (walk-at v w h (x .twin) (ltb-true _ _ t)))
-      (λ (t : ltb (x .twin) (recordsIn w) ≡ false). rw t)
-      (split _)
+  pub walk-ok : (i : ℕ) → i < recordsIn 16 w
+      → walkOk (tablesOf v w h) i ≡ endsOk (length v / 12) (walkAt w i .from) (walkAt w i .to) && lengthOk (walkAt w i .len) && twinOk (tablesOf [] w []) i (walkAt w i)
+  unfolding walkOk tablesOf
+  walk-ok i l = rw (walk-at v w h i l, vertex-count v w h)
 
-  pub walk-ok : (i : ℕ) → i < recordsIn w
-      → walkOk (tablesOf v w h) i ≡ endsOk (length v / 12) (walkAt w i .from) (walkAt w i .to) && lengthOk (walkAt w i .len) && twinOk w i (walkAt w i)
-  unfolding walkOk lengthOk twinOk
-  walk-ok i l = rw (walk-at v w h i l, vertex-count v w h, walk-count v w h, twin-same i (walkAt w i))
-
-  pub hop-ok : (j : ℕ) → j < recordsIn h
+  pub hop-ok : (j : ℕ) → j < recordsIn 16 h
       → hopOk (tablesOf v w h) j ≡ endsOk (length v / 12) (hopAt h j .from) (hopAt h j .to) && timesOk (hopAt h j .departure) (hopAt h j .arrival)
-  unfolding hopOk timesOk
+  unfolding hopOk
   hop-ok j l = rw (hop-at v w h j l, vertex-count v w h)
 
   pub vertex-ok : (x : ℕ) → x < length v / 12
-      → vertexOk (tablesOf v w h) x ≡ eqb (vertexAt v x .firstWalk) (arrivingBelow w x) && eqb (vertexAt v x .firstHop) (arrivingBelow h x) && eqb (vertexAt v x .departing) (departing (tablesOf v w h) x) && eqb (vertexAt v x .zeros) 0
+      → vertexOk (tablesOf v w h) x ≡ eqb (vertexAt v x .firstWalk) (arrivingBelow 16 w x) && eqb (vertexAt v x .firstHop) (arrivingBelow 16 h x) && eqb (vertexAt v x .departing) (departing (tablesOf v w h) x) && eqb (vertexAt v x .zeros) 0
   unfolding vertexOk
   vertex-ok x l = rw (vertex-at v w h x l, walks-below v w h x, hops-below v w h x)
 
   -- the two answers of each reader
-  pub walk-good : (i : ℕ) → i < recordsIn w → walkOk (tablesOf v w h) i ≡ true → toldWalk (walks.Good (walkOf (walkAt w i))) ≡ walkReading (tablesOf v w h) i
+  pub walk-good : (i : ℕ) → i < recordsIn 16 w → walkOk (tablesOf v w h) i ≡ true → toldWalk (walks.Good (walkOf (walkAt w i))) ≡ walkReading (tablesOf v w h) i
   unfolding toldWalk walkReading
   walk-good i l e = rw (e, walk-at v w h i l)
 
@@ -52,7 +42,7 @@ module _ (v w h : List ℕ) where
   unfolding toldWalk walkReading
   walk-bad i e = rw e
 
-  pub hop-good : (j : ℕ) → j < recordsIn h → hopOk (tablesOf v w h) j ≡ true → toldHop (hops.Good (hopOf (hopAt h j))) ≡ hopReading (tablesOf v w h) j
+  pub hop-good : (j : ℕ) → j < recordsIn 16 h → hopOk (tablesOf v w h) j ≡ true → toldHop (hops.Good (hopOf (hopAt h j))) ≡ hopReading (tablesOf v w h) j
   unfolding toldHop hopReading
   hop-good j l e = rw (e, hop-at v w h j l)
 

@@ -1,8 +1,8 @@
-pub mod Signed
+pub mod Sizes
 pub mod Columns
 pub mod Judged
 pub mod Answered
 pub mod Runs
-pub mod Filling
+pub mod RecordBytes
 pub mod Told
 pub mod Determined

@@ -10,7 +10,7 @@ use Rattle.journeys.specs.Tables.{walkAt, hopAt}
 use Rattle.records.specs.Columns.{recordsIn}
 use Rattle.records.specs.Arriving.{run}
 
-module _ (t : List ℕ) (first end : ℕ) (inside : end ≤ recordsIn t) where
+module _ (t : List ℕ) (first end : ℕ) (inside : end ≤ recordsIn 16 t) where
   pub length-run : length (run t first end) ≡ 16 * (end - first)
   unfolding run
   length-run = simp (length-take, length-drop) (omega arith)

@@ -1,6 +1,6 @@
-pub mod Quantities
 pub mod Meaning
+pub mod Asked
 pub mod Columns
 pub mod Readings
 pub mod Arriving
-pub mod Written
+pub mod Fields

@@ -1,14 +1,11 @@
 -- What reading a record answers, in the numbers of document 01. Assumes nothing.
-use mathlib.Core.Bool.{Bool, cond, _&&_, _||_}
+use mathlib.Core.Bool.{cond}
 use mathlib.Core.List.{List, [], _∷_}
-use Prim.Native.Nat.{ℕ, _+_, _-_, _/_}
-use lib.Dec.{eqb, leb, ltb}
+use Prim.Native.Nat.{ℕ}
 use lib.IntN.{ℤ, pos, subℕ}
-use lib.ListN.{length}
-use Rattle.journeys.specs.Counting.{none}
 use Rattle.journeys.specs.Bytes.{midnight}
 use Rattle.journeys.specs.Tables as tables
-use Rattle.journeys.specs.Refusals.{Refusal, walkOk, hopOk, vertexOk, pairOk}
+use Rattle.journeys.specs.Refusals.{Refusal, walkOk, hopOk, vertexOk}
 use Rattle.records.specs.declared.VertexRead.{VertexRead}
 use Rattle.records.specs.declared.VertexRead.the-variants as vertex
 use Rattle.records.specs.declared.WalkRead.{WalkRead}
@@ -51,13 +48,3 @@ module _ (N : tables.Tables) where
       let h = tables.hop N j in
       cond (hopOk N j) (good (pos (h .from) ∷ pos (h .to) ∷ subℕ (h .departure) midnight ∷ subℕ (h .arrival) midnight ∷ []))
       (refused (record { number = 3; place = j }))
-
--- the tests of one field or two, as the readers make them
-unfoldable pub lengthOk : ℕ → Bool
-lengthOk len = leb 1 len && leb len 100000
-
-unfoldable pub twinOk : List ℕ → ℕ → tables.Walk → Bool
-twinOk b i w = eqb (w .twin) none || (ltb (w .twin) (length b / 16) && pairOk i w (tables.walkAt b (w .twin)))
-
-unfoldable pub timesOk : ℕ → ℕ → Bool
-timesOk departure arrival = leb (midnight - 86400) departure && ltb departure arrival && leb arrival (midnight + 172800)

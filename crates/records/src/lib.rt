@@ -1,33 +1,33 @@
-// The records of document 01 in their bytes: numbers and signed seconds, the three quantities, readers and writers.
+// The records of document 01 in their bytes: readers and writers; and the query and the answer as the calls hand them on.
 // Promises: what is read is what `journeys` decodes, a record is refused exactly as document 01 says, and what is written reads back.
-// Rests on: the definitions of `journeys` alone.
+// Rests on: the numbers of `words` and the definitions of `journeys`.
+use words::NONE;
+use words::Offset;
+use words::Seconds;
+use words::Ticks;
+use words::half_at;
+use words::not_after;
+use words::put_word;
+use words::seconds_of;
+use words::sooner;
+use words::word_at;
 ghost use mathlib.Core.Path.{_≡_};
 ghost use mathlib.Core.Bool.{true};
 ghost use mathlib.Core.List.{[], _++_};
 ghost use Prim.Native.Nat.{_+_, _-_, _*_, _/_, _<_, _≤_};
-ghost use lib.Dec.{eqb, leb, ltb};
-ghost use lib.IntN.{pos, natAbs, _-ℤ_};
+ghost use lib.Dec.{eqb};
 ghost use lib.ListN.{length, drop};
-ghost use lib.Signed.{_≤ℤ_};
-ghost use Rattle.journeys.specs.Bytes as bytes;
-ghost use Rattle.journeys.specs.Bytes.{be16, be32, clock, clocked};
+ghost use Rattle.journeys.specs.Bytes.{clocked};
 ghost use Rattle.journeys.specs.Tables.{vertexAt, walkAt, hopAt, tablesOf};
-ghost use Rattle.journeys.specs.Refusals.{endsOk, pairOk};
+ghost use Rattle.journeys.specs.Refusals.{endsOk, lengthOk, pairOk, twinOk, timesOk};
 ghost use Rattle.journeys.specs.Records.{departing};
 ghost use Rattle.journeys.specs.Answers.{settledBytes, partBytes};
-ghost use Rattle.records.specs.Meaning.{secondsOf, vertexOf, walkOf, walkIn, hopOf};
-ghost use Rattle.records.specs.Readings.{toldVertex, toldWalk, toldHop, vertexReading, walkReading, hopReading, lengthOk, timesOk, twinOk};
-ghost use Rattle.records.specs.Columns.{recordsIn, Ascending, arrivingBelow};
+ghost use Rattle.records.specs.Meaning.{vertexOf, walkOf, walkIn, hopOf, refusalOf};
+ghost use Rattle.records.specs.Readings.{toldVertex, toldWalk, toldHop, vertexReading, walkReading, hopReading};
+ghost use Rattle.records.specs.Columns.{recordsIn, fromAt, toAt, Ascending, arrivingBelow};
 ghost use Rattle.records.specs.Arriving.{tableOf, firstOf, endOf, run};
-ghost use Rattle.records.specs.Quantities.{DayTime, ticksBefore};
-ghost use Rattle.records.specs.Written.{settledOf, partOf, written};
-
-// Seconds from midnight of the service day, ticks, and decimetres on a walk record: three quantities, joined by the conversions below alone.
-pub struct Seconds(pub i32);
-
-pub struct Ticks(pub u32);
-
-pub struct Offset(pub u32);
+ghost use Rattle.records.specs.Fields.{settledOf, partOf};
+ghost use Rattle.words.specs.Written.{written};
 
 pub struct Vertex {
     pub first_walk: u32,
@@ -72,91 +72,42 @@ pub enum Kind {
     Hops,
 }
 
-pub const NONE: u32 = 0xFFFF_FFFF;
-
-// Four bytes, the first the most significant. They are passed by value, so that a read compiles to one load and a byte swap.
-pub fn word(a: u8, b: u8, c: u8, d: u8) -> u32
-    ensures { λ r. ⌜ r ≡ a * 16777216 + b * 65536 + c * 256 + d ⌝ }
-{
-    (a as u32) * 16777216 + (b as u32) * 65536 + (c as u32) * 256 + (d as u32)
+// A walk record, an offset on it, the arrival, the duration in seconds, the speed in decimetres a second.
+pub struct Query {
+    pub walk: u32,
+    pub offset: Offset,
+    pub arrival: Seconds,
+    pub duration: u32,
+    pub speed: u32,
 }
 
-pub fn word_at(s: &[u8], at: usize) -> u32
-    requires { ⌜ at + 4 ≤ length (now s) ⌝ }
-    ensures { λ r. ⌜ r ≡ be32 (now (s .entry)) at ⌝ }
-{
-    word(s[at], s[at + 1], s[at + 2], s[at + 3])
+// The six numbers of an answer.
+pub struct Answer {
+    pub refusal: u32,
+    pub place: u32,
+    pub settled: u32,
+    pub parts: u32,
+    pub held: u32,
+    pub finished: u32,
 }
 
-fn half(a: u8, b: u8) -> u32
-    ensures { λ r. ⌜ r ≡ a * 256 + b ⌝ }
-{
-    (a as u32) * 256 + (b as u32)
-}
+// The bytes of a walk record and of a hop record.
+pub const WALK_SIZE: usize = 16;
 
-pub fn half_at(s: &[u8], at: usize) -> u32
-    requires { ⌜ at + 2 ≤ length (now s) ⌝ }
-    ensures { λ r. ⌜ r ≡ be16 (now (s .entry)) at ⌝ }
-{
-    half(s[at], s[at + 1])
-}
+pub const HOP_SIZE: usize = 16;
 
-// The 32 bits of a signed number, which count from midnight.
-pub fn seconds_of(bits: u32) -> Seconds
-    ensures { λ r. ⌜ r ≡ secondsOf (clock bits) ⌝ }
+// An answer that refuses: nothing is listed.
+pub fn refusal(number: u32, place: u32) -> Answer
+    ensures { λ r. ⌜ r ≡ refusalOf number place ⌝ }
 {
-    if bits < 2147483648 {
-        Seconds(bits as i32)
-    } else {
-        Seconds(-1 - ((4294967295 - bits) as i32))
+    Answer {
+        refusal: number,
+        place: place,
+        settled: 0,
+        parts: 0,
+        held: 0,
+        finished: 0,
     }
-}
-
-pub fn not_after(a: Seconds, b: Seconds) -> bool
-    ensures { λ r. ⌜ r ≡ leb (clocked (a .0)) (clocked (b .0)) ⌝ }
-{
-    a.0 <= b.0
-}
-
-pub fn sooner(a: Seconds, b: Seconds) -> bool
-    ensures { λ r. ⌜ r ≡ ltb (clocked (a .0)) (clocked (b .0)) ⌝ }
-{
-    a.0 < b.0
-}
-
-// The seconds from one time to another, below zero where the other is sooner.
-pub fn since(later: Seconds, sooner: Seconds) -> Seconds
-    requires { ⌜ DayTime (clocked (later .0)) ⌝ }
-    requires { ⌜ DayTime (clocked (sooner .0)) ⌝ }
-    ensures { λ r. ⌜ r .0 ≡ later .0 -ℤ sooner .0 ⌝ }
-{
-    Seconds(later.0 - sooner.0)
-}
-
-// A span of seconds in ticks: walking one decimetre is one tick, and the speed is decimetres a second.
-pub fn ticks_of(span: Seconds, speed: u32) -> Ticks
-    requires { ⌜ (pos 0 ≤ℤ span .0) × (span .0 ≤ℤ pos 259200) ⌝ }
-    requires { ⌜ speed ≤ 100 ⌝ }
-    ensures { λ r. ⌜ r .0 ≡ natAbs (span .0) * speed ⌝ }
-{
-    Ticks((span.0 as u32) * speed)
-}
-
-// How many ticks before the arrival a second lies that is not after it.
-pub fn ticks_before(arrival: Seconds, second: Seconds, speed: u32) -> Ticks
-    requires { ⌜ DayTime (clocked (arrival .0)) ⌝ }
-    requires { ⌜ DayTime (clocked (second .0)) ⌝ }
-    requires { ⌜ (clocked (second .0) ≤ clocked (arrival .0)) × (speed ≤ 100) ⌝ }
-    ensures { λ r. ⌜ r .0 ≡ ticksBefore (clocked (arrival .0)) (clocked (second .0)) speed ⌝ }
-{
-    ticks_of(since(arrival, second), speed)
-}
-
-// The ticks that it takes to walk so far.
-pub fn walked(way: Offset) -> Ticks
-    ensures { λ r. ⌜ r .0 ≡ way .0 ⌝ }
-{
-    Ticks(way.0)
 }
 
 // The record at a number, as it stands.
@@ -190,13 +141,36 @@ pub fn hop_at(hops: &[u8], j: usize) -> Hop
     requires { ⌜ j < length (now hops) / 16 ⌝ }
     ensures { λ r. ⌜ r ≡ hopOf (hopAt (now (hops .entry)) j) ⌝ }
 {
-    let at = 16 * j;
+    let at = hop_start(HOP_SIZE, j);
     Hop {
         from: word_at(hops, at),
         to: word_at(hops, at + 4),
         departure: seconds_of(word_at(hops, at + 8)),
         arrival: seconds_of(word_at(hops, at + 12)),
     }
+}
+
+// Where the record i of records of a size starts.
+pub fn hop_start(size: usize, i: usize) -> usize
+    requires { ⌜ size * i ≤ 18446744073709551615 ⌝ }
+    ensures { λ r. ⌜ r ≡ size * i ⌝ }
+{
+    size * i
+}
+
+// "from" and "to" of the record i of records of a size.
+pub fn from_at(table: &[u8], size: usize, i: usize) -> u32
+    requires { ⌜ (4 ≤ size) × (i < recordsIn size (now table)) ⌝ }
+    ensures { λ r. ⌜ r ≡ fromAt size (now (table .entry)) i ⌝ }
+{
+    word_at(table, hop_start(size, i))
+}
+
+pub fn to_at(table: &[u8], size: usize, i: usize) -> u32
+    requires { ⌜ (8 ≤ size) × (i < recordsIn size (now table)) ⌝ }
+    ensures { λ r. ⌜ r ≡ toAt size (now (table .entry)) i ⌝ }
+{
+    word_at(table, hop_start(size, i) + 4)
 }
 
 // The tests of a record. They are joined by `&`, so that a test's value is the definition's own expression.
@@ -219,7 +193,7 @@ fn pair_ok(i: u32, w: Walk, t: Walk) -> bool
 }
 
 fn twin_ok(walks: &[u8], i: u32, w: Walk) -> bool
-    ensures { λ r. ⌜ r ≡ twinOk (now (walks .entry)) i (walkIn w) ⌝ }
+    ensures { λ r. ⌜ r ≡ twinOk (tablesOf [] (now (walks .entry)) []) i (walkIn w) ⌝ }
 {
     let twin = w.twin;
     if twin == NONE {
@@ -241,21 +215,22 @@ fn times_ok(departure: Seconds, arrival: Seconds) -> bool
 }
 
 // Whether `first` is the number of records with a "to" below v: the one before it has, and the one that it names has not.
-fn first_ok(table: &[u8], first: u32, v: u32) -> bool
-    requires { ⌜ Ascending (now table) ⌝ }
-    ensures { λ r. ⌜ r ≡ eqb first (arrivingBelow (now (table .entry)) v) ⌝ }
+fn first_ok(table: &[u8], size: usize, first: u32, v: u32) -> bool
+    requires { ⌜ 8 ≤ size ⌝ }
+    requires { ⌜ Ascending size (now table) ⌝ }
+    ensures { λ r. ⌜ r ≡ eqb first (arrivingBelow size (now (table .entry)) v) ⌝ }
 {
     let at = first as usize;
-    if table.len() / 16 < at {
+    if table.len() / size < at {
         return false;
     }
     if 0 < at {
-        if v <= word_at(table, 16 * (at - 1) + 4) {
+        if v <= to_at(table, size, at - 1) {
             return false;
         }
     }
-    if at < table.len() / 16 {
-        return v <= word_at(table, 16 * at + 4);
+    if at < table.len() / size {
+        return v <= to_at(table, size, at);
     }
     true
 }
@@ -263,14 +238,14 @@ fn first_ok(table: &[u8], first: u32, v: u32) -> bool
 // The record at a number, or the refusal of it. For a vertex both tables ascend by "to", and `departs` is the number of its departing records.
 pub fn read_vertex(vertices: &[u8], walks: &[u8], hops: &[u8], v: u32, departs: u32) -> VertexRead
     requires { ⌜ v < length (now vertices) / 12 ⌝ }
-    requires { ⌜ Ascending (now walks) ⌝ }
-    requires { ⌜ Ascending (now hops) ⌝ }
+    requires { ⌜ Ascending 16 (now walks) ⌝ }
+    requires { ⌜ Ascending 16 (now hops) ⌝ }
     requires { ⌜ departs ≡ departing (tablesOf (now vertices) (now walks) (now hops)) v ⌝ }
     ensures { λ r. ⌜ toldVertex r ≡ vertexReading (tablesOf (now (vertices .entry)) (now (walks .entry)) (now (hops .entry))) v ⌝ }
 {
     let x = vertex_at(vertices, v as usize);
-    if first_ok(walks, x.first_walk, v)
-        & first_ok(hops, x.first_hop, v)
+    if first_ok(walks, WALK_SIZE, x.first_walk, v)
+        & first_ok(hops, HOP_SIZE, x.first_hop, v)
         & (x.departing == departs)
         & (x.zeros == 0)
     {
@@ -329,7 +304,7 @@ pub fn end_arriving(vertices: &[u8], kind: Kind, v: usize, records: usize) -> us
 }
 
 fn part_of(table: &[u8], first: usize, end: usize) -> &[u8]
-    requires { ⌜ (first ≤ end) × (end ≤ recordsIn (now table)) ⌝ }
+    requires { ⌜ (first ≤ end) × (end ≤ recordsIn 16 (now table)) ⌝ }
     ensures { λ r. ⌜ now r ≡ run (now (table .entry)) first end ⌝ }
 {
     &table[16 * first..16 * end]
@@ -343,24 +318,13 @@ pub fn arriving<'a>(
     first: usize,
     end: usize,
 ) -> &'a [u8]
-    requires { ⌜ (first ≤ end) × (end ≤ recordsIn (tableOf kind (now walks) (now hops))) ⌝ }
+    requires { ⌜ (first ≤ end) × (end ≤ recordsIn 16 (tableOf kind (now walks) (now hops))) ⌝ }
     ensures { λ r. ⌜ now r ≡ run (tableOf kind (now (walks .entry)) (now (hops .entry))) first end ⌝ }
 {
     match kind {
         Kind::Walks => part_of(walks, first, end),
         Kind::Hops => part_of(hops, first, end),
     }
-}
-
-// A number's four bytes at a place of a buffer.
-pub fn put_word(out: &mut [u8], at: usize, x: u32)
-    requires { ⌜ at + 4 ≤ length (now out) ⌝ }
-    ensures { λ _. ⌜ now (out .exit) ≡ written (now (out .entry)) at (bytes.word x) ⌝ }
-{
-    out[at] = (x / 16777216) as u8;
-    out[at + 1] = (x / 65536 % 256) as u8;
-    out[at + 2] = (x / 256 % 256) as u8;
-    out[at + 3] = (x % 256) as u8;
 }
 
 // A record at the front of what is lent: the unfilled rest of a buffer.

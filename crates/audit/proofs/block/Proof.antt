@@ -20,12 +20,12 @@ judge-requires c κs =
     let own = counted .count-departing .ensures .0 in (
       s .pre .0,
       (
-        (omega (arith, own .within, counted .before .before .least .ensures), omega (arith, own .within, counted .before .before .least .ensures, counted .count-departing .kept)),
+        (omega (arith, own .within, counted .before .before .lesser .ensures), omega (arith, own .within, counted .before .before .lesser .ensures, counted .count-departing .kept)),
         (
           s .pre .1 .1 .0 .0,
           (
             s .pre .1 .1 .0 .1,
-            departs-exact (now (a .vertices)) (now (a .walks)) (now (a .hops)) (counted .count-departing .last .1 .1 .1 .1 .0) (counted .before .before .least .result) (counted .count-departing .result) (1904 * a .g) own,
+            departs-exact (now (a .vertices)) (now (a .walks)) (now (a .hops)) (counted .count-departing .last .1 .1 .1 .1 .0) (counted .before .before .lesser .result) (counted .count-departing .result) (1904 * a .g) own,
           ),
         ),
       ),
@@ -38,23 +38,23 @@ returns c =
     let s = counted .before .before .before .before .before .before .before in
     let a = s .args in
     let own = counted .count-departing .ensures .0 in
-    let e = counted .before .before .least .ensures in
+    let e = counted .before .before .lesser .ensures in
     let n : (vertexRefusals (tablesOf (now (a .vertices)) (now (a .walks)) (now (a .hops))) (counted .count-departing .result) (1904 * a .g) .number ≡ 0 → ⊥) = λ z. c .if1 .taken (same-number (found .judge .ensures) ∙ z) in (
-      found .judge .ensures ∙ block-found (tablesOf (now (a .vertices)) (now (a .walks)) (now (a .hops))) (counted .count-departing .result) (counted .before .before .least .result) (1904 * a .g) (own .within) n ∙ ap (λ (k : ℕ). vertexRefusals (tablesOf (now (a .vertices)) (now (a .walks)) (now (a .hops))) k (1904 * a .g)) e,
+      found .judge .ensures ∙ block-found (tablesOf (now (a .vertices)) (now (a .walks)) (now (a .hops))) (counted .count-departing .result) (counted .before .before .lesser .result) (1904 * a .g) (own .within) n ∙ ap (λ (k : ℕ). vertexRefusals (tablesOf (now (a .vertices)) (now (a .walks)) (now (a .hops))) k (1904 * a .g)) e,
       counted .count-departing .ensures .1,
     )
 
 returns-2 : tie.Need-returns-2
 returns-2 c =
-    let found = c .before .before .before in
+    let found = c .before .before .before .before in
     let counted = found .before .before .before .before in
     let s = counted .before .before .before .before .before .before .before in
     let a = s .args in
     let own = counted .count-departing .ensures .0 in
-    let e = counted .before .before .least .ensures in
-    let z : vertexRefusals (tablesOf (now (a .vertices)) (now (a .walks)) (now (a .hops))) (counted .count-departing .result) (1904 * a .g) .number ≡ 0 = sym (same-number (found .judge .ensures)) ∙ c .before .if1 .left in
-    let bad = departs-over (now (a .vertices)) (now (a .walks)) (now (a .hops)) _ (counted .before .before .least .result) (counted .count-departing .result) (1904 * a .g) own (c .if2 .taken) (omega (arith, e)) (λ i. omega (arith, counted .before .before .before .before .before .before .shared-slice-known .given i)) in (
-      block-passed (tablesOf (now (a .vertices)) (now (a .walks)) (now (a .hops))) (counted .count-departing .result) (counted .before .before .least .result) (1904 * a .g) (own .within) z (c .if2 .taken) bad ∙ ap (λ (k : ℕ). vertexRefusals (tablesOf (now (a .vertices)) (now (a .walks)) (now (a .hops))) k (1904 * a .g)) e,
+    let e = counted .before .before .lesser .ensures in
+    let z : vertexRefusals (tablesOf (now (a .vertices)) (now (a .walks)) (now (a .hops))) (counted .count-departing .result) (1904 * a .g) .number ≡ 0 = sym (same-number (found .judge .ensures)) ∙ c .before .before .if1 .left in
+    let bad = departs-over (now (a .vertices)) (now (a .walks)) (now (a .hops)) _ (counted .before .before .lesser .result) (counted .count-departing .result) (1904 * a .g) own (c .before .if2 .taken) (omega (arith, e)) (λ i. omega (arith, counted .before .before .before .before .before .before .shared-slice-known .given i)) in (
+      c .refused .ensures ∙ block-passed (tablesOf (now (a .vertices)) (now (a .walks)) (now (a .hops))) (counted .count-departing .result) (counted .before .before .lesser .result) (1904 * a .g) (own .within) z (c .before .if2 .taken) bad ∙ ap (λ (k : ℕ). vertexRefusals (tablesOf (now (a .vertices)) (now (a .walks)) (now (a .hops))) k (1904 * a .g)) e,
       counted .count-departing .ensures .1,
     )
 
@@ -65,7 +65,7 @@ returns-3 c =
     let s = counted .before .before .before .before .before .before .before in
     let a = s .args in
     let own = counted .count-departing .ensures .0 in
-    let e : counted .count-departing .result ≡ min 1904 (length (now (a .vertices)) / 12 - 1904 * a .g) = omega (arith, counted .before .before .least .ensures, own .within, c .if2 .left) in
+    let e : counted .count-departing .result ≡ min 1904 (length (now (a .vertices)) / 12 - 1904 * a .g) = omega (arith, counted .before .before .lesser .ensures, own .within, c .if2 .left) in
     (found .judge .ensures ∙ ap (λ (k : ℕ). vertexRefusals (tablesOf (now (a .vertices)) (now (a .walks)) (now (a .hops))) k (1904 * a .g)) e, counted .count-departing .ensures .1)
 
 pub block-spec : {M : Type 1} → statement M
@@ -81,6 +81,7 @@ block-spec =
     returns
     (λ c. search needs)
     (λ c. search needs)
+    (λ c κs. search needs)
     (λ c. search needs)
     returns-2
     (λ c. search needs)

@@ -9,9 +9,9 @@ use Rattle.journeys.specs.Tables.{tablesOf}
 use Rattle.journeys.specs.Refusals.{vertexOk}
 use Rattle.records.specs.Columns.{recordsIn}
 use Rattle.audit.specs.Judging.{vertexRefusals}
-use Rattle.audit.specs.Scratch.{Noted}
+use Rattle.departing.specs.Scratch.{Noted}
 use Rattle.audit.proofs.Scan.{same-number, scan-end}
-use Rattle.audit.proofs.Ranges.{noted-kept}
+use Rattle.departing.proofs.Ranges.{noted-kept}
 use Rattle.audit.proofs.Vertices.{block-refuses, block-good}
 use borrow.Author.Needs.{needs}
 use native.Mathlib.Omega.{arith}
@@ -23,8 +23,8 @@ Inv-loop vertices walks hops scratch₀ n g₀ scratch g =
     (n ≡ length vertices / 12)
     × (g ≤ 35)
     × (length scratch ≡ 2048)
-    × Noted walks 1904 (recordsIn walks) scratch
-    × Noted hops 1974 (recordsIn hops) scratch
+    × Noted 16 walks 1904 (recordsIn 16 walks) scratch
+    × Noted 16 hops 1974 (recordsIn 16 hops) scratch
     × (vertexRefusals (tablesOf vertices walks hops) (length vertices / 12 - 1904 * g) (1904 * g) ≡ vertexRefusals (tablesOf vertices walks hops) (length vertices / 12) 0)
 
 abbrev μ-loop : tie.MeasureT-loop
@@ -76,19 +76,19 @@ loop-again c =
       loop .inv .0,
       omega (arith, s .pre .0 .vertices-most),
       omega (arith, call .block .kept),
-      noted-kept w 1904 (recordsIn w) 0 1904 (loop .scratch) last (λ i l. inr (omega arith)) (call .block .ensures .1) (loop .inv .3),
-      noted-kept h 1974 (recordsIn h) 0 1904 (loop .scratch) last (λ i l. inr (omega arith)) (call .block .ensures .1) (loop .inv .4),
+      noted-kept 16 w 1904 (recordsIn 16 w) 0 1904 (loop .scratch) last (λ i l. inr (omega arith)) (call .block .ensures .1) (loop .inv .3),
+      noted-kept 16 h 1974 (recordsIn 16 h) 0 1904 (loop .scratch) last (λ i l. inr (omega arith)) (call .block .ensures .1) (loop .inv .4),
       block-good (tablesOf (now (a .vertices)) (now (a .walks)) (now (a .hops))) n (loop .g) z ∙ loop .inv .5,
     )
 
 returns-2 : tie.Need-returns-2 Inv-loop μ-loop
 unfolding vertexRefusals
 returns-2 c =
-    let loop = c .before .loop in
-    let s = c .before .before .before .before .before .before in
+    let loop = c .before .before .loop in
+    let s = c .before .before .before .before .before .before .before in
     let a = s .args in
     let n = length (now (a .vertices)) / 12 in
-    sym (scan-end 6 (vertexOk (tablesOf (now (a .vertices)) (now (a .walks)) (now (a .hops)))) (n - 1904 * loop .g) (1904 * loop .g) (omega arith)) ∙ loop .inv .5
+    c .fine .ensures ∙ sym (scan-end 6 (vertexOk (tablesOf (now (a .vertices)) (now (a .walks)) (now (a .hops)))) (n - 1904 * loop .g) (1904 * loop .g) (omega arith)) ∙ loop .inv .5
 
 pub blocks-spec : {M : Type 1} → statement M
 blocks-spec =
@@ -104,5 +104,6 @@ blocks-spec =
     add-g
     loop-less
     loop-again
+    (λ c κs. search needs)
     (λ c. search needs)
     returns-2)

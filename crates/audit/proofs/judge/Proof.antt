@@ -50,11 +50,11 @@ read-vertex-requires c κs =
 returns : tie.Need-returns Inv-loop μ-loop
 unfolding vertexRefusals
 returns c =
-    let loop = c .before .before .before .before .before .loop in
-    let s = c .before .before .before .before .before .before .before .before .before .before in
+    let loop = c .before .before .before .before .before .before .loop in
+    let s = c .before .before .before .before .before .before .before .before .before .before .before in
     let a = s .args in
-    let bad = bad-vertex (tablesOf (now (a .vertices)) (now (a .walks)) (now (a .hops))) (a .base + loop .k) (c .before .before .read-vertex .ensures) (c .enum-told2 .given .1) in
-    sym (scan-stop 6 (vertexOk (tablesOf (now (a .vertices)) (now (a .walks)) (now (a .hops)))) (a .low - loop .k) (a .low - (loop .k + 1)) (a .base + loop .k) (omega arith) (omega arith) bad) ∙ loop .inv .1
+    let bad = bad-vertex (tablesOf (now (a .vertices)) (now (a .walks)) (now (a .hops))) (a .base + loop .k) (c .before .before .before .read-vertex .ensures) (c .before .enum-told2 .given .1) in
+    c .refused .ensures ∙ sym (scan-stop 6 (vertexOk (tablesOf (now (a .vertices)) (now (a .walks)) (now (a .hops)))) (a .low - loop .k) (a .low - (loop .k + 1)) (a .base + loop .k) (omega arith) (omega arith) bad) ∙ loop .inv .1
 
 add-k : tie.Need-add-k Inv-loop μ-loop
 add-k c = omega arith
@@ -79,10 +79,10 @@ loop-again c =
 returns-2 : tie.Need-returns-2 Inv-loop μ-loop
 unfolding vertexRefusals
 returns-2 c =
-    let loop = c .before .loop in
-    let s = c .before .before .before .before .before .before in
+    let loop = c .before .before .loop in
+    let s = c .before .before .before .before .before .before .before in
     let a = s .args in
-    sym (scan-end 6 (vertexOk (tablesOf (now (a .vertices)) (now (a .walks)) (now (a .hops)))) (a .low - loop .k) (a .base + loop .k) (omega arith)) ∙ loop .inv .1
+    c .fine .ensures ∙ sym (scan-end 6 (vertexOk (tablesOf (now (a .vertices)) (now (a .walks)) (now (a .hops)))) (a .low - loop .k) (a .base + loop .k) (omega arith)) ∙ loop .inv .1
 
 pub judge-spec : {M : Type 1} → statement M
 judge-spec =
@@ -99,8 +99,10 @@ judge-spec =
     read-vertex-requires
     (λ c. search needs)
     (λ c. search needs)
+    (λ c κs. search needs)
     returns
     add-k
     loop-less
     loop-again
+    (λ c κs. search needs)
     returns-2)

@@ -5,8 +5,8 @@ use denote.Ref.{now}
 use Prim.Native.Nat.{_*_}
 use Rattle.journeys.specs.Bytes.{word}
 use Rattle.journeys.specs.Answers.{partBytes}
-use Rattle.records.specs.Written.{partOf}
-use Rattle.records.proofs.Filling.{rest-written}
+use Rattle.records.specs.Fields.{partOf}
+use Rattle.words.proofs.Written.{rest-written}
 use borrow.Author.Needs.{needs}
 use Rattle.records.proofs.add_part.Statement.{statement}
 use Rattle.records.proofs.add_part.Tie as tie

@@ -5,8 +5,8 @@ use denote.Ref.{now}
 use Prim.Native.Nat.{_*_}
 use Rattle.journeys.specs.Bytes.{word}
 use Rattle.journeys.specs.Answers.{settledBytes}
-use Rattle.records.specs.Written.{settledOf}
-use Rattle.records.proofs.Filling.{rest-written}
+use Rattle.records.specs.Fields.{settledOf}
+use Rattle.words.proofs.Written.{rest-written}
 use borrow.Author.Needs.{needs}
 use Rattle.records.proofs.add_settled.Statement.{statement}
 use Rattle.records.proofs.add_settled.Tie as tie

@@ -8,13 +8,13 @@ returns : tie.Need-returns
 unfolding hopAt
 returns c =
     let at2 = c .before .before .before .before in
-    rw (at2 .before .word-at .ensures, at2 .word-at2 .ensures, c .before .before .seconds-of .ensures, c .seconds-of2 .ensures, c .before .before .before .word-at3 .ensures, c .before .word-at4 .ensures)
+    rw (at2 .before .word-at .ensures, at2 .word-at2 .ensures, c .before .before .seconds-of .ensures, c .seconds-of2 .ensures, c .before .before .before .word-at3 .ensures, c .before .word-at4 .ensures, at2 .before .before .hop-start .ensures)
 
 pub hop-at-spec : {M : Type 1} → statement M
 hop-at-spec =
     tie.close
     (tie.spec
-    (λ c. search needs)
+    (λ c κs. search needs)
     (λ c κs. search needs)
     (λ c. search needs)
     (λ c κs. search needs)

@@ -3,8 +3,8 @@ use mathlib.Core.Path.{_∙_}
 use denote.Ref.{now}
 use Rattle.journeys.specs.Bytes.{word}
 use Rattle.journeys.specs.Answers.{partBytes}
-use Rattle.records.specs.Written.{partOf}
-use Rattle.records.proofs.Filling.{front, three-words}
+use Rattle.records.specs.Fields.{partOf}
+use Rattle.words.proofs.Written.{front, three-words}
 use borrow.Author.Needs.{needs}
 use Rattle.records.proofs.put_part.Statement.{statement}
 use Rattle.records.proofs.put_part.Tie as tie

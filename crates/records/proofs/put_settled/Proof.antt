@@ -3,8 +3,8 @@ use mathlib.Core.Path.{_∙_}
 use denote.Ref.{now}
 use Rattle.journeys.specs.Bytes.{word}
 use Rattle.journeys.specs.Answers.{settledBytes}
-use Rattle.records.specs.Written.{settledOf}
-use Rattle.records.proofs.Filling.{front, two-words}
+use Rattle.records.specs.Fields.{settledOf}
+use Rattle.words.proofs.Written.{front, two-words}
 use borrow.Author.Needs.{needs}
 use Rattle.records.proofs.put_settled.Statement.{statement}
 use Rattle.records.proofs.put_settled.Tie as tie

@@ -5,7 +5,7 @@ use mathlib.Core.List.{[]}
 use denote.Ref.{now}
 use Rattle.journeys.specs.Tables.{tablesOf}
 use Rattle.journeys.specs.Refusals.{hopOk}
-use Rattle.records.proofs.Signed.{clocked-signed}
+use Rattle.words.proofs.Signed.{clocked-signed}
 use Rattle.records.proofs.Judged.{hop-ok, hop-good, hop-bad}
 use borrow.Author.Needs.{needs}
 use Rattle.records.proofs.read_hop.Statement.{statement}

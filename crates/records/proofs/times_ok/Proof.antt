@@ -1,11 +1,9 @@
 -- `records::times_ok` meets its contract: its three comparisons are the definition's. Assumes nothing.
-use Rattle.records.specs.Readings.{timesOk}
 use borrow.Author.Needs.{needs}
 use Rattle.records.proofs.times_ok.Statement.{statement}
 use Rattle.records.proofs.times_ok.Tie as tie
 
 returns : tie.Need-returns
-unfolding timesOk
 returns c = rw (c .before .before .not-after .ensures, c .before .sooner .ensures, c .not-after2 .ensures)
 
 pub times-ok-spec : {M : Type 1} → statement M

@@ -1,0 +1,4 @@
+pub mod Signed
+pub mod Written
+pub mod Told
+pub mod Determined

@@ -1,0 +1,22 @@
+use Rattle.journeys.specs.Bytes.{be32}
+use borrow.Author.Needs.{needs}
+use Rattle.words.proofs.word_at.Statement.{statement}
+use Rattle.words.proofs.word_at.Tie as tie
+
+returns : tie.Need-returns
+unfolding be32
+returns c = search needs
+
+pub word-at-spec : {M : Type 1} → statement M
+word-at-spec =
+    tie.close
+    (tie.spec
+    (λ c. search needs)
+    (λ c. search needs)
+    (λ c. search needs)
+    (λ c. search needs)
+    (λ c. search needs)
+    (λ c. search needs)
+    (λ c. search needs)
+    (λ c κs. search needs)
+    returns)
