@@ -1,23 +1,22 @@
--- Any two results that a contract allows are equal: the answers, the map afterwards, and in `finish` and `clear` every byte.
+-- Any two results that a contract allows are equal: the answers, the map afterwards, and in `finish` every byte.
 use mathlib.Core.Path.{_≡_, refl, sym, ap, _∙_}
 use mathlib.Core.List.{List}
 use denote.Ref.{now}
 use Prim.Native.Nat.{ℕ}
-use Rattle.worktable.specs.Map.{Map, empty}
-use Rattle.worktable.specs.Table.{mapOf, InOrder, Holds, Place, Gives, FoundIs, NearestIs}
+use Rattle.worktable.specs.Map.{Entry, Map, empty}
+use Rattle.worktable.specs.Table.{mapOf, InOrder, Holds, Place, Gives, FoundIs, PassedIs, NearestIs}
 use Rattle.worktable.specs.declared.Table.{Table}
 use Rattle.worktable.specs.declared.Found.{Found}
 use Rattle.worktable.specs.declared.Nearest.{Nearest}
-use Rattle.worktable.proofs.MapLaws.{absent-known, foremost-one}
+use Rattle.worktable.specs.declared.Passed.{Passed}
+use Rattle.journeys.proofs.Tests.{never}
+use Rattle.worktable.proofs.MapLaws.{absent-known, spent-held, foremost-one}
 use Rattle.worktable.proofs.TableLaws.{place-one, place-entry}
 use Rattle.worktable.proofs.capacity.Reads as capacity
-use Rattle.worktable.proofs.clear.Reads as clear
 use Rattle.worktable.proofs.free.Reads as free
-use Rattle.worktable.proofs.held.Reads as held
-use Rattle.worktable.proofs.distance.Reads as distance
-use Rattle.worktable.proofs.state.Reads as state
-use Rattle.worktable.proofs.remaining.Reads as remaining
 use Rattle.worktable.proofs.find.Reads as find
+use Rattle.worktable.proofs.look.Reads as look
+use Rattle.worktable.proofs.settle_at.Reads as settle-at
 use Rattle.worktable.proofs.least.Reads as least
 use Rattle.worktable.proofs.finish.Reads as finish
 
@@ -26,18 +25,6 @@ capacity-one κs a z z′ e e′ p q = p ∙ sym q
 
 pub free-one : (κs : _) (a : _) (z z′ : _) (e e′ : _) → free.Post κs a z e → free.Post κs a z′ e′ → z ≡ z′
 free-one κs a z z′ e e′ p q = p ∙ sym q
-
-pub held-one : (κs : _) (a : _) (z z′ : _) (e e′ : _) → held.Post κs a z e → held.Post κs a z′ e′ → z ≡ z′
-held-one κs a z z′ e e′ p q = p ∙ sym q
-
-pub distance-one : (κs : _) (a : _) (z z′ : _) (e e′ : _) → distance.Post κs a z e → distance.Post κs a z′ e′ → z ≡ z′
-distance-one κs a z z′ e e′ p q = p ∙ sym q
-
-pub state-one : (κs : _) (a : _) (z z′ : _) (e e′ : _) → state.Post κs a z e → state.Post κs a z′ e′ → z ≡ z′
-state-one κs a z z′ e e′ p q = p ∙ sym q
-
-pub remaining-one : (κs : _) (a : _) (z z′ : _) (e e′ : _) → remaining.Post κs a z e → remaining.Post κs a z′ e′ → z ≡ z′
-remaining-one κs a z z′ e e′ p q = p ∙ sym q
 
 found-same : (t : Table) (b : List ℕ) (u : ℕ) (f g : Found) → InOrder t b → FoundIs t b u f → FoundIs t b u g → f ≡ g
 unfolding FoundIs
@@ -48,6 +35,25 @@ found-same t b u Found.Absent Found.Absent o p q = refl
 
 pub find-one : (κs : _) (a : _) (z z′ : _) (e e′ : _) → find.Pre κs a → find.Post κs a z e → find.Post κs a z′ e′ → z ≡ z′
 find-one κs a z z′ e e′ o p q = found-same _ _ _ z z′ o p q
+
+-- what `pass` and `look` answer: whether the entry is absent, kept or spent, and the slot of a spent one
+pub passed-same : (t : Table) (b : List ℕ) (u : ℕ) (x : Entry) (f g : Passed) → InOrder t b → PassedIs t b u x f → PassedIs t b u x g → f ≡ g
+unfolding PassedIs
+passed-same t b u x Passed.Absent Passed.Absent o p q = refl
+passed-same t b u x Passed.Absent Passed.Kept o p q = absurd (q .0 p)
+passed-same t b u x Passed.Absent (Passed.Spent s) o p q = absurd (spent-held (q .1) p)
+passed-same t b u x Passed.Kept Passed.Absent o p q = absurd (p .0 q)
+passed-same t b u x Passed.Kept Passed.Kept o p q = refl
+passed-same t b u x Passed.Kept (Passed.Spent s) o p q = never (q .1) (p .1)
+passed-same t b u x (Passed.Spent s) Passed.Absent o p q = absurd (spent-held (p .1) q)
+passed-same t b u x (Passed.Spent s) Passed.Kept o p q = never (p .1) (q .1)
+passed-same t b u x (Passed.Spent s) (Passed.Spent r) o p q = ap Passed.Spent (place-one o (p .0) (q .0))
+
+pub look-one : (κs : _) (a : _) (z z′ : _) (e e′ : _) → look.Pre κs a → look.Post κs a z e → look.Post κs a z′ e′ → z ≡ z′
+look-one κs a z z′ e e′ o p q = passed-same _ _ _ _ z z′ o p q
+
+pub settle-at-one : (κs : _) (a : _) (z z′ : _) (e e′ : _) → settle-at.Post κs a z e → settle-at.Post κs a z′ e′ → z ≡ z′
+settle-at-one κs a z z′ e e′ p q = p .1 ∙ sym (q .1)
 
 nearest-same : (t : Table) (b : List ℕ) (f g : Nearest) → InOrder t b → NearestIs t b f → NearestIs t b g → f ≡ g
 unfolding NearestIs
@@ -66,7 +72,7 @@ least-one κs a z z′ e e′ o p q = nearest-same _ _ z z′ o p q
 pub start-one : {t r : Table} {b c : List ℕ} {n : ℕ} → Holds t b empty × (t .capacity ≡ n) → Holds r c empty × (r .capacity ≡ n) → (mapOf t b ≡ mapOf r c) × (t .capacity ≡ r .capacity)
 start-one p q = (p .0 .map ∙ sym (q .0 .map), p .1 ∙ sym (q .1))
 
--- `insert`, `lower`, `take_off`, `settle` and `drop`: the same
+-- `insert`, `lower`, `take_off`, `pass`, `settle`, `settle_at` and `drop`: the same
 pub gives-one : {t r r′ : Table} {b c c′ : List ℕ} {m : Map} → Gives t r b c m → Gives t r′ b c′ m → (mapOf r c ≡ mapOf r′ c′) × (r .capacity ≡ r′ .capacity)
 gives-one p q = (p .holds .map ∙ sym (q .holds .map), p .capacity ∙ sym (q .capacity))
 
@@ -75,6 +81,3 @@ finish-one κs a z z′ e e′ p q = p .0 ∙ sym (q .0)
 
 pub finish-bytes-one : (κs : _) (a : _) (z z′ : _) (e e′ : _) → finish.Post κs a z e → finish.Post κs a z′ e′ → now (e .0) ≡ now (e′ .0)
 finish-bytes-one κs a z z′ e e′ p q = p .1 ∙ sym (q .1)
-
-pub clear-bytes-one : (κs : _) (a : _) (z z′ : _) (e e′ : _) → clear.Post κs a z e → clear.Post κs a z′ e′ → now (e .0) ≡ now (e′ .0)
-clear-bytes-one κs a z z′ e e′ p q = p ∙ sym q

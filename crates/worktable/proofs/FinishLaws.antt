@@ -8,16 +8,16 @@ use native.Mathlib.Decide.{decLt, ℕ-discrete}
 use lib.ListN.{length, take, drop, replicate, length-append}
 use lib.Seq.{drop-at, drop-drop, drop-length, length-take-le}
 use borrow.Rule.Slice.PartMut.{midOf, putMid, mid-len}
-use Rattle.columns.specs.Columns.{cols, at}
-use Rattle.slots.specs.Words.{vacant, vertexIn}
+use Rattle.table_bytes.specs.Columns.{cols, at}
+use Rattle.table_tree.specs.Words.{vacant, vertexIn}
 use mathlib.Core.List.{flatMap}
 use Rattle.journeys.specs.Bytes.{filled}
 use Rattle.journeys.specs.Network.{Held}
 use Rattle.journeys.specs.Answers.{heldBytes}
-use Rattle.listing.specs.Fields.{distanceIn, stateIn, remainingIn, heldIn}
-use Rattle.listing.specs.Sort.{Packed, swapped, Swaps, done, swap, Sorts, recordBytes}
-use Rattle.listing.proofs.SortLaws.{swaps-length, swap-i, swap-j, swap-out}
-use Rattle.listing.proofs.SpreadLaws.{held-length, front-word}
+use Rattle.table_records.specs.Fields.{distanceIn, stateIn, remainingIn, heldIn}
+use Rattle.table_records.specs.Sort.{Packed, swapped, Swaps, done, swap, Sorts, recordBytes}
+use Rattle.table_records.proofs.SortLaws.{swaps-length, swap-i, swap-j, swap-out}
+use Rattle.table_records.proofs.SpreadLaws.{held-length, front-word}
 use Rattle.worktable.specs.Map.{Entry, Map, row, rowsTo, rows, size}
 use Rattle.worktable.specs.Inside.{entryIn, lookup, Single}
 use Rattle.worktable.specs.Table.{mapOf, InOrder}
@@ -242,7 +242,7 @@ finish-filled {t} {b} o {k} c y v len fit ey =
     post = drop (length c - 16 * k) (drop (16 * k) c)
 
     low : 16 * k ≤ length c
-    low = omega (arith, o .room .len)
+    low = omega (arith, o .slotted .len)
 
     words : (i : ℕ) → i < k → at (cols (t .slots) (putMid (16 * k) (length c - 16 * k) c y) .w) i ≡ at (cols (t .slots) c .w) i
     words i l = front-word (t .slots) c (y ++ post) (16 * k) i low (omega arith) (omega arith)

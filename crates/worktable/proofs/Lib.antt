@@ -1,8 +1,9 @@
 pub mod MapLaws
 pub mod WordLaws
 pub mod LookupLaws
-pub mod PartsLaws
+pub mod LayoutLaws
 pub mod TableLaws
+pub mod PassLaws
 pub mod NearestLaws
 pub mod FinishLaws
 pub mod Determined

@@ -7,9 +7,9 @@ use native.Mathlib.Omega.{arith}
 use native.Mathlib.Decide.{ℕ-discrete}
 use lib.ListN.{length, set}
 use lib.Seq.{getD-set-same, getD-set-other}
-use Rattle.columns.specs.Columns.{at}
-use Rattle.slots.specs.Words.{vacant, vertexIn}
-use Rattle.slots.specs.Chains.{At, Missing}
+use Rattle.table_bytes.specs.Columns.{at}
+use Rattle.table_tree.specs.Words.{vacant, vertexIn}
+use Rattle.table_tree.specs.Chains.{At, Missing}
 use Rattle.worktable.specs.Map.{put}
 use Rattle.worktable.specs.Inside.{select, lookup, Single, entryIn}
 use Rattle.worktable.proofs.MapLaws.{put-same, put-other}

@@ -1,12 +1,15 @@
--- The model map: a changed vertex, how many there are, the ascending records, and the foremost one.
+-- The model map: a changed vertex, a passed record and a spent entry, how many there are, the ascending records, and the foremost one.
 use mathlib.Core.Path.{_≡_, refl, sym, ap, ap₂, fun-ext, _∙_}
+use mathlib.Core.Bool.{true, false}
 use mathlib.Core.Logic.{_≢_, _⊎_, inl, inr}
 use mathlib.Core.List.{_++_, append-nil}
-use Prim.Native.Nat.{ℕ, zero, suc, _+_, _<_, _≤_}
+use Prim.Native.Nat.{ℕ, zero, suc, _-_, _+_, _<_, _≤_, min}
 use native.Mathlib.Omega.{arith}
 use native.Mathlib.Decide.{ℕ-discrete}
+use borrow.Author.Tests.{eq-eqb, ne-eqb}
+use Rattle.journeys.proofs.Tests.{cond-true, cond-false, never}
 use lib.ListN.{length, length-append}
-use Rattle.worktable.specs.Map.{Entry, absent, known, Map, choose, put, one, sizeTo, row, rowsTo, Foremost}
+use Rattle.worktable.specs.Map.{Entry, absent, known, Map, choose, put, touched, spent, swept, one, sizeTo, row, rowsTo, Foremost}
 
 pub choose-yes : {A : Type 0} (d : Dec A) (x y : Entry) → A → choose d x y ≡ x
 unfolding choose
@@ -37,6 +40,64 @@ put-id m u e q = fun-ext (λ v. go v (ℕ-discrete v u))
 pub absent-known : {d s n : ℕ} → absent ≡ known d s n → ⊥
 unfolding one
 absent-known {d} {s} {n} e = let z : _≡_ {A = ℕ} 0 1 = ap one e in omega arith
+
+-- a vertex that gets one entry after another
+pub put-put : (m : Map) (u : ℕ) (d e : Entry) → put (put m u d) u e ≡ put m u e
+put-put m u d e = fun-ext (λ v. go v (ℕ-discrete v u))
+  where
+    go : (v : ℕ) → Dec (v ≡ u) → put (put m u d) u e v ≡ put m u e v
+    go v (yes p) = put-same (put m u d) u e v p ∙ sym (put-same m u e v p)
+    go v (no p) = put-other (put m u d) u e v p ∙ put-other m u d v p ∙ sym (put-other m u e v p)
+
+-- ---- a record is passed
+pub touched-open : (b d s n : ℕ) → s ≡ 0 → touched b (known d s n) ≡ known (min b d) s (n - 1)
+unfolding touched
+touched-open b d zero n h = refl
+touched-open b d (suc s) n h = absurd (omega arith)
+
+pub touched-settled : (b d s n : ℕ) → s ≢ 0 → touched b (known d s n) ≡ known d s (n - 1)
+unfolding touched
+touched-settled b d zero n h = absurd (h refl)
+touched-settled b d (suc s) n h = refl
+
+-- nobody comes or goes by it
+pub touched-absent : (b : ℕ) (e : Entry) → touched b e ≡ absent → e ≡ absent
+unfolding touched
+touched-absent b absent h = refl
+touched-absent b (known d zero n) h = absurd (absent-known (sym h))
+touched-absent b (known d (suc s) n) h = absurd (absent-known (sym h))
+
+pub absent-touched : (b : ℕ) {e : Entry} → e ≡ absent → touched b e ≡ absent
+unfolding touched
+absent-touched b h = rw h
+
+-- ---- an entry is spent, or stays
+pub spent-open : (d s n : ℕ) → s ≡ 0 → spent (known d s n) ≡ false
+unfolding spent
+spent-open d zero n h = refl
+spent-open d (suc s) n h = absurd (omega arith)
+
+pub spent-some : (d s n : ℕ) → n ≢ 0 → spent (known d s n) ≡ false
+unfolding spent
+spent-some d zero n h = refl
+spent-some d (suc s) n h = ne-eqb n 0 h
+
+pub spent-none : (d s n : ℕ) → s ≢ 0 → n ≡ 0 → spent (known d s n) ≡ true
+unfolding spent
+spent-none d zero n h k = absurd (h refl)
+spent-none d (suc s) n h k = eq-eqb n 0 k
+
+pub spent-held : {e : Entry} → spent e ≡ true → e ≢ absent
+unfolding spent
+spent-held {e} h z = let k : spent e ≡ false = ap spent z in never h k
+
+pub swept-spent : (e : Entry) → spent e ≡ true → swept e ≡ absent
+unfolding swept
+swept-spent e h = cond-true absent e h
+
+pub swept-kept : (e : Entry) → spent e ≡ false → swept e ≡ e
+unfolding swept
+swept-kept e h = cond-false absent e h
 
 pub size-same : (n : ℕ) (m k : Map) → ((u : ℕ) → u < n → m u ≡ k u) → sizeTo n m ≡ sizeTo n k
 unfolding sizeTo

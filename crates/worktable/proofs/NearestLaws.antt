@@ -5,11 +5,11 @@ use mathlib.Core.List.{List}
 use Prim.Native.Nat.{ℕ, _+_, _*_, _/_, _%_, _<_, _≤_}
 use native.Mathlib.Omega.{arith}
 use native.Mathlib.Decide.{ℕ-discrete}
-use Rattle.columns.specs.Columns.{cols, at}
-use Rattle.slots.specs.Words.{vacant, vertexIn, key}
-use Rattle.slots.specs.Chains.{At}
-use Rattle.slots.proofs.TreeLaws.{least}
-use Rattle.listing.specs.Fields.{distanceIn, stateIn}
+use Rattle.table_bytes.specs.Columns.{cols, at}
+use Rattle.table_tree.specs.Words.{vacant, vertexIn, key}
+use Rattle.table_tree.specs.Chains.{At}
+use Rattle.table_tree.proofs.TreeLaws.{least}
+use Rattle.table_records.specs.Fields.{distanceIn, stateIn}
 use Rattle.journeys.specs.Counting.{none}
 use Rattle.worktable.specs.Map.{distanceOf, Waits, Foremost}
 use Rattle.worktable.specs.Inside.{lookup}
@@ -62,10 +62,10 @@ module _ {t : Table} {b : List ℕ} (o : InOrder t b) (pos : 0 < t .capacity) wh
 
   module _ {s w : ℕ} (es : s ≡ at (cols (t .slots) b .t) 1) (ew : w ≡ at (cols (t .slots) b .w) s) where
     pub root-low : s < t .capacity
-    root-low = rw es (o .parts pos .win .shape .low 1 (omega arith) (omega arith))
+    root-low = rw es (o .layout pos .win .shape .low 1 (omega arith) (omega arith))
 
     root : (i : ℕ) → i < t .capacity → key w ≤ key (at (cols (t .slots) b .w) i)
-    root i l = rw (ew, es) (least (t .capacity) (cols (t .slots) b .w) (cols (t .slots) b .t) (o .parts pos .win) i l)
+    root i l = rw (ew, es) (least (t .capacity) (cols (t .slots) b .w) (cols (t .slots) b .t) (o .layout pos .win) i l)
 
     pub nearest-at : {v d : ℕ} → w < 9223372032559808512 → v ≡ vertexIn w → d ≡ distanceIn w → NearestIs t b (Nearest.At s v d)
     unfolding NearestIs

@@ -6,21 +6,21 @@ use Prim.Native.Nat.{ℕ, _-_, _+_, _%_, _<_, _≤_}
 use native.Mathlib.Omega.{arith}
 use native.Mathlib.Decide.{ℕ-discrete}
 use lib.ListN.{length, set}
-use Rattle.columns.specs.Columns.{Cols, cols, at, setN, Sized}
-use Rattle.columns.proofs.Access.{sized}
-use Rattle.slots.specs.Words.{vacant, vertexIn, Room}
-use Rattle.slots.specs.Tree.{Changed}
-use Rattle.slots.specs.Chains.{At, Missing, Slot, Linked}
-use Rattle.listing.specs.Fields.{distanceIn, stateIn, remainingIn}
+use Rattle.table_bytes.specs.Columns.{Cols, cols, at, setN, Sized}
+use Rattle.table_bytes.proofs.Access.{sized}
+use Rattle.table_tree.specs.Words.{vacant, vertexIn, Slotted}
+use Rattle.table_tree.specs.Tree.{Changed}
+use Rattle.table_tree.specs.Chains.{At, Missing, Slot, Linked}
+use Rattle.table_records.specs.Fields.{distanceIn, stateIn, remainingIn}
 use Rattle.worktable.specs.Map.{Entry, absent, known, Map, distanceOf, stateOf, remainingOf, empty, put, one, size, sizeTo}
-use Rattle.worktable.specs.Inside.{entryIn, lookup, Single, Parts}
+use Rattle.worktable.specs.Inside.{entryIn, lookup, Single, Layout}
 use Rattle.worktable.specs.Table.{mapOf, InOrder, Holds, Place, Gives, FoundIs}
 use Rattle.worktable.specs.declared.Table.{Table}
 use Rattle.worktable.specs.declared.Found.{Found}
 use Rattle.worktable.proofs.MapLaws.{put-same, size-put, size-empty}
 use Rattle.worktable.proofs.WordLaws.{entry-vacant, entry-used, absent-vacant, vertex-low}
 use Rattle.worktable.proofs.LookupLaws.{lookup-none, lookup-missing, lookup-at, Fit, set-at, set-stays, set-map}
-use Rattle.worktable.proofs.PartsLaws.{numbers, pops, change-parts, insert-words, insert-parts, drop-words, drop-parts}
+use Rattle.worktable.proofs.LayoutLaws.{numbers, pops, change-layout, insert-words, insert-layout, drop-words, drop-layout}
 
 -- two tables that hold the same hold the same map
 pub holds-same : {t r : Table} {b c : List ℕ} {m : Map} → Holds t b m → Holds r c m → mapOf t b ≡ mapOf r c
@@ -31,10 +31,10 @@ holds-here o = record { order = o; map = refl }
 
 -- a vertex has one slot
 pub place-one : {t : Table} {b : List ℕ} {u s x : ℕ} → InOrder t b → Place t b u s → Place t b u x → s ≡ x
-place-one {s = s} {x = x} o p q = o .parts (omega (arith, p .slot .low)) .single s x (p .slot .low) (q .slot .low) (p .slot .used) (q .slot .used) (p .slot .vertex ∙ sym (q .slot .vertex))
+place-one {s = s} {x = x} o p q = o .layout (omega (arith, p .slot .low)) .single s x (p .slot .low) (q .slot .low) (p .slot .used) (q .slot .used) (p .slot .vertex ∙ sym (q .slot .vertex))
 
 pub order-single : {t : Table} {b : List ℕ} → InOrder t b → Single (t .capacity) (cols (t .slots) b .w)
-order-single o s x ls = o .parts (omega arith) .single s x ls
+order-single o s x ls = o .layout (omega arith) .single s x ls
 
 -- numbers from 65,536 on are no vertices
 pub high-absent : {t : Table} {b : List ℕ} {u : ℕ} → InOrder t b → 65536 ≤ u → mapOf t b u ≡ absent
@@ -80,14 +80,14 @@ module _ {t : Table} {b : List ℕ} (o : InOrder t b) where
     place-pos = omega (arith, p .slot .low)
 
     pub place-low : s < t .slots
-    place-low = omega (arith, p .slot .low, o .room .fits)
+    place-low = omega (arith, p .slot .low, o .slotted .fits)
 
     pub place-vertex : u < 65536
     place-vertex = rw (← p .slot .vertex) (vertex-low (at (cols (t .slots) b .w) s))
 
     pub place-entry : {w : ℕ} → w ≡ at (cols (t .slots) b .w) s → mapOf t b u ≡ known (distanceIn w) (stateIn w) (remainingIn w)
     unfolding mapOf
-    place-entry {w} e = ap entryIn (lookup-at (o .parts place-pos .single) (p .slot) ∙ sym e) ∙ entry-used w (λ z. p .slot .used (sym e ∙ z))
+    place-entry {w} e = ap entryIn (lookup-at (o .layout place-pos .single) (p .slot) ∙ sym e) ∙ entry-used w (λ z. p .slot .used (sym e ∙ z))
 
     pub place-distance : {w : ℕ} → w ≡ at (cols (t .slots) b .w) s → distanceOf (mapOf t b u) ≡ distanceIn w
     unfolding distanceOf
@@ -109,28 +109,28 @@ module _ {t : Table} {b : List ℕ} (o : InOrder t b) where
     pub place-fit : {w : ℕ} → (w ≢ vacant → vertexIn w ≡ u) → Fit (t .capacity) (cols (t .slots) b .w) s w u
     place-fit f = record {
       low = p .slot .low;
-      inside = omega (arith, sized (t .slots) b .w, o .room .fits);
+      inside = omega (arith, sized (t .slots) b .w, o .slotted .fits);
       old = λ n. p .slot .vertex;
       new = f;
-      other = λ i l ne n e. ne (o .parts place-pos .single i s l (p .slot .low) n (p .slot .used) (e ∙ sym (p .slot .vertex)));
+      other = λ i l ne n e. ne (o .layout place-pos .single i s l (p .slot .low) n (p .slot .used) (e ∙ sym (p .slot .vertex)));
     }
 
   -- a word of u, who is not there, fits at a vacant slot
   pub new-fit : {u s w : ℕ} → mapOf t b u ≡ absent → s < t .capacity → at (cols (t .slots) b .w) s ≡ vacant → vertexIn w ≡ u → Fit (t .capacity) (cols (t .slots) b .w) s w u
   new-fit {u} e l v f = record {
     low = l;
-    inside = omega (arith, sized (t .slots) b .w, o .room .fits);
+    inside = omega (arith, sized (t .slots) b .w, o .slotted .fits);
     old = λ n. absurd (n v);
     new = λ n. f;
     other = λ i li ne n. missing-here e i li n;
   }
 
-  -- the word w at slot s, with all parts in order again
+  -- the word w at slot s, with the layout in order again
   module _ {u s w top free : ℕ} {e : Entry} (b′ : List ℕ) (lu : u < 65536) (f : Fit (t .capacity) (cols (t .slots) b .w) s w u) (len : length b′ ≡ length b)
-      (words : cols (t .slots) b′ .w ≡ set (cols (t .slots) b .w) s w) (is : entryIn w ≡ e) (parts : Parts (numbers t top free) (cols (t .slots) b′))
+      (words : cols (t .slots) b′ .w ≡ set (cols (t .slots) b .w) s w) (is : entryIn w ≡ e) (layout : Layout (numbers t top free) (cols (t .slots) b′))
       (count : free + one e ≡ t .free + one (mapOf t b u)) where
     single : Single (t .capacity) (cols (t .slots) b .w)
-    single = o .parts (omega (arith, f .low)) .single
+    single = o .layout (omega (arith, f .low)) .single
 
     map-is : mapOf (numbers t top free) b′ ≡ put (mapOf t b) u e
     unfolding mapOf
@@ -152,18 +152,19 @@ module _ {t : Table} {b : List ℕ} (o : InOrder t b) where
 
     pub gives : Gives t (numbers t top free) b b′ (put (mapOf t b) u e)
     gives = record {
-      holds = record { order = record { room = record { len = len ∙ o .room .len; fits = o .room .fits; small = o .room .small }; parts = λ h. parts; counted = counted }; map = map-is };
+      holds = record { order = record { slotted = record { len = len ∙ o .slotted .len; fits = o .slotted .fits; small = o .slotted .small }; layout = λ h. layout; counted = counted }; map = map-is };
       capacity = refl;
       stays = stays;
     }
 
 -- the vertex u at s gets another word
-pub gives-changed : {t : Table} {b b′ : List ℕ} {u s v w d x n : ℕ} → InOrder t b → Place t b u s → v ≡ at (cols (t .slots) b .w) s → w ≢ vacant → vertexIn w ≡ vertexIn v → entryIn w ≡ known d x n
-    → Changed (t .capacity) s w (cols (t .slots) b) (cols (t .slots) b′) → length b′ ≡ length b → Gives t t b b′ (put (mapOf t b) u (known d x n))
+pub gives-changed : {t : Table} {b b′ : List ℕ} {u s v w : ℕ} {e : Entry} → InOrder t b → Place t b u s → v ≡ at (cols (t .slots) b .w) s → w ≢ vacant → vertexIn w ≡ vertexIn v → entryIn w ≡ e
+    → Changed (t .capacity) s w (cols (t .slots) b) (cols (t .slots) b′) → length b′ ≡ length b → Gives t t b b′ (put (mapOf t b) u e)
 unfolding one
-gives-changed {t} {b} {b′} {u} {s} {v} {w} {d} {x} {n} o p ev nw vert is ch len =
+gives-changed {t} {b} {b′} {u} {s} {v} {w} {e} o p ev nw vert is ch len =
     let f : Fit (t .capacity) (cols (t .slots) b .w) s w u = place-fit o p (λ z. vert ∙ ap vertexIn ev ∙ p .slot .vertex) in
-    gives o {e = known d x n} b′ (place-vertex o p) f len (ch .w) is (change-parts (o .parts (place-pos o p)) f (p .slot .used) nw ch) (omega (arith, place-one-more o p))
+    gives o {e = e} b′ (place-vertex o p) f len (ch .w) is (change-layout (o .layout (place-pos o p)) f (p .slot .used) nw ch)
+    (omega (arith, place-one-more o p, ap one (sym is ∙ entry-used w nw)))
 
 -- a new vertex u at the top of the vacant slots
 pub gives-new : {t : Table} {b b′ : List ℕ} {c : Cols} {u w y d x n : ℕ} → InOrder t b → mapOf t b u ≡ absent → size (mapOf t b) < t .capacity → u < 65536 → vertexIn w ≡ u → entryIn w ≡ known d x n
@@ -171,10 +172,10 @@ pub gives-new : {t : Table} {b b′ : List ℕ} {c : Cols} {u w y d x n : ℕ} �
     → Gives t (numbers t (y % 65536) (t .free - 1)) b b′ (put (mapOf t b) u (known d x n))
 unfolding one
 gives-new {t} {b} {b′} {c} {u} {w} {y} {d} {x} {n} o off room lu vert is lk ch ey len =
-    let ps = o .parts (omega arith) in
+    let ps = o .layout (omega arith) in
     let pp = pops ps (free-some o room) in
     let f : Fit (t .capacity) (cols (t .slots) b .w) (t .top) w u = new-fit o off (pp .low) (pp .empty) vert in
-    gives o {e = known d x n} b′ lu f len (insert-words ps (o .room .small) (free-some o room) f lk ch) is (insert-parts ps (o .room .small) (free-some o room) f lk ch ey)
+    gives o {e = known d x n} b′ lu f len (insert-words ps (o .slotted .small) (free-some o room) f lk ch) is (insert-layout ps (o .slotted .small) (free-some o room) f lk ch ey)
     (omega (arith, free-some o room, ap one off))
 
 -- the vertex u at s has gone
@@ -182,22 +183,22 @@ pub gives-gone : {t : Table} {b b′ : List ℕ} {c₁ c₂ : Cols} {u s : ℕ} 
     → Changed (t .capacity) s vacant c₁ c₂ → cols (t .slots) b′ ≡ setN c₂ s (t .top) → length b′ ≡ length b → Gives t (numbers t s (t .free + 1)) b b′ (put (mapOf t b) u absent)
 unfolding one
 gives-gone {t} {b} {b′} {c₁} {c₂} {u} {s} o p sz lk ch e len =
-    let ps = o .parts (place-pos o p) in
+    let ps = o .layout (place-pos o p) in
     let f : Fit (t .capacity) (cols (t .slots) b .w) s vacant u = place-fit o p (λ z. absurd (z refl)) in
     let l : s < length (c₁ .n) = omega (arith, sz .n, place-low o p) in
-    gives o {e = absent} b′ (place-vertex o p) f len (drop-words ps (o .room .small) f (p .slot .used) lk l ch e) (entry-vacant refl)
-    (drop-parts ps (o .room .small) f (p .slot .used) lk l ch e) (omega (arith, place-one-more o p))
+    gives o {e = absent} b′ (place-vertex o p) f len (drop-words ps (o .slotted .small) f (p .slot .used) lk l ch e) (entry-vacant refl)
+    (drop-layout ps (o .slotted .small) f (p .slot .used) lk l ch e) (omega (arith, place-one-more o p))
 
 -- nothing was changed
 pub gives-same : {t : Table} {b : List ℕ} {m : Map} → InOrder t b → m ≡ mapOf t b → Gives t t b b m
 gives-same {t} {b} {m} o e = record { holds = record { order = o; map = sym e }; capacity = refl; stays = λ v s n p. p }
 
 -- an empty table
-pub start-holds : {t : Table} {b : List ℕ} → Room (t .slots) (t .capacity) b → (0 < t .capacity → Parts t (cols (t .slots) b)) → ((j : ℕ) → j < t .capacity → at (cols (t .slots) b .w) j ≡ vacant)
+pub start-holds : {t : Table} {b : List ℕ} → Slotted (t .slots) (t .capacity) b → (0 < t .capacity → Layout t (cols (t .slots) b)) → ((j : ℕ) → j < t .capacity → at (cols (t .slots) b .w) j ≡ vacant)
     → t .free ≡ t .capacity → Holds t b empty
 unfolding mapOf empty size
-start-holds {t} {b} room parts words free = record {
-  order = record { room = room; parts = parts; counted = omega (arith, size-empty 65536 (mapOf t b) none, free) };
+start-holds {t} {b} slotted layout words free = record {
+  order = record { slotted = slotted; layout = layout; counted = omega (arith, size-empty 65536 (mapOf t b) none, free) };
   map = fun-ext none;
 }
   where

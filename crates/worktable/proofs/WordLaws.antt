@@ -4,10 +4,10 @@ use mathlib.Core.Logic.{_≢_, inl, inr}
 use Prim.Native.Nat.{ℕ, _-_, _+_, _*_, _/_, _%_, _<_, _≤_, min}
 use native.Mathlib.Omega.{arith}
 use native.Mathlib.Decide.{ℕ-discrete}
-use Rattle.slots.specs.Words.{vacant, vertexIn, key}
-use Rattle.listing.specs.Fields.{distanceIn, stateIn, remainingIn}
+use Rattle.table_tree.specs.Words.{vacant, vertexIn, key}
+use Rattle.table_records.specs.Fields.{distanceIn, stateIn, remainingIn}
 use Rattle.journeys.specs.Counting.{none}
-use Rattle.worktable.specs.Map.{absent, known, Distance}
+use Rattle.worktable.specs.Map.{absent, known, Figure}
 use Rattle.worktable.specs.Inside.{wordOf, entryIn}
 use Rattle.worktable.proofs.MapLaws.{choose-yes, choose-no, absent-known}
 
@@ -30,6 +30,15 @@ pub vertex-low : (w : ℕ) → vertexIn w < 65536
 unfolding vertexIn
 vertex-low w = omega arith
 
+-- the state by the size of the word
+pub open-low : (w : ℕ) → w < 9223372036854775808 → stateIn w ≡ 0
+unfolding stateIn
+open-low w h = omega arith
+
+pub settled-high : (w : ℕ) → 9223372036854775808 ≤ w → stateIn w ≢ 0
+unfolding stateIn
+settled-high w h z = omega arith
+
 pub known-is : {d d′ s s′ n n′ : ℕ} → d ≡ d′ → s ≡ s′ → n ≡ n′ → known d s n ≡ known d′ s′ n′
 known-is a b c = rw (a, b, c)
 
@@ -43,7 +52,7 @@ unfolding key
 key-settled w h = omega arith
 
 -- a new word
-module _ (u d n : ℕ) (lu : u < 65536) (ld : Distance d) (ln : n < 65536) where
+module _ (u d n : ℕ) (lu : u < 65536) (ld : Figure d) (ln : n < 65536) where
   pub new-used : wordOf u d n ≢ vacant
   unfolding wordOf
   new-used e = omega arith
@@ -52,7 +61,7 @@ module _ (u d n : ℕ) (lu : u < 65536) (ld : Distance d) (ln : n < 65536) where
   unfolding wordOf vertexIn
   new-vertex = omega arith
 
-  new-distance : Distance d → distanceIn (wordOf u d n) ≡ d
+  new-distance : Figure d → distanceIn (wordOf u d n) ≡ d
   unfolding wordOf distanceIn
   new-distance (inl h) = omega arith
   new-distance (inr h) = omega arith
@@ -86,21 +95,24 @@ module _ (w : ℕ) (fit : w < 18446744073709551616) (some : 0 < remainingIn w) w
   unfolding key remainingIn
   less-key = omega arith
 
+  pub less-half : (w - 1) / 4294967296 ≡ w / 4294967296
+  unfolding remainingIn
+  less-half = omega arith
+
+  pub less-distance : distanceIn (w - 1) ≡ distanceIn w
+  unfolding distanceIn
+  less-distance = rw less-half
+
+  pub less-state : stateIn (w - 1) ≡ stateIn w
+  unfolding stateIn remainingIn
+  less-state = omega arith
+
+  pub less-remaining : remainingIn (w - 1) ≡ remainingIn w - 1
+  unfolding remainingIn
+  less-remaining = omega arith
+
   pub less-entry : entryIn (w - 1) ≡ known (distanceIn w) (stateIn w) (remainingIn w - 1)
-  unfolding distanceIn stateIn remainingIn
-  less-entry = entry-used (w - 1) less-used ∙ known-is d s n
-    where
-      half : (w - 1) / 4294967296 ≡ w / 4294967296
-      half = omega arith
-
-      d : distanceIn (w - 1) ≡ distanceIn w
-      d = rw half
-
-      s : stateIn (w - 1) ≡ stateIn w
-      s = omega arith
-
-      n : remainingIn (w - 1) ≡ remainingIn w - 1
-      n = omega arith
+  less-entry = entry-used (w - 1) less-used ∙ known-is less-distance less-state less-remaining
 
 -- settled, with a distance
 module _ (w : ℕ) (open-word : stateIn w ≡ 0) (some : distanceIn w < none) where
@@ -143,13 +155,13 @@ lesser-is d q h l =
     plain d q z h = omega arith
 
 -- a lower distance
-module _ (w d : ℕ) (open-word : stateIn w ≡ 0) (ld : Distance d) where
+module _ (w d : ℕ) (open-word : stateIn w ≡ 0) (ld : Figure d) where
   -- the offer is not less than what is known
   pub no-lower : w / 4294967296 ≤ d → min d (distanceIn w) ≡ distanceIn w
   unfolding distanceIn stateIn
   no-lower h = go ld
     where
-      go : Distance d → min d (w / 4294967296 % 2147483648 + w / 4294967296 % 2147483648 / 2147483647 * 2147483648) ≡ w / 4294967296 % 2147483648 + w / 4294967296 % 2147483648 / 2147483647 * 2147483648
+      go : Figure d → min d (w / 4294967296 % 2147483648 + w / 4294967296 % 2147483648 / 2147483647 * 2147483648) ≡ w / 4294967296 % 2147483648 + w / 4294967296 % 2147483648 / 2147483647 * 2147483648
       go (inl l) = omega arith
       go (inr l) = omega arith
 

@@ -5,11 +5,11 @@ use mathlib.Core.List.{List, [], _∷_}
 use Prim.Native.Nat.{ℕ, zero, suc, _+_, _*_, _<_, min}
 use native.Mathlib.Decide.{ℕ-discrete}
 use lib.ListN.{length}
-use Rattle.columns.specs.Columns.{Cols, at}
-use Rattle.slots.specs.Words.{vacant, vertexIn}
-use Rattle.slots.specs.Tree.{Win}
-use Rattle.slots.specs.Chains.{Chained}
-use Rattle.listing.specs.Fields.{distanceIn, stateIn, remainingIn}
+use Rattle.table_bytes.specs.Columns.{Cols, at}
+use Rattle.table_tree.specs.Words.{vacant, vertexIn}
+use Rattle.table_tree.specs.Tree.{Win}
+use Rattle.table_tree.specs.Chains.{Chained}
+use Rattle.table_records.specs.Fields.{distanceIn, stateIn, remainingIn}
 use Rattle.worktable.specs.Map.{Entry, absent, known, choose}
 use Rattle.worktable.specs.declared.Table.{Table}
 
@@ -44,7 +44,7 @@ Vacancies cap W N [] top = Unit {0}
 Vacancies cap W N (s ∷ l) top = (top ≡ s) × (s < cap) × (at W s ≡ vacant) × Outside s l × Vacancies cap W N l (at N s)
 
 -- the tree, the chains and the vacant slots of a table that has slots
-pub record Parts (t : Table) (c : Cols) : Type 0 where
+pub record Layout (t : Table) (c : Cols) : Type 0 where
   pub win : Win (t .capacity) (c .w) (c .t)
   pub chained : Chained (t .capacity) (t .mask) (c .w) (c .h) (c .n)
   pub single : Single (t .capacity) (c .w)

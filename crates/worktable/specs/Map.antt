@@ -1,9 +1,11 @@
 -- The finite map that the table holds: for each vertex nothing, or a distance, a state (0 unsettled, 1 settled) and how many departing records remain.
 use mathlib.Core.Path.{_≡_}
+use mathlib.Core.Bool.{Bool, false, cond}
 use mathlib.Core.Logic.{_⊎_}
 use mathlib.Core.List.{List, [], _∷_, _++_}
 use Prim.Native.Nat.{ℕ, zero, suc, _-_, _+_, _<_, _≤_, min}
 use native.Mathlib.Decide.{ℕ-discrete}
+use lib.Dec.{eqb}
 use Rattle.journeys.specs.Counting.{none}
 use Rattle.journeys.specs.Network.{Held}
 
@@ -26,9 +28,9 @@ unfoldable pub remainingOf : Entry → ℕ
 remainingOf absent = 0
 remainingOf (known d s n) = n
 
--- a distance that an entry can have
-abbrev pub Distance : ℕ → Type 0
-Distance d = (d < 2147483647) ⊎ (d ≡ none)
+-- a figure that fits an entry: a distance, or none
+abbrev pub Figure : ℕ → Type 0
+Figure d = (d < 2147483647) ⊎ (d ≡ none)
 
 unfoldable pub choose : {A : Type 0} → Dec A → Entry → Entry → Entry
 choose (yes p) x y = x
@@ -41,14 +43,24 @@ empty u = absent
 unfoldable pub put : Map → ℕ → Entry → Map
 put m u e v = choose (ℕ-discrete v u) e (m v)
 
-abbrev pub lowered : ℕ → Entry → Entry
-lowered d e = known (min d (distanceOf e)) (stateOf e) (remainingOf e)
-
-abbrev pub lessOne : Entry → Entry
-lessOne e = known (distanceOf e) (stateOf e) (remainingOf e - 1)
-
 abbrev pub settled : Entry → Entry
 settled e = known (distanceOf e) 1 (remainingOf e)
+
+-- a record with the offer b is passed: one less remains, and an unsettled vertex takes the lesser distance
+unfoldable pub touched : ℕ → Entry → Entry
+touched b absent = absent
+touched b (known d zero n) = known (min b d) 0 (n - 1)
+touched b (known d (suc s) n) = known d (suc s) (n - 1)
+
+-- THE TEST by which an entry goes: its vertex is settled, and no departing record of it remains
+unfoldable pub spent : Entry → Bool
+spent absent = false
+spent (known d zero n) = false
+spent (known d (suc s) n) = eqb n 0
+
+-- a spent entry goes
+unfoldable pub swept : Entry → Entry
+swept e = cond (spent e) absent e
 
 -- how many vertices are in the map, of those below n and of all
 unfoldable pub one : Entry → ℕ

@@ -1,25 +1,27 @@
 -- What the buffer holds. Callers use `mapOf`, `InOrder`, `Holds`, `Place` and `Gives` as they stand and never what is inside.
 use mathlib.Core.Path.{_≡_}
+use mathlib.Core.Bool.{true, false}
 use mathlib.Core.Logic.{_≢_}
 use mathlib.Core.List.{List}
 use Prim.Native.Nat.{ℕ, _+_, _<_}
-use Rattle.columns.specs.Columns.{cols}
-use Rattle.slots.specs.Words.{Room}
-use Rattle.slots.specs.Chains.{At}
-use Rattle.worktable.specs.Map.{absent, Map, size, Foremost, Waits}
-use Rattle.worktable.specs.Inside.{entryIn, lookup, Parts}
+use Rattle.table_bytes.specs.Columns.{cols}
+use Rattle.table_tree.specs.Words.{Slotted}
+use Rattle.table_tree.specs.Chains.{At}
+use Rattle.worktable.specs.Map.{Entry, absent, Map, spent, size, Foremost, Waits}
+use Rattle.worktable.specs.Inside.{entryIn, lookup, Layout}
 use Rattle.worktable.specs.declared.Table.{Table}
 use Rattle.worktable.specs.declared.Found.{Found}
 use Rattle.worktable.specs.declared.Nearest.{Nearest}
+use Rattle.worktable.specs.declared.Passed.{Passed}
 
 -- the map that the buffer b with the numbers t holds
 unfoldable pub mapOf : Table → List ℕ → Map
 mapOf t b u = entryIn (lookup (t .capacity) (cols (t .slots) b .w) u)
 
--- the table is in order; a table without slots has no parts
+-- the table is in order; a table without slots has no layout
 pub record InOrder (t : Table) (b : List ℕ) : Type 0 where
-  pub room : Room (t .slots) (t .capacity) b
-  pub parts : 0 < t .capacity → Parts t (cols (t .slots) b)
+  pub slotted : Slotted (t .slots) (t .capacity) b
+  pub layout : 0 < t .capacity → Layout t (cols (t .slots) b)
   pub counted : size (mapOf t b) + t .free ≡ t .capacity
 
 -- the table is in order and holds the map m
@@ -41,6 +43,12 @@ pub record Gives (t r : Table) (b c : List ℕ) (m : Map) : Type 0 where
 unfoldable pub FoundIs : Table → List ℕ → ℕ → Found → Type 0
 FoundIs t b u (Found.At s) = Place t b u s
 FoundIs t b u Found.Absent = mapOf t b u ≡ absent
+
+-- the answer of `pass` and `look`, where the vertex u has the entry e: a spent one is told with its slot
+unfoldable pub PassedIs : Table → List ℕ → ℕ → Entry → Passed → Type 0
+PassedIs t b u e Passed.Absent = e ≡ absent
+PassedIs t b u e Passed.Kept = (e ≢ absent) × (spent e ≡ false)
+PassedIs t b u e (Passed.Spent s) = Place t b u s × (spent e ≡ true)
 
 -- the answer of `least`
 unfoldable pub NearestIs : Table → List ℕ → Nearest → Type 0

@@ -1,40 +1,39 @@
 // The working table of the search inside the lent held buffer: a finite map from vertices to distance, state and remaining.
-// What the buffer holds is told by `mapOf`; how it lies there is this crate's own affair.
+// Promises: each call does to the map, which `mapOf` tells of the bytes, what its contract says; how it lies there is the affair of this crate and of the three named table_.
+// Rests on: `table_bytes`, `table_tree`, `table_records`, the zeroing of `words`; the held records of `journeys`.
 ghost use mathlib.Core.Path.{_≡_};
+ghost use mathlib.Core.Logic.{_≢_};
 ghost use Prim.Native.Nat.{_-_, _/_, _%_, _<_, min};
-ghost use lib.ListN.{length, replicate};
-ghost use Rattle.columns.specs.Columns.{cols};
-ghost use Rattle.slots.specs.Words.{vacant, Room};
-ghost use Rattle.slots.specs.Tree.{Win, Changed};
+ghost use lib.ListN.{length};
+ghost use Rattle.table_bytes.specs.Columns.{cols};
+ghost use Rattle.table_tree.specs.Words.{vacant, Slotted};
+ghost use Rattle.table_tree.specs.Tree.{Win, Changed};
 ghost use mathlib.Core.List.{flatMap};
 ghost use Rattle.journeys.specs.Bytes.{filled};
 ghost use Rattle.journeys.specs.Answers.{heldBytes};
 ghost use Rattle.journeys.specs.Counting.{none};
-ghost use Rattle.worktable.specs.Map.{absent, known, distanceOf, stateOf, remainingOf, Distance, empty, put, lowered, lessOne, settled, size, rows};
+ghost use Rattle.worktable.specs.Map.{absent, known, distanceOf, stateOf, remainingOf, Figure, empty, put, settled, touched, spent, size, rows};
 ghost use Rattle.worktable.specs.Inside.{wordOf};
-ghost use Rattle.worktable.specs.Table.{mapOf, InOrder, Holds, Place, Gives, FoundIs, NearestIs};
-use columns::next;
-use columns::set_next;
-use columns::set_word;
-use columns::tree;
-use columns::word;
-use listing::distance_in;
-use listing::pack;
-use listing::remaining_in;
-use listing::sort;
-use listing::spread;
-use listing::state_in;
-use slots::blank;
-use slots::build;
-use slots::change_word;
-use slots::cut;
-use slots::lesser;
-use slots::link;
-use slots::lower_word;
-use slots::mask_of;
-use slots::vertex_in;
-
-const VACANT: u64 = 0xFFFF_FFFF_FFFF_FFFF;
+ghost use Rattle.worktable.specs.Table.{mapOf, InOrder, Holds, Place, Gives, FoundIs, PassedIs, NearestIs};
+use table_bytes::next;
+use table_bytes::set_next;
+use table_bytes::set_word;
+use table_bytes::tree;
+use table_bytes::word;
+use table_records::distance_in;
+use table_records::pack;
+use table_records::sort;
+use table_records::spread;
+use table_tree::VACANT;
+use table_tree::blank;
+use table_tree::build;
+use table_tree::change_word;
+use table_tree::cut;
+use table_tree::lesser;
+use table_tree::link;
+use table_tree::lower_word;
+use table_tree::mask_of;
+use table_tree::vertex_in;
 
 const SETTLED: u64 = 0x8000_0000_0000_0000;
 
@@ -50,6 +49,13 @@ pub struct Table {
 pub enum Found {
     At(usize),
     Absent,
+}
+
+// What a vertex has after a look at it: no entry, one that stays, or a spent one at its slot, for the caller to drop.
+pub enum Passed {
+    Absent,
+    Kept,
+    Spent(usize),
 }
 
 // Slot, vertex, distance.
@@ -100,14 +106,6 @@ pub fn free(b: &[u8], t: Table) -> usize
     t.free
 }
 
-// How many entries there are.
-pub fn held(b: &[u8], t: Table) -> usize
-    requires { ⌜ InOrder t (now b) ⌝ }
-    ensures { λ n. ⌜ n ≡ size (mapOf t (now (b .entry))) ⌝ }
-{
-    t.capacity - t.free
-}
-
 // The slot of vertex u.
 pub fn find(b: &[u8], t: Table, u: usize) -> Found
     requires { ⌜ InOrder t (now b) ⌝ }
@@ -116,35 +114,11 @@ pub fn find(b: &[u8], t: Table, u: usize) -> Found
     if t.capacity == 0 {
         return Found::Absent;
     }
-    let s = slots::find(b, t.slots, t.capacity, t.mask, u);
+    let s = table_tree::find(b, t.slots, t.capacity, t.mask, u);
     if s == t.capacity {
         return Found::Absent;
     }
     Found::At(s)
-}
-
-// The distance of vertex u, which is at slot s.
-pub fn distance(b: &[u8], t: Table, u: usize, s: usize) -> u32
-    requires { ⌜ InOrder t (now b) × Place t (now b) u s ⌝ }
-    ensures { λ d. ⌜ d ≡ distanceOf (mapOf t (now (b .entry)) u) ⌝ }
-{
-    distance_in(word(b, t.slots, s))
-}
-
-// The state of vertex u, which is at slot s.
-pub fn state(b: &[u8], t: Table, u: usize, s: usize) -> u32
-    requires { ⌜ InOrder t (now b) × Place t (now b) u s ⌝ }
-    ensures { λ x. ⌜ x ≡ stateOf (mapOf t (now (b .entry)) u) ⌝ }
-{
-    state_in(word(b, t.slots, s))
-}
-
-// The number of departing records that remain to vertex u, which is at slot s.
-pub fn remaining(b: &[u8], t: Table, u: usize, s: usize) -> u32
-    requires { ⌜ InOrder t (now b) × Place t (now b) u s ⌝ }
-    ensures { λ n. ⌜ n ≡ remainingOf (mapOf t (now (b .entry)) u) ⌝ }
-{
-    remaining_in(word(b, t.slots, s))
 }
 
 // The unsettled vertex with the least distance, by number among equals.
@@ -174,7 +148,7 @@ fn word_of(u: usize, d: u32, n: u32) -> u64
 
 // A new vertex, unsettled.
 pub fn insert(b: &mut [u8], t: Table, u: usize, d: u32, n: u32) -> Table
-    requires { ⌜ InOrder t (now b) × (u < 65536) × Distance d × (n < 65536) × (mapOf t (now b) u ≡ absent) × (size (mapOf t (now b)) < t .capacity) ⌝ }
+    requires { ⌜ InOrder t (now b) × (u < 65536) × Figure d × (n < 65536) × (mapOf t (now b) u ≡ absent) × (size (mapOf t (now b)) < t .capacity) ⌝ }
     ensures { λ r. ⌜ Gives t r (now (b .entry)) (now (b .exit)) (put (mapOf t (now (b .entry))) u (known d 0 n)) ⌝ }
 {
     let w = word_of(u, d, n);
@@ -192,39 +166,64 @@ pub fn insert(b: &mut [u8], t: Table, u: usize, d: u32, n: u32) -> Table
     }
 }
 
-// An offer of the distance d to the unsettled vertex u at slot s: the lesser counts.
-pub fn lower(b: &mut [u8], t: Table, u: usize, s: usize, d: u32)
-    requires { ⌜ InOrder t (now b) × Place t (now b) u s × Distance d × (stateOf (mapOf t (now b) u) ≡ 0) ⌝ }
-    ensures { λ _. ⌜ Gives t t (now (b .entry)) (now (b .exit)) (put (mapOf t (now (b .entry))) u (lowered d (mapOf t (now (b .entry)) u))) ⌝ }
+// A record with an offer is passed, in one look at the word of the vertex u that it leaves: one less remains, and an unsettled vertex takes the lesser distance.
+// The tree compares the distance and not what remains.
+pub fn pass(b: &mut [u8], t: Table, u: usize, offer: u32) -> Passed
+    requires { ⌜ InOrder t (now b) × Figure offer × (mapOf t (now b) u ≢ absent → 0 < remainingOf (mapOf t (now b) u)) ⌝ }
+    ensures { λ r. ⌜ Gives t t (now (b .entry)) (now (b .exit)) (put (mapOf t (now (b .entry))) u (touched offer (mapOf t (now (b .entry)) u))) ⌝ }
+    ensures { λ r. ⌜ PassedIs t (now (b .exit)) u (touched offer (mapOf t (now (b .entry)) u)) r ⌝ }
 {
-    let w = word(b, t.slots, s);
-    let x = d as u64;
-    if x < w / 4294967296 {
-        lower_word(b, t.slots, t.capacity, s, x * 4294967296 + w % 4294967296);
+    let Found::At(s) = find(b, t, u) else {
+        return Passed::Absent;
+    };
+    let w = word(b, t.slots, s) - 1;
+    if w < SETTLED {
+        let x = offer as u64;
+        if x < w / 4294967296 {
+            lower_word(b, t.slots, t.capacity, s, x * 4294967296 + w % 4294967296);
+            return Passed::Kept;
+        }
+        set_word(b, t.slots, s, w);
+        return Passed::Kept;
     }
+    set_word(b, t.slots, s, w);
+    if w % 65536 == 0 {
+        return Passed::Spent(s);
+    }
+    Passed::Kept
 }
 
-// One departing record less remains to vertex u at slot s. The tree does not compare this number.
-pub fn take_off(b: &mut [u8], t: Table, u: usize, s: usize)
-    requires { ⌜ InOrder t (now b) × Place t (now b) u s × (0 < remainingOf (mapOf t (now b) u)) ⌝ }
-    ensures { λ _. ⌜ Gives t t (now (b .entry)) (now (b .exit)) (put (mapOf t (now (b .entry))) u (lessOne (mapOf t (now (b .entry)) u))) ⌝ }
+// What the vertex u has, in one look at its word.
+pub fn look(b: &[u8], t: Table, u: usize) -> Passed
+    requires { ⌜ InOrder t (now b) ⌝ }
+    ensures { λ r. ⌜ PassedIs t (now (b .entry)) u (mapOf t (now (b .entry)) u) r ⌝ }
 {
+    let Found::At(s) = find(b, t, u) else {
+        return Passed::Absent;
+    };
     let w = word(b, t.slots, s);
-    set_word(b, t.slots, s, w - 1);
+    if w < SETTLED {
+        return Passed::Kept;
+    }
+    if w % 65536 == 0 {
+        return Passed::Spent(s);
+    }
+    Passed::Kept
 }
 
-// The unsettled vertex u at slot s, which has a distance, is settled.
-pub fn settle(b: &mut [u8], t: Table, u: usize, s: usize)
+// The unsettled vertex u at slot s, which has a distance, is settled; whether it is spent with that.
+pub fn settle_at(b: &mut [u8], t: Table, u: usize, s: usize) -> bool
     requires { ⌜ InOrder t (now b) × Place t (now b) u s × (stateOf (mapOf t (now b) u) ≡ 0) × (distanceOf (mapOf t (now b) u) < none) ⌝ }
-    ensures { λ _. ⌜ Gives t t (now (b .entry)) (now (b .exit)) (put (mapOf t (now (b .entry))) u (settled (mapOf t (now (b .entry)) u))) ⌝ }
+    ensures { λ r. ⌜ Gives t t (now (b .entry)) (now (b .exit)) (put (mapOf t (now (b .entry))) u (settled (mapOf t (now (b .entry)) u))) × (r ≡ spent (settled (mapOf t (now (b .entry)) u))) ⌝ }
 {
     let w = word(b, t.slots, s);
     change_word(b, t.slots, t.capacity, s, w + SETTLED);
+    w % 65536 == 0
 }
 
 // Slot s gets the vacant word. Where it was settled the tree stands as it is: both come last.
 fn vacate(b: &mut [u8], r: usize, cap: usize, s: usize)
-    requires { ⌜ Room r cap (now b) × (s < cap) × Win cap (cols r (now b) .w) (cols r (now b) .t) ⌝ }
+    requires { ⌜ Slotted r cap (now b) × (s < cap) × Win cap (cols r (now b) .w) (cols r (now b) .t) ⌝ }
     ensures { λ _. ⌜ Changed cap s vacant (cols r (now (b .entry))) (cols r (now (b .exit))) ⌝ }
 {
     if word(b, r, s) < SETTLED {
@@ -251,17 +250,6 @@ pub fn drop(b: &mut [u8], t: Table, u: usize, s: usize) -> Table
     }
 }
 
-// Every byte becomes zero.
-pub fn clear(b: &mut [u8])
-    ensures { λ _. ⌜ now (b .exit) ≡ replicate (length (now (b .entry))) 0 ⌝ }
-{
-    let mut i = 0;
-    while i < b.len() {
-        b[i] = 0;
-        i += 1;
-    }
-}
-
 // The table becomes the held records, ascending by vertex, with zero behind them; how many there are.
 pub fn finish(b: &mut [u8], t: Table) -> usize
     requires { ⌜ InOrder t (now b) ⌝ }
@@ -270,7 +258,7 @@ pub fn finish(b: &mut [u8], t: Table) -> usize
     let k = pack(b, t.slots, t.capacity);
     sort(b, t.slots, 0, k, 0, 65536);
     let o = 16 * k;
-    clear(&mut b[o..]);
+    words::zero(&mut b[o..]);
     spread(b, t.slots, k);
     k
 }

@@ -1,8 +1,8 @@
 -- `drop`: the chains, then the word and the tree, then the slot goes on top of the vacant ones.
 use borrow.Author.Needs.{needs}
 use mathlib.Core.Path.{_∙_}
-use Rattle.columns.proofs.Access.{sized}
-use Rattle.worktable.proofs.PartsLaws.{linked-win}
+use Rattle.table_bytes.proofs.Access.{sized}
+use Rattle.worktable.proofs.LayoutLaws.{linked-win}
 use Rattle.worktable.proofs.TableLaws.{place-pos, place-low, gives-gone}
 use Rattle.worktable.proofs.drop.Statement.{statement}
 use Rattle.worktable.proofs.drop.Tie as tie
@@ -10,16 +10,16 @@ use Rattle.worktable.proofs.drop.Tie as tie
 cut-requires : tie.Need-cut-requires
 cut-requires c κs =
     let start = c .before .before in
-    (start .pre .0 .room, start .pre .0 .parts (place-pos (start .pre .0) (start .pre .1)) .chained, start .pre .1 .slot .low, start .pre .1 .slot .used)
+    (start .pre .0 .slotted, start .pre .0 .layout (place-pos (start .pre .0) (start .pre .1)) .chained, start .pre .1 .slot .low, start .pre .1 .slot .used)
 
 vacate-requires : tie.Need-vacate-requires
 vacate-requires c κs =
     let start = c .before .before .before .before .before .before in
     let after-cut = c .before .before .before in
-    let room = start .pre .0 .room in (
-      record { len = after-cut .cut .kept .0 ∙ room .len; fits = room .fits; small = room .small },
+    let slotted = start .pre .0 .slotted in (
+      record { len = after-cut .cut .kept .0 ∙ slotted .len; fits = slotted .fits; small = slotted .small },
       start .pre .1 .slot .low,
-      linked-win (after-cut .cut .ensures) (start .pre .0 .parts (place-pos (start .pre .0) (start .pre .1)) .win),
+      linked-win (after-cut .cut .ensures) (start .pre .0 .layout (place-pos (start .pre .0) (start .pre .1)) .win),
     )
 
 set-next-requires : tie.Need-set-next-requires
@@ -27,9 +27,9 @@ set-next-requires c κs =
     let after-vacate = c .before .before .before in
     let after-cut = c .before .before .before .before .before .before .before in
     let start = c .before .before .before .before .before .before .before .before .before .before in (
-      after-vacate .vacate .kept .0 ∙ after-cut .cut .kept .0 ∙ start .pre .0 .room .len,
+      after-vacate .vacate .kept .0 ∙ after-cut .cut .kept .0 ∙ start .pre .0 .slotted .len,
       place-low (start .pre .0) (start .pre .1),
-      start .pre .0 .parts (place-pos (start .pre .0) (start .pre .1)) .top16,
+      start .pre .0 .layout (place-pos (start .pre .0) (start .pre .1)) .top16,
     )
 
 returns : tie.Need-returns

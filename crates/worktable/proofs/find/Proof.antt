@@ -12,7 +12,7 @@ returns c =
 find-requires : tie.Need-find-requires
 find-requires c κs =
     let start = c .before .before .before in
-    (start .pre .room, start .pre .parts (omega (arith, c .if1 .left)) .chained)
+    (start .pre .slotted, start .pre .layout (omega (arith, c .if1 .left)) .chained)
 
 returns-2 : tie.Need-returns-2
 returns-2 c =

@@ -2,10 +2,10 @@
 use borrow.Author.Needs.{needs}
 use native.Mathlib.Omega.{arith}
 use mathlib.Core.Path.{sym, ap, _∙_}
-use Rattle.slots.specs.Words.{vertexIn}
+use Rattle.table_tree.specs.Words.{vertexIn}
 use Rattle.worktable.specs.Inside.{entryIn}
 use Rattle.worktable.proofs.WordLaws.{new-used, new-vertex, new-entry}
-use Rattle.worktable.proofs.PartsLaws.{pops, linked-win, linked-key}
+use Rattle.worktable.proofs.LayoutLaws.{pops, linked-win, linked-key}
 use Rattle.worktable.proofs.TableLaws.{free-some, gives-new}
 use Rattle.worktable.proofs.insert.Statement.{statement}
 use Rattle.worktable.proofs.insert.Tie as tie
@@ -13,19 +13,19 @@ use Rattle.worktable.proofs.insert.Tie as tie
 next-requires : tie.Need-next-requires
 next-requires c κs =
     let start = c .before .before .before in
-    let parts = start .pre .0 .parts (omega (arith, start .pre .5)) in
-    let top = pops parts (free-some (start .pre .0) (start .pre .5)) in
-    (start .pre .0 .room .len, omega (arith, top .low, parts .chained .mask, start .pre .0 .room .fits))
+    let layout = start .pre .0 .layout (omega (arith, start .pre .5)) in
+    let top = pops layout (free-some (start .pre .0) (start .pre .5)) in
+    (start .pre .0 .slotted .len, omega (arith, top .low, layout .chained .mask, start .pre .0 .slotted .fits))
 
 link-requires : tie.Need-link-requires
 link-requires c κs =
     let start = c .before .before .before .before .before in
     let after-word-of = c .before .before .before in
-    let parts = start .pre .0 .parts (omega (arith, start .pre .5)) in
-    let top = pops parts (free-some (start .pre .0) (start .pre .5)) in (
-      start .pre .0 .room,
-      parts .chained,
-      omega (arith, top .low, parts .chained .mask),
+    let layout = start .pre .0 .layout (omega (arith, start .pre .5)) in
+    let top = pops layout (free-some (start .pre .0) (start .pre .5)) in (
+      start .pre .0 .slotted,
+      layout .chained,
+      omega (arith, top .low, layout .chained .mask),
       top .empty,
       λ z. new-used (start .args .u) (start .args .d) (start .args .n) (start .pre .1) (start .pre .2) (start .pre .3) (sym (after-word-of .word-of .ensures) ∙ z),
     )
@@ -34,11 +34,11 @@ lower-word-requires : tie.Need-lower-word-requires
 lower-word-requires c κs =
     let start = c .before .before .before .before .before .before .before .before .before in
     let after-link = c .before .before .before in
-    let parts = start .pre .0 .parts (omega (arith, start .pre .5)) in
-    let top = pops parts (free-some (start .pre .0) (start .pre .5)) in (
-      record { len = after-link .link .kept .0 ∙ start .pre .0 .room .len; fits = start .pre .0 .room .fits; small = start .pre .0 .room .small },
+    let layout = start .pre .0 .layout (omega (arith, start .pre .5)) in
+    let top = pops layout (free-some (start .pre .0) (start .pre .5)) in (
+      record { len = after-link .link .kept .0 ∙ start .pre .0 .slotted .len; fits = start .pre .0 .slotted .fits; small = start .pre .0 .slotted .small },
       top .low,
-      linked-win (after-link .link .ensures) (parts .win),
+      linked-win (after-link .link .ensures) (layout .win),
       linked-key (after-link .link .ensures) (top .empty),
     )
 

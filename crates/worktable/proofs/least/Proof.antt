@@ -14,13 +14,13 @@ returns c =
 tree-requires : tie.Need-tree-requires
 tree-requires c κs =
     let start = c .before .before .before in
-    (start .pre .room .len, omega (arith, c .if1 .left, start .pre .room .fits))
+    (start .pre .slotted .len, omega (arith, c .if1 .left, start .pre .slotted .fits))
 
 word-requires : tie.Need-word-requires
 word-requires c κs =
     let start = c .before .before .before .before in
     let else1 = c .before in
-    (start .pre .room .len, omega (arith, root-low (start .pre) (omega (arith, else1 .if1 .left)) (c .tree .ensures) refl, start .pre .room .fits))
+    (start .pre .slotted .len, omega (arith, root-low (start .pre) (omega (arith, else1 .if1 .left)) (c .tree .ensures) refl, start .pre .slotted .fits))
 
 returns-2 : tie.Need-returns-2
 returns-2 c =

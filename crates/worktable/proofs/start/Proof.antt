@@ -4,7 +4,7 @@ use native.Mathlib.Omega.{arith}
 use mathlib.Core.Path.{refl, sym, ap, _∙_}
 use Prim.Native.Nat.{min, _/_}
 use lib.ListN.{length}
-use Rattle.worktable.proofs.PartsLaws.{empty-parts, empty-words}
+use Rattle.worktable.proofs.LayoutLaws.{empty-layout, empty-words}
 use Rattle.worktable.proofs.TableLaws.{start-holds}
 use Rattle.worktable.proofs.start.Statement.{statement}
 use Rattle.worktable.proofs.start.Tie as tie
@@ -50,7 +50,7 @@ returns-2 c =
     let after-lesser2 = c .before .before .before .before .before .before .before .before .before .before in
     let after-lesser = c .before .before .before .before .before .before .before .before .before .before .before in (
       start-holds (record { len = after-build .build .kept .0 ∙ after-blank .blank .kept .0 ∙ omega (arith, start .pre); fits = omega (arith, after-lesser2 .lesser2 .ensures); small = omega (arith, after-lesser2 .lesser2 .ensures, after-lesser .lesser .ensures) })
-          (λ h. empty-parts (omega (arith, after-lesser2 .lesser2 .ensures, after-lesser .lesser .ensures)) (c .mask-of .ensures) refl refl (after-blank .blank .ensures) (after-build .build .ensures .0) (after-build .build .ensures .1))
+          (λ h. empty-layout (omega (arith, after-lesser2 .lesser2 .ensures, after-lesser .lesser .ensures)) (c .mask-of .ensures) refl refl (after-blank .blank .ensures) (after-build .build .ensures .0) (after-build .build .ensures .1))
           (empty-words (after-blank .blank .ensures) (after-build .build .ensures .0)) refl,
       after-lesser2 .lesser2 .ensures ∙ ap (min (length (start .args .b .now) / 16)) (after-lesser .lesser .ensures),
     )

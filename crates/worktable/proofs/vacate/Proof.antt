@@ -1,11 +1,11 @@
 -- `vacate`: an unsettled word leaves its place in the tree, a settled one had none.
 use borrow.Author.Needs.{needs}
 use mathlib.Core.Path.{ap, _∙_}
-use Rattle.columns.proofs.Access.{sized}
-use Rattle.slots.specs.Words.{key}
+use Rattle.table_bytes.proofs.Access.{sized}
+use Rattle.table_tree.specs.Words.{key}
 use native.Mathlib.Omega.{arith}
 use Rattle.worktable.proofs.WordLaws.{key-settled}
-use Rattle.worktable.proofs.PartsLaws.{same-changed}
+use Rattle.worktable.proofs.LayoutLaws.{same-changed}
 use Rattle.worktable.proofs.vacate.Statement.{statement}
 use Rattle.worktable.proofs.vacate.Tie as tie
 
