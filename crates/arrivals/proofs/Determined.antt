@@ -4,12 +4,13 @@ use mathlib.Core.Bool.{Bool, true, false}
 use mathlib.Core.List.{List}
 use Prim.Native.Nat.{ℕ, _≤_, _<_}
 use native.Mathlib.Omega.{arith}
+use denote.Ref.{now}
 use Rattle.worktable.specs.Map.{Map, size}
 use Rattle.worktable.specs.Table.{mapOf}
 use Rattle.worktable.specs.declared.Table.{Table}
-use Rattle.arrivals.specs.Answer.{ArrivedIs}
-use Rattle.arrivals.specs.declared.Arrived.{Arrived}
-use Rattle.arrivals.specs.declared.Arrived.the-variants.{Fits, NoRoom}
+use Rattle.meeting.specs.Answer.{ArrivedIs}
+use Rattle.meeting.specs.declared.Arrived.{Arrived}
+use Rattle.meeting.specs.declared.Arrived.the-variants.{Fits, NoRoom}
 use Rattle.arrivals.proofs.arrive.Reads as arrive
 
 unfoldable pub fits : Arrived → Bool
@@ -30,3 +31,6 @@ map-one t r q c d m h k = (h .0 .holds .map ∙ sym (k .0 .holds .map), h .0 .ca
 
 pub arrive-one : (κs : _) (a : _) (z z′ : _) (e e′ : _) → arrive.Post κs a z e → arrive.Post κs a z′ e′ → fits z ≡ fits z′
 arrive-one κs a z z′ e e′ p q = room-one _ _ _ _ z z′ (p .0) (q .0)
+
+pub marks-one : (κs : _) (a : _) (z z′ : _) (e e′ : _) → arrive.Post κs a z e → arrive.Post κs a z′ e′ → now (e .1 .1 .1 .1 .1 .1 .0) ≡ now (e′ .1 .1 .1 .1 .1 .1 .0)
+marks-one κs a z z′ e e′ p q = p .1 ∙ sym (q .1)

@@ -1,10 +1,4 @@
-pub mod Entries
-pub mod Sizes
-pub mod Changes
-pub mod Bits
-pub mod Halves
-pub mod Offers
-pub mod Steps
-pub mod Ends
+pub mod TouchThenSweep
+pub mod HalvesAreStep
+pub mod TallyIsGrowth
 pub mod Determined
-pub mod OwnParts

@@ -1,5 +1,2 @@
-pub mod Passing
-pub mod Runs
-pub mod Marks
-pub mod Phases
-pub mod Answer
+pub mod Survey
+pub mod BothHalves

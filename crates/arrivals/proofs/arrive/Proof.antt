@@ -1,45 +1,40 @@
--- `arrivals::arrive` meets its contract: the two parts of the tables are passed. Assumes nothing.
+-- `arrivals::arrive` meets its contract by one of the two ways. Assumes nothing.
+use native.Mathlib.Omega.{arith}
+use Rattle.meeting.proofs.Leading as le
 use borrow.Author.Needs.{needs}
-use Rattle.records.specs.Arriving.{tableOf}
-use Rattle.arrivals.proofs.OwnParts.{own-sound, own-enough, own-arrived}
 use Rattle.arrivals.proofs.arrive.Statement.{statement}
 use Rattle.arrivals.proofs.arrive.Tie as tie
 
-arriving-requires : tie.Need-arriving-requires
-unfolding tableOf
-arriving-requires c κs = search needs
+add-if1 : tie.Need-add-if1
+add-if1 c =
+    let s = c .before .before .before .before .before .before in record { fits = omega (arith, s .pre .0 .sound .counted .walks, s .pre .0 .sound .counted .hops, s .good) }
 
-arriving-requires-2 : tie.Need-arriving-requires-2
-unfolding tableOf
-arriving-requires-2 c κs = search needs
+free-requires : tie.Need-free-requires
+free-requires c κs = c .before .before .before .before .before .before .before .pre .0 .order
 
-pass-requires : tie.Need-pass-requires
-pass-requires c κs =
-    let s = c .before .before .before .before .before .before .before .before .before .before .before .before in
-    let w = c .before .before .before .before .before .arriving .ensures in
-    let h = c .before .before .before .arriving2 .ensures in
-    let q = c .before .alone .ensures in
-    ((s .pre .0 .0, own-sound _ _ _ _ _ _ _ (s .pre .0 .1) w h q, s .pre .0 .2), own-enough _ _ _ _ _ _ _ (s .pre .0 .1) w h q _ (s .pre .1))
+meet-all-requires : tie.Need-meet-all-requires
+meet-all-requires c κs =
+    let y = c .before .before .before .before .before .before .before .before .before .before .pre .0 in (y, omega (arith, c .before .before .free .ensures, c .before .if1 .taken, le.here-room (y .order)))
 
 returns : tie.Need-returns
-returns c =
-    let s = c .before .before .before .before .before .before .before .before .before .before .before .before .before .before .before .before .before in
-    let w = c .before .before .before .before .before .before .before .before .before .before .arriving .ensures in
-    let h = c .before .before .before .before .before .before .before .before .arriving2 .ensures in
-    let q = c .before .before .before .before .before .before .alone .ensures in
-    let e = c .before .before .before .before .pass .ensures in
-    (own-arrived _ _ _ _ _ _ _ (s .pre .0 .1) w h q _ _ _ _ (e .0), e .1)
+returns c = (le.fits-is (c .before .before .meet-all .ensures), c .before .before .before .before .before .before .before .before .before .before .before .before .before .pre .1)
+
+scarce-requires : tie.Need-scarce-requires
+scarce-requires c κs = c .before .before .before .before .before .before .before .before .before .before .before .pre
+
+returns-2 : tie.Need-returns-2
+returns-2 c = c .before .before .before .before .scarce .ensures
 
 pub arrive-spec : {M : Type 1} → statement M
 arrive-spec =
     tie.close
     (tie.spec
+    add-if1
+    free-requires
+    meet-all-requires
     (λ c. search needs)
-    arriving-requires
-    (λ c. search needs)
-    arriving-requires-2
-    (λ c κs. search needs)
-    pass-requires
+    returns
+    scarce-requires
     (λ c. search needs)
     (λ c. search needs)
-    returns)
+    returns-2)

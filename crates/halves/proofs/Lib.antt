@@ -1,0 +1,2 @@
+pub mod HalfOfStep
+pub mod NextRecord

@@ -1,0 +1,111 @@
+-- `halves::add` meets its contract. Additions take no entry away, so where one has no room the end has none. Assumes nothing.
+use mathlib.Core.Path.{_≡_, ap, _∙_}
+use mathlib.Core.Bool.{cond, _&&_}
+use Prim.Native.Nat.{ℕ, _+_, _-_, _%_}
+use native.Mathlib.Omega.{arith}
+use Rattle.marks.specs.Marks.{bit}
+use Rattle.passing.specs.Row.{rowOf, passes}
+use Rattle.worktable.specs.Map.{put, size}
+use Rattle.worktable.specs.Table.{mapOf}
+use Rattle.meeting.specs.Passing.{met}
+use Rattle.meeting.specs.Answer.{ArrivedIs}
+use Rattle.meeting.proofs.Leading as le
+use Rattle.meeting.proofs.Loops as lo
+use Rattle.meeting.proofs.Loops.{Went}
+use Rattle.halves.specs.Half.{inHalf, adds}
+use Rattle.halves.proofs.HalfOfStep.{adds-size}
+use Rattle.halves.proofs.NextRecord as nx
+use borrow.Author.Needs.{needs}
+use Rattle.halves.proofs.add.Statement.{statement}
+use Rattle.halves.proofs.add.Tie as tie
+
+abbrev Inv-loop : tie.InvT-loop
+Inv-loop held₀ vertices walks hops arriving half marks n table₀ j₀ held table j =
+    Went (rowOf vertices walks hops arriving .from) (adds (rowOf vertices walks hops arriving) marks half) n table₀ held₀ table held j
+
+abbrev μ-loop : tie.MeasureT-loop
+μ-loop held₀ vertices walks hops arriving half marks n table₀ j₀ held table j = n - j
+
+add-n : tie.Need-add-n Inv-loop μ-loop
+add-n c =
+    let s = c .before .before .before .before .before .before in record { fits = omega (arith, s .pre .0 .sound .counted .walks, s .pre .0 .sound .counted .hops, s .good) }
+
+loop-holds : tie.Need-loop-holds Inv-loop μ-loop
+loop-holds c = lo.went-none (c .before .before .before .before .before .before .pre .0 .order)
+
+from-at-requires : tie.Need-from-at-requires Inv-loop μ-loop
+from-at-requires c κs = (c .before .before .before .before .before .before .before .before .pre .0 .sound .counted, c .loop-test .taken)
+
+offer-at-requires : tie.Need-offer-at-requires Inv-loop μ-loop
+offer-at-requires c κs = (c .before .before .before .before .before .before .before .before .before .pre .0 .sound, c .before .loop-test .taken)
+
+add-one-requires : tie.Need-add-one-requires Inv-loop μ-loop
+add-one-requires c κs =
+    let s = c .before .before .before .before .before .before .before .before .before .before .before in
+    let a = s .args in
+    let y = s .pre .0 in
+    let L = c .before .before .before .before .loop in
+    let R = rowOf (a .vertices .now) (a .walks .now) (a .hops .now) (a .arriving) in
+    let q = c .before .before .from-at .ensures in
+    let l = c .before .before .before .loop-test .taken in
+    let i = L .inv .leads in
+    ((i .holds .order, rw q (y .leaves .low (L .j) l), y .leaves .vertices, c .before .offer-at .ensures .1, s .pre .1), λ h on. nx.added-left R (passes (a .arriving)) (mapOf (a .t) (a .held .now)) (L .j) l q (a .half) (a .marks .now) (y .news) (i .holds .map) h on)
+
+same-length : tie.Need-same-length Inv-loop μ-loop
+same-length c =
+    c .before .before .before .before .add-one .kept .0 ∙ c .before .before .before .before .before .before .before .before .before .loop .inv .lengths
+
+returns : tie.Need-returns Inv-loop μ-loop
+unfolding ArrivedIs
+returns c =
+    let s = c .before .before .before .before .before .before .before .before .before .before .before .before .before .before .before .before in
+    let a = s .args in
+    let L = c .before .before .before .before .before .before .before .before .before .loop in
+    let R = rowOf (a .vertices .now) (a .walks .now) (a .hops .now) (a .arriving) in
+    let i = L .inv .leads in
+    let m = mapOf (a .t) (a .held .now) in
+    let f = lo.step-map (R .from) (R .offer) (λ u x e. cond (inHalf (a .half) u && bit (a .marks .now) (u % 32768)) (met x (R .departing u) e) e) m (L .j) (i .holds .map) (c .before .before .before .before .before .before .before .from-at .ensures) (c .before .before .before .before .before .before .offer-at .ensures .0) in
+    let z = le.none-fits (L .table) (c .before .before .before .before .add-one .last .0) _ (c .before .before .before .before .add-one .ensures) (c .enum-told .given .1) in
+    omega (arith, z, i .capacity, ap size f, adds-size R (passes (a .arriving)) (a .half) (a .marks .now) m (s .pre .0 .news) (L .j + 1) (passes (a .arriving)) (omega (arith, c .before .before .before .before .before .before .before .before .loop-test .taken)))
+
+add-j : tie.Need-add-j Inv-loop μ-loop
+add-j c =
+    let s = c .before .before .before .before .before .before .before .before .before .before .before .before .before .before .before .before .before in record { fits = omega (arith, c .before .before .before .before .before .before .before .before .before .loop-test .taken, s .pre .0 .sound .counted .walks, s .pre .0 .sound .counted .hops, s .good) }
+
+loop-less : tie.Need-loop-less Inv-loop μ-loop
+loop-less c =
+    omega (arith, c .before .before .before .before .before .before .before .before .before .loop-test .taken)
+
+loop-again : tie.Need-loop-again Inv-loop μ-loop
+loop-again c =
+    let a = c .before .before .before .before .before .before .before .before .before .before .before .before .before .before .before .before .before .args in
+    let R = rowOf (a .vertices .now) (a .walks .now) (a .hops .now) (a .arriving) in
+    lo.went-on (R .from) (R .offer) (λ u x e. cond (inHalf (a .half) u && bit (a .marks .now) (u % 32768)) (met x (R .departing u) e) e) (c .before .before .before .before .before .before .before .before .before .before .loop .inv) (c .before .before .before .before .before .before .before .before .before .loop-test .taken) (c .before .before .before .before .before .add-one .kept .0)
+    (le.fits-leads (c .before .before .before .before .before .add-one .ensures) (c .before .next .given .1)) (c .before .before .before .before .before .before .before .before .from-at .ensures) (c .before .before .before .before .before .before .before .offer-at .ensures .0)
+
+same-length-2 : tie.Need-same-length-2 Inv-loop μ-loop
+same-length-2 c = c .before .loop .inv .lengths
+
+returns-2 : tie.Need-returns-2 Inv-loop μ-loop
+returns-2 c = le.fits-is (lo.went-all (c .before .loop .inv) (c .loop-test .left))
+
+pub add-spec : {M : Type 1} → statement M
+add-spec =
+    tie.close
+    (tie.spec
+    Inv-loop
+    μ-loop
+    add-n
+    loop-holds
+    from-at-requires
+    offer-at-requires
+    add-one-requires
+    (λ c. search needs)
+    (λ c. search needs)
+    same-length
+    returns
+    add-j
+    loop-less
+    loop-again
+    same-length-2
+    returns-2)

@@ -1,0 +1,60 @@
+-- `halves::sweep` meets its contract, record by record. Assumes nothing.
+use mathlib.Core.Path.{refl}
+use mathlib.Core.Bool.{cond}
+use Prim.Native.Nat.{ℕ, _-_}
+use native.Mathlib.Omega.{arith}
+use Rattle.passing.specs.Row.{fromOf}
+use Rattle.worktable.specs.Map.{swept}
+use Rattle.meeting.proofs.Loops as lo
+use Rattle.meeting.proofs.Loops.{Went}
+use Rattle.halves.specs.Half.{inHalf, sweeps}
+use borrow.Author.Needs.{needs}
+use Rattle.halves.proofs.sweep.Statement.{statement}
+use Rattle.halves.proofs.sweep.Tie as tie
+
+abbrev Inv-loop : tie.InvT-loop
+Inv-loop held₀ walks hops arriving half n table₀ j₀ held table j =
+    Went (fromOf walks hops arriving) (sweeps (fromOf walks hops arriving) half) n table₀ held₀ table held j
+
+abbrev μ-loop : tie.MeasureT-loop
+μ-loop held₀ walks hops arriving half n table₀ j₀ held table j = n - j
+
+add-n : tie.Need-add-n Inv-loop μ-loop
+add-n c =
+    let s = c .before .before .before .before in record { fits = omega (arith, s .pre .1 .walks, s .pre .1 .hops, s .good) }
+
+loop-holds : tie.Need-loop-holds Inv-loop μ-loop
+loop-holds c = lo.went-none (c .before .before .before .before .pre .0)
+
+from-at-requires : tie.Need-from-at-requires Inv-loop μ-loop
+from-at-requires c κs = (c .before .before .before .before .before .before .pre .1, c .loop-test .taken)
+
+sweep-one-requires : tie.Need-sweep-one-requires Inv-loop μ-loop
+sweep-one-requires c κs = c .before .before .before .loop .inv .leads .holds .order
+
+loop-again : tie.Need-loop-again Inv-loop μ-loop
+loop-again c =
+    let a = c .before .before .before .before .before .before .before .before .before .before .before .args in
+    lo.went-on (fromOf (a .walks .now) (a .hops .now) (a .arriving)) (λ k. 0) (λ u x e. cond (inHalf (a .half) u) (swept e) e) {x = 0} (c .before .before .before .before .before .before .loop .inv) (c .before .before .before .before .before .loop-test .taken) (c .before .before .sweep-one .kept .0) (c .before .before .sweep-one .ensures) (c .before .before .before .before .from-at .ensures) refl
+
+same-length : tie.Need-same-length Inv-loop μ-loop
+same-length c = c .before .loop .inv .lengths
+
+returns : tie.Need-returns Inv-loop μ-loop
+returns c = lo.went-all (c .before .loop .inv) (c .loop-test .left)
+
+pub sweep-spec : {M : Type 1} → statement M
+sweep-spec =
+    tie.close
+    (tie.spec
+    Inv-loop
+    μ-loop
+    add-n
+    loop-holds
+    from-at-requires
+    sweep-one-requires
+    (λ c. search needs)
+    (λ c. search needs)
+    loop-again
+    same-length
+    returns)

@@ -1,0 +1,5 @@
+pub mod Entries
+pub mod Along
+pub mod Sizes
+pub mod Leading
+pub mod Loops

@@ -1,0 +1,77 @@
+-- `meeting::meet_all` meets its contract. The loop has passed the first j records, each of which took one free slot at most. Assumes nothing.
+use Prim.Native.Nat.{ℕ, _-_, _<_}
+use native.Mathlib.Omega.{arith}
+use Rattle.worktable.specs.Map.{size}
+use Rattle.worktable.specs.Table.{mapOf}
+use Rattle.passing.specs.Row.{rowOf, passes}
+use Rattle.meeting.specs.Passing.{met, meets}
+use Rattle.meeting.proofs.Loops as lo
+use Rattle.meeting.proofs.Loops.{Went}
+use Rattle.meeting.proofs.Sizes.{goes-size}
+use borrow.Author.Needs.{needs}
+use Rattle.meeting.proofs.meet_all.Statement.{statement}
+use Rattle.meeting.proofs.meet_all.Tie as tie
+
+abbrev Inv-loop : tie.InvT-loop
+Inv-loop held₀ vertices walks hops arriving n table₀ j₀ held table j =
+    Went (rowOf vertices walks hops arriving .from) (meets (rowOf vertices walks hops arriving)) n table₀ held₀ table held j
+
+abbrev μ-loop : tie.MeasureT-loop
+μ-loop held₀ vertices walks hops arriving n table₀ j₀ held table j = n - j
+
+add-n : tie.Need-add-n Inv-loop μ-loop
+add-n c =
+    let s = c .before .before .before .before .before in record { fits = omega (arith, s .pre .0 .sound .counted .walks, s .pre .0 .sound .counted .hops, s .good) }
+
+loop-holds : tie.Need-loop-holds Inv-loop μ-loop
+loop-holds c = lo.went-none (c .before .before .before .before .before .pre .0 .order)
+
+from-at-requires : tie.Need-from-at-requires Inv-loop μ-loop
+from-at-requires c κs = (c .before .before .before .before .before .before .before .pre .0 .sound .counted, c .loop-test .taken)
+
+offer-at-requires : tie.Need-offer-at-requires Inv-loop μ-loop
+offer-at-requires c κs = (c .before .before .before .before .before .before .before .before .pre .0 .sound, c .before .loop-test .taken)
+
+meet-requires : tie.Need-meet-requires Inv-loop μ-loop
+meet-requires c κs =
+    let s = c .before .before .before .before .before .before .before .before .before .before in
+    let a = s .args in
+    let y = s .pre .0 in
+    let L = c .before .before .before .before .loop in
+    let R = rowOf (a .vertices .now) (a .walks .now) (a .hops .now) (a .arriving) in
+    let m = mapOf (a .t) (a .held .now) in
+    let q = c .before .before .from-at .ensures in
+    let l = c .before .before .before .loop-test .taken in
+    let i = L .inv .leads in
+    let grown = goes-size (R .from) (meets R) m (L .j) (λ k h. lo.from-low (a .vertices .now) (a .walks .now) (a .hops .now) (a .arriving) (y .leaves) k (omega (arith, l))) in
+    let room : size (mapOf (L .table) (L .held)) < L .table .capacity = rw (i .holds .map, i .capacity) (omega (arith, grown, s .pre .1, l)) in
+    ((i .holds .order, rw q (y .leaves .low (L .j) l), y .leaves .vertices, c .before .offer-at .ensures .1), (lo.passed-left R (passes (a .arriving)) m (L .j) l q (y .enough) (i .holds .map), λ z. room))
+
+loop-again : tie.Need-loop-again Inv-loop μ-loop
+loop-again c =
+    let a = c .before .before .before .before .before .before .before .before .before .before .before .before .before .args in
+    let R = rowOf (a .vertices .now) (a .walks .now) (a .hops .now) (a .arriving) in
+    lo.went-on (R .from) (R .offer) (λ u x e. met x (R .departing u) e) (c .before .before .before .before .before .before .before .loop .inv) (c .before .before .before .before .before .before .loop-test .taken) (c .before .before .meet .kept .0) (c .before .before .meet .ensures) (c .before .before .before .before .before .from-at .ensures) (c .before .before .before .before .offer-at .ensures .0)
+
+same-length : tie.Need-same-length Inv-loop μ-loop
+same-length c = c .before .loop .inv .lengths
+
+returns : tie.Need-returns Inv-loop μ-loop
+returns c = lo.went-all (c .before .loop .inv) (c .loop-test .left)
+
+pub meet-all-spec : {M : Type 1} → statement M
+meet-all-spec =
+    tie.close
+    (tie.spec
+    Inv-loop
+    μ-loop
+    add-n
+    loop-holds
+    from-at-requires
+    offer-at-requires
+    meet-requires
+    (λ c. search needs)
+    (λ c. search needs)
+    loop-again
+    same-length
+    returns)

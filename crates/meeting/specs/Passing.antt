@@ -1,0 +1,61 @@
+-- What the records that arrive at a vertex do to the entries of the vertices that they leave. Assumes nothing.
+use mathlib.Core.Bool.{Bool, true, false, cond}
+use mathlib.Core.List.{List}
+use Prim.Native.Nat.{ℕ, zero, suc, _-_, _≤_}
+use lib.Dec.{eqb}
+use Rattle.journeys.specs.Counting.{count}
+use Rattle.passing.specs.Row.{Row, passes, rowOf, Sound, Leaves}
+use Rattle.passing.specs.declared.Arriving.{Arriving}
+use Rattle.worktable.specs.Map.{Entry, absent, known, Map, put, touched, swept}
+use Rattle.worktable.specs.Table.{mapOf, InOrder}
+use Rattle.worktable.specs.declared.Table.{Table}
+
+unfoldable pub missing : Entry → Bool
+missing absent = true
+missing (known d s n) = false
+
+-- a vertex whose record with the offer b has been passed: a new one gets an entry, and that record does not remain to it; a spent one goes
+unfoldable pub entered : ℕ → ℕ → Entry → Entry
+entered b departing absent = known b 0 (departing - 1)
+entered b departing (known d s n) = swept (known d s n)
+
+-- what a record with the offer b does to the entry of the vertex that it leaves
+unfoldable pub met : ℕ → ℕ → Entry → Entry
+met b departing e = entered b departing (touched b e)
+
+-- the first j records, each by f on the entry of the vertex that it leaves
+unfoldable pub goes : (ℕ → ℕ) → (ℕ → Entry → Entry) → ℕ → Map → Map
+goes from f zero m = m
+goes from f (suc j) m = put (goes from f j m) (from j) (f j (goes from f j m (from j)))
+
+-- the entry of u when the first j records have gone by f
+unfoldable pub along : (ℕ → ℕ) → (ℕ → Entry → Entry) → ℕ → ℕ → Entry → Entry
+along from f zero u e = e
+along from f (suc j) u e = cond (eqb (from j) u) (f j (along from f j u e)) (along from f j u e)
+
+abbrev pub meets : Row → ℕ → Entry → Entry
+meets R j = met (R .offer j) (R .departing (R .from j))
+
+-- THE MAP when the first j records of the row have been passed
+abbrev pub passed : Row → ℕ → Map → Map
+passed R j m = goes (R .from) (meets R) j m
+
+-- how many records of a vertex may still be passed
+unfoldable pub left : ℕ → Entry → ℕ
+left departing absent = departing
+left departing (known d s n) = n
+
+-- how many of the first j records leave u
+abbrev pub leaving : Row → ℕ → ℕ → ℕ
+leaving R u j = count (λ i. eqb (R .from i) u) j
+
+-- no vertex has more records in the row than remain to it
+abbrev pub Enough : Row → ℕ → Map → Type 0
+Enough R n m = (u : ℕ) → leaving R u n ≤ left (R .departing u) (m u)
+
+-- what the records of a row may be passed by: the table t with the bytes b
+pub record Ready (v w h : List ℕ) (a : Arriving) (t : Table) (b : List ℕ) : Type 0 where
+  pub order : InOrder t b
+  pub sound : Sound w h a
+  pub leaves : Leaves v w h a
+  pub enough : Enough (rowOf v w h a) (passes a) (mapOf t b)

@@ -1,0 +1,82 @@
+// What the records that arrive at a settled vertex do to the working table, where its free slots suffice for a new vertex at each of them.
+// Promises: the table then holds exactly the map of the definitions.
+// Rests on: the row of `passing`, one look at an entry by `worktable`.
+ghost use mathlib.Core.Path.{_≡_};
+ghost use Prim.Native.Nat.{_+_, _/_, _<_, _≤_};
+ghost use lib.ListN.{length};
+ghost use Rattle.journeys.specs.Tables.{vertexAt};
+ghost use Rattle.worktable.specs.Map.{absent, Figure, put, size};
+ghost use Rattle.worktable.specs.Table.{mapOf, InOrder, PassedIs};
+ghost use Rattle.passing.specs.Row.{passes};
+ghost use Rattle.meeting.specs.Passing.{entered, met, left, Ready};
+ghost use Rattle.meeting.specs.Answer.{Leads, AllMet};
+use passing::Arriving;
+use passing::from_at;
+use passing::offer_at;
+use words::Ticks;
+use words::half_at;
+use worktable::Passed;
+use worktable::Table;
+use worktable::drop;
+use worktable::insert;
+use worktable::pass;
+
+// What a step answers: the table afterwards, or that the step has no room in it.
+pub enum Arrived {
+    Fits(Table),
+    NoRoom,
+}
+
+// What is left to do for the vertex u of a record that has been passed: a new vertex gets an entry, a spent one is dropped.
+pub fn enter_or_drop(
+    held: &mut [u8],
+    t: Table,
+    vertices: &[u8],
+    u: usize,
+    offer: Ticks,
+    told: Passed,
+) -> Table
+    requires { ⌜ InOrder t (now held) × (u < length (now vertices) / 12) × (length (now vertices) / 12 ≤ 65536) × Figure (offer .0) × PassedIs t (now held) u (mapOf t (now held) u) told ⌝ }
+    requires { ⌜ (mapOf t (now held) u ≡ absent → (0 < vertexAt (now vertices) u .departing) × (size (mapOf t (now held)) < t .capacity)) ⌝ }
+    ensures { λ r. ⌜ Leads t r (now (held .exit)) (put (mapOf t (now (held .entry))) u (entered (offer .0) (vertexAt (now (vertices .entry)) u .departing) (mapOf t (now (held .entry)) u))) ⌝ }
+{
+    match told {
+        Passed::Absent => insert(held, t, u, offer.0, half_at(vertices, 12 * u + 8) - 1),
+        Passed::Kept => t,
+        Passed::Spent(slot) => drop(held, t, u, slot),
+    }
+}
+
+// One record from u: u is newly met, or one record less remains to it. A settled vertex to which nothing remains is dropped.
+fn meet(held: &mut [u8], t: Table, vertices: &[u8], u: usize, offer: Ticks) -> Table
+    requires { ⌜ InOrder t (now held) × (u < length (now vertices) / 12) × (length (now vertices) / 12 ≤ 65536) × Figure (offer .0) ⌝ }
+    requires { ⌜ (0 < left (vertexAt (now vertices) u .departing) (mapOf t (now held) u)) × (mapOf t (now held) u ≡ absent → size (mapOf t (now held)) < t .capacity) ⌝ }
+    ensures { λ r. ⌜ Leads t r (now (held .exit)) (put (mapOf t (now (held .entry))) u (met (offer .0) (vertexAt (now (vertices .entry)) u .departing) (mapOf t (now (held .entry)) u))) ⌝ }
+{
+    let told = pass(held, t, u, offer.0);
+    enter_or_drop(held, t, vertices, u, offer, told)
+}
+
+// All records, one after the other. A vertex that is dropped has no further record in the row.
+pub fn meet_all(
+    held: &mut [u8],
+    t: Table,
+    vertices: &[u8],
+    walks: &[u8],
+    hops: &[u8],
+    arriving: Arriving,
+) -> Table
+    requires { ⌜ Ready (now vertices) (now walks) (now hops) arriving t (now held) × (size (mapOf t (now held)) + passes arriving ≤ t .capacity) ⌝ }
+    ensures { λ r. ⌜ AllMet (now (vertices .entry)) (now (walks .entry)) (now (hops .entry)) arriving t (now (held .entry)) (now (held .exit)) r ⌝ }
+{
+    let n = arriving.walks + arriving.hops;
+    let mut table = t;
+    let mut j = 0;
+    while j < n {
+        let u = from_at(walks, hops, arriving, j);
+        let offer = offer_at(walks, hops, arriving, j);
+        table = meet(held, table, vertices, u, offer);
+        j += 1;
+    }
+    table
+}
