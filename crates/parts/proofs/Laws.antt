@@ -14,10 +14,12 @@ use Rattle.journeys.specs.Tables.{walkAt}
 use Rattle.journeys.specs.Parts.{Part, part}
 use Rattle.journeys.specs.Answers.{partBytes}
 use Rattle.journeys.proofs.Counting.{flat-append, flat-length}
-use Rattle.records.specs.Written.{written, partOf}
+use Rattle.words.specs.Written.{written}
+use Rattle.records.specs.Fields.{partOf}
 use Rattle.records.specs.Meaning.{walkOf}
 use Rattle.records.specs.declared.Walk.{Walk}
-use Rattle.records.proofs.Filling.{length-part, length-written, written-next}
+use Rattle.records.proofs.RecordBytes.{length-part}
+use Rattle.words.proofs.Written.{length-written, written-next}
 use Rattle.parts.specs.Listing.{Behind, Overfull, ListedIs, roadOf, nearOn, firstOn, partOn, partsOn}
 use Rattle.parts.specs.declared.Listed.{Listed}
 use Rattle.parts.specs.declared.Listed.the-variants.{Fits, NoRoom}
@@ -62,11 +64,11 @@ pub over-later : {count : ℕ} {ps : List Part} (qs : List Part) {b b′ : List 
 over-later {count} {ps} qs {b} {b′} x = record { over = omega (arith, x .over, length-append ps qs); same = x .same }
 
 -- ---- the offset on a record
-pub near-walk : (e : Road) (i : ℕ) → i ≡ e .walk → e .near ≡ nearOn e i
+pub near-walk : (e : Road) (i : ℕ) → i ≡ e .walk → e .near .0 ≡ nearOn e i
 unfolding nearOn
 near-walk e i p = rw (eq-eqb i (e .walk) p)
 
-pub near-twin : (e : Road) (i : ℕ) → (i ≡ e .walk → ⊥) → i ≡ e .twin → e .back ≡ nearOn e i
+pub near-twin : (e : Road) (i : ℕ) → (i ≡ e .walk → ⊥) → i ≡ e .twin → e .back .0 ≡ nearOn e i
 unfolding nearOn
 near-twin e i n p = rw (ne-eqb i (e .walk) n, eq-eqb i (e .twin) p)
 
@@ -111,19 +113,19 @@ module _ (count : ℕ) (ps : List Part) (b b′ : List ℕ) (h : count ≤ lengt
   listed-end c x = subst (λ (q : List Part). ListedIs count q b b′ (Fits c)) (sym (append-nil ps)) x
 
 -- step 0 without and with a twin
-pub first-alone : (e : Road) (allowed : ℕ) → e .twin ≡ none → part (e .walk) (e .near - allowed) (e .near) ++ [] ≡ firstOn e allowed
+pub first-alone : (e : Road) (allowed : ℕ) → e .twin ≡ none → part (e .walk) (e .near .0 - allowed) (e .near .0) ++ [] ≡ firstOn e allowed
 unfolding firstOn
 first-alone e allowed q = rw (eq-eqb (e .twin) none q)
 
 pub first-both : (e : Road) (allowed : ℕ) → (e .twin ≡ none → ⊥)
-    → part (e .walk) (e .near - allowed) (e .near) ++ part (e .twin) (e .back - allowed) (e .back) ≡ firstOn e allowed
+    → part (e .walk) (e .near .0 - allowed) (e .near .0) ++ part (e .twin) (e .back .0 - allowed) (e .back .0) ≡ firstOn e allowed
 unfolding firstOn
 first-both e allowed q = rw (ne-eqb (e .twin) none q)
 
 -- whatever comes behind, the first part alone is too much
-pub first-over : (e : Road) (allowed : ℕ) (b b′ : List ℕ) → ListedIs 0 (part (e .walk) (e .near - allowed) (e .near)) b b′ NoRoom → ListedIs 0 (firstOn e allowed) b b′ NoRoom
+pub first-over : (e : Road) (allowed : ℕ) (b b′ : List ℕ) → ListedIs 0 (part (e .walk) (e .near .0 - allowed) (e .near .0)) b b′ NoRoom → ListedIs 0 (firstOn e allowed) b b′ NoRoom
 unfolding firstOn
-first-over e allowed b b′ x = listed-over 0 (part (e .walk) (e .near - allowed) (e .near)) (cond (eqb (e .twin) none) [] (part (e .twin) (e .back - allowed) (e .back))) b b′ x
+first-over e allowed b b′ x = listed-over 0 (part (e .walk) (e .near .0 - allowed) (e .near .0)) (cond (eqb (e .twin) none) [] (part (e .twin) (e .back .0 - allowed) (e .back .0))) b b′ x
 
 joined-add : (f : ℕ → List Part) (m n : ℕ) → (ps : List Part) × (joined f (m + n) ≡ joined f m ++ ps)
 unfolding joined
@@ -184,9 +186,9 @@ listed-length count ps b b′ c x =
     let fit : 12 * count + length (flatMap partBytes ps) ≤ length b = omega (arith, flat-length partBytes 12 length-part ps, x .counted, x .room) in
     ap length (x .bytes) ∙ length-written b (12 * count) (flatMap partBytes ps) fit
 
-module _ (e : Road) (allowed x : ℕ) (q : x ≡ e .near - allowed) (b b′ : List ℕ) (r : Listed) (one : ListedIs 0 (part (e .walk) x (e .near)) b b′ r) where
-  first-as : ListedIs 0 (part (e .walk) (e .near - allowed) (e .near)) b b′ r
-  first-as = listed-as 0 _ _ b b′ r (ap (λ (z : ℕ). part (e .walk) z (e .near)) q) one
+module _ (e : Road) (allowed x : ℕ) (q : x ≡ e .near .0 - allowed) (b b′ : List ℕ) (r : Listed) (one : ListedIs 0 (part (e .walk) x (e .near .0)) b b′ r) where
+  first-as : ListedIs 0 (part (e .walk) (e .near .0 - allowed) (e .near .0)) b b′ r
+  first-as = listed-as 0 _ _ b b′ r (ap (λ (z : ℕ). part (e .walk) z (e .near .0)) q) one
 
   pub first-full : r ≡ NoRoom → ListedIs 0 (firstOn e allowed) b b′ NoRoom
   first-full s = first-over e allowed b b′ (listed-is 0 _ b b′ r NoRoom s first-as)
@@ -198,23 +200,23 @@ module _ (e : Road) (allowed x : ℕ) (q : x ≡ e .near - allowed) (b b′ : Li
   first-one c s t =
       listed-as 0 _ _ b b′ (Fits c) (first-alone e allowed t) (listed-end 0 _ b b′ (omega arith) c (listed-is 0 _ b b′ r (Fits c) s first-as))
 
-  pub first-two : (c : ℕ) → r ≡ Fits c → (e .twin ≡ none → ⊥) → (y : ℕ) → y ≡ e .back - allowed → (b″ : List ℕ) (r′ : Listed) → ListedIs c (part (e .twin) y (e .back)) b′ b″ r′
+  pub first-two : (c : ℕ) → r ≡ Fits c → (e .twin ≡ none → ⊥) → (y : ℕ) → y ≡ e .back .0 - allowed → (b″ : List ℕ) (r′ : Listed) → ListedIs c (part (e .twin) y (e .back .0)) b′ b″ r′
       → ListedIs 0 (firstOn e allowed) b b″ r′
   first-two c s t y p b″ r′ two =
       listed-as 0 _ _ b b″ r′ (first-both e allowed t)
       (listed-more 0 _ b b′ (omega arith) c _ b″ r′ (listed-is 0 _ b b′ r (Fits c) s first-as)
-      (listed-as c _ _ b′ b″ r′ (ap (λ (z : ℕ). part (e .twin) z (e .back)) p) two))
+      (listed-as c _ _ b′ b″ r′ (ap (λ (z : ℕ). part (e .twin) z (e .back .0)) p) two))
 
 pub parts-end : (w : List ℕ) (e : Road) (left first i end count : ℕ) (b b′ : List ℕ) (r : Listed) → i ≡ end → ListedIs count (partsOn w e left first (i - first)) b b′ r
     → ListedIs count (partsOn w e left first (end - first)) b b′ r
 parts-end w e left first i end count b b′ r q x = subst (λ (k : ℕ). ListedIs count (partsOn w e left first (k - first)) b b′ r) q x
 
 -- ---- the road as it is read
-pub road-is : (i offset : ℕ) (w : tables.Walk) (r : Walk) → r ≡ walkOf w → record { walk = i; twin = r .twin; near = offset; back = r .len .0 - offset } ≡ roadOf i w offset
+pub road-is : (i offset : ℕ) (w : tables.Walk) (r : Walk) → r ≡ walkOf w → record { walk = i; twin = r .twin; near = record { 0 = offset }; back = record { 0 = r .len .0 - offset } } ≡ roadOf i w offset
 road-is i offset w r e = ap (λ (x : Walk). roadIn x) e
   where
     roadIn : Walk → Road
-    roadIn x = record { walk = i; twin = x .twin; near = offset; back = x .len .0 - offset }
+    roadIn x = record { walk = i; twin = x .twin; near = record { 0 = offset }; back = record { 0 = x .len .0 - offset } }
 
 pub len-is : (w : tables.Walk) (r : Walk) → r ≡ walkOf w → r .len .0 ≡ w .len
 len-is w r e = ap (λ (x : Walk). x .len .0) e

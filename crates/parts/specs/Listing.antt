@@ -9,22 +9,22 @@ use Rattle.journeys.specs.Counting.{none, joined}
 use Rattle.journeys.specs.Tables.{Walk, walkAt}
 use Rattle.journeys.specs.Parts.{Part, part}
 use Rattle.journeys.specs.Answers.{partBytes}
-use Rattle.records.specs.Written.{written}
+use Rattle.words.specs.Written.{written}
 use Rattle.parts.specs.declared.Listed.{Listed}
 use Rattle.parts.specs.declared.Listed.the-variants.{Fits, NoRoom}
 use Rattle.parts.specs.declared.Road.{Road}
 
 -- the road of the query: record i, an offset on it
 abbrev pub roadOf : ℕ → Walk → ℕ → Road
-roadOf i w offset = record { walk = i; twin = w .twin; near = offset; back = w .len - offset }
+roadOf i w offset = record { walk = i; twin = w .twin; near = record { 0 = offset }; back = record { 0 = w .len - offset } }
 
 -- the offset of the query place on record i
 unfoldable pub nearOn : Road → ℕ → ℕ
-nearOn e i = cond (eqb i (e .walk)) (e .near) (cond (eqb i (e .twin)) (e .back) 0)
+nearOn e i = cond (eqb i (e .walk)) (e .near .0) (cond (eqb i (e .twin)) (e .back .0) 0)
 
 -- step 0
 unfoldable pub firstOn : Road → ℕ → List Part
-firstOn e allowed = part (e .walk) (e .near - allowed) (e .near) ++ cond (eqb (e .twin) none) [] (part (e .twin) (e .back - allowed) (e .back))
+firstOn e allowed = part (e .walk) (e .near .0 - allowed) (e .near .0) ++ cond (eqb (e .twin) none) [] (part (e .twin) (e .back .0 - allowed) (e .back .0))
 
 -- the part of walk i where `left` ticks are left at its end; those of n walks from `first` on
 unfoldable pub partOn : List ℕ → Road → ℕ → ℕ → List Part

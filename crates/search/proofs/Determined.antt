@@ -8,7 +8,7 @@ use Rattle.journeys.specs.Answers as answers
 use Rattle.journeys.specs.Answers.{Lent, Allowed}
 use Rattle.journeys.proofs.Determined.{answer-unique}
 use Rattle.search.specs.Progress.{answerOf}
-use Rattle.search.specs.declared.Answer.{Answer}
+use Rattle.records.specs.declared.Answer.{Answer}
 use Rattle.search.proofs.run.Reads as run
 
 -- the six numbers again

@@ -1,3 +1,1 @@
-pub mod Model
-pub mod Asked
 pub mod Progress

@@ -10,7 +10,7 @@ use Rattle.parts.proofs.list_walk.Reads as list-walk-reads
 
 abbrev Inv-loop : tie.InvT-loop
 Inv-loop parts₀ count walks first end e left listed₀ i₀ parts listed i =
-    ListedIs count (partsOn walks e left first (i - first)) parts₀ parts (Fits listed) × (first ≤ i) × (i ≤ end)
+    ListedIs count (partsOn walks e (left .0) first (i - first)) parts₀ parts (Fits listed) × (first ≤ i) × (i ≤ end)
 
 abbrev μ-loop : tie.MeasureT-loop
 μ-loop parts₀ count walks first end e left listed₀ i₀ parts listed i = end - i

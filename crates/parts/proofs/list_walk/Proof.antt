@@ -3,15 +3,15 @@ use borrow.Author.Needs.{needs}
 use Rattle.parts.proofs.list_walk.Statement.{statement}
 use Rattle.parts.proofs.list_walk.Tie as tie
 use Rattle.parts.proofs.larger.Reads as larger-reads
-use Rattle.parts.proofs.less.Reads as less-reads
+use Rattle.parts.proofs.walked_back.Reads as walked-back-reads
 use Rattle.parts.proofs.list_part.Reads as list-part-reads
 use Rattle.parts.proofs.near_on.Reads as near-on-reads
-use Rattle.records.proofs.word_at.Reads as word-at-reads
+use Rattle.words.proofs.word_at.Reads as word-at-reads
 
 returns : tie.Need-returns
 returns c =
     listed-as _ _ _ _ _ _
-    (part-on _ _ _ _ _ _ _ _ (c .before .before .before .before .before .before .before .word-at .ensures) (c .before .before .before .before .before .less .ensures) (c .before .before .before .before .near-on .ensures) (c .before .before .before .larger .ensures))
+    (part-on _ _ _ _ _ _ _ _ (c .before .before .before .before .before .before .before .word-at .ensures) (c .before .before .before .before .before .walked-back .ensures) (c .before .before .before .before .near-on .ensures) (c .before .before .before .larger .ensures))
     (c .before .before .list-part .ensures)
 
 pub list-walk-spec : {M : Type 1} → statement M

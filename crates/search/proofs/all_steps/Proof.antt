@@ -1,8 +1,9 @@
 use denote.Ref.{now}
-use Rattle.search.specs.Asked.{queryOf}
-use Rattle.search.specs.Progress.{lent}
-use Rattle.search.proofs.Beginning.{road-fits, window-some, window-is, road-needs, opens-as, shut-as, begins, shut}
-use Rattle.search.proofs.Closing.{ends-back, shut-back}
+use Rattle.records.specs.Asked.{queryOf}
+use Rattle.intake.specs.Lending.{lent}
+use Rattle.opening.proofs.FirstHeld.{road-fits, road-needs}
+use Rattle.search.proofs.RunningFirst.{window-some, window-is, opens-as, shut-as, begins, shut}
+use Rattle.search.proofs.FromStepZero.{ends-back, shut-back}
 use borrow.Author.Needs.{needs}
 use Rattle.search.proofs.all_steps.Statement.{statement}
 use Rattle.search.proofs.all_steps.Tie as tie
@@ -13,14 +14,14 @@ read-road-requires c κs = let a = c .before .before .before .before .before .be
 ticks-of-requires : tie.Need-ticks-of-requires
 ticks-of-requires c κs = let a = c .before .before .before .before .before .before .before .before .before in (window-some (lent (now (a .args .vertices)) (now (a .args .walks)) (now (a .args .hops)) (now (a .args .held)) (now (a .args .settled)) (now (a .args .parts))) (queryOf (a .args .q)) (a .pre .0), a .pre .0 .query .speed-high)
 
-open-requires : tie.Need-open-requires
-open-requires c κs = let a = c .before .before .before .before .before .before .before .before .before .before .before .before in road-needs (lent (now (a .args .vertices)) (now (a .args .walks)) (now (a .args .hops)) (now (a .args .held)) (now (a .args .settled)) (now (a .args .parts))) (queryOf (a .args .q)) (a .pre .0) _ (c .before .before .before .before .read-road .ensures) (a .pre .2)
+begin-requires : tie.Need-begin-requires
+begin-requires c κs = let a = c .before .before .before .before .before .before .before .before .before .before .before .before in road-needs (lent (now (a .args .vertices)) (now (a .args .walks)) (now (a .args .hops)) (now (a .args .held)) (now (a .args .settled)) (now (a .args .parts))) (queryOf (a .args .q)) (a .pre .0) _ (c .before .before .before .before .read-road .ensures) (a .pre .2)
 
 steps-requires : tie.Need-steps-requires
 steps-requires c κs =
     let a = c .before .before .before .before .before .before .before .before .before .before .before .before .before .before .before .before .before .before .before .before .before .before .before .before in
     let b = lent (now (a .args .vertices)) (now (a .args .walks)) (now (a .args .hops)) (now (a .args .held)) (now (a .args .settled)) (now (a .args .parts)) in
-    let h = opens-as b (queryOf (a .args .q)) (a .pre .0) _ (c .before .before .before .before .before .before .before .before .before .before .before .before .before .before .before .before .read-road .ensures) _ (window-is b (queryOf (a .args .q)) (a .pre .0) _ (c .before .before .before .before .before .before .before .before .before .before .before .before .before .before .ticks-of .ensures)) _ _ _ (c .before .before .before .before .before .before .before .before .before .before .before .open .ensures) _ (c .before .before .before .before .before .start .given .1) in (
+    let h = opens-as b (queryOf (a .args .q)) (a .pre .0) _ (c .before .before .before .before .before .before .before .before .before .before .before .before .before .before .before .before .read-road .ensures) _ (window-is b (queryOf (a .args .q)) (a .pre .0) _ (c .before .before .before .before .before .before .before .before .before .before .before .before .before .before .ticks-of .ensures)) _ _ _ (c .before .before .before .before .before .before .before .before .before .before .before .begin .ensures) _ (c .before .before .before .before .before .start .given .1) in (
       (a .pre .0, window-is b (queryOf (a .args .q)) (a .pre .0) _ (c .before .before .before .before .before .before .before .before .before .before .before .before .before .before .ticks-of .ensures), c .before .before .before .before .before .before .before .before .before .before .before .before .before .before .before .before .read-road .ensures, a .pre .1, h .count),
       begins b (queryOf (a .args .q)) (a .pre .0) _ _ _ h (c .before .before .before .before .before .before .before .before .before .before .held .given) (c .before .before .before .before .before .before .before .before .parts .given),
     )
@@ -29,7 +30,7 @@ returns : tie.Need-returns
 returns c =
     let a = c .before .before .before .before .before .before .before .before .before .before .before .before .before .before .before .before .before .before .before .before in
     let b = lent (now (a .args .vertices)) (now (a .args .walks)) (now (a .args .hops)) (now (a .args .held)) (now (a .args .settled)) (now (a .args .parts)) in (
-      shut-back b (queryOf (a .args .q)) _ _ _ _ _ (shut b (queryOf (a .args .q)) (a .pre .0) _ _ (shut-as b (queryOf (a .args .q)) (a .pre .0) _ (c .before .before .before .before .before .before .before .before .before .before .before .before .read-road .ensures) _ (window-is b (queryOf (a .args .q)) (a .pre .0) _ (c .before .before .before .before .before .before .before .before .before .before .ticks-of .ensures)) _ _ _ (c .before .before .before .before .before .before .before .open .ensures) _ (c .before .n .given .1))),
+      shut-back b (queryOf (a .args .q)) _ _ _ _ _ (shut b (queryOf (a .args .q)) (a .pre .0) _ _ (shut-as b (queryOf (a .args .q)) (a .pre .0) _ (c .before .before .before .before .before .before .before .before .before .before .before .before .read-road .ensures) _ (window-is b (queryOf (a .args .q)) (a .pre .0) _ (c .before .before .before .before .before .before .before .before .before .before .ticks-of .ensures)) _ _ _ (c .before .before .before .before .before .before .before .begin .ensures) _ (c .before .n .given .1))),
       a .pre .1,
     )
 
@@ -37,7 +38,7 @@ returns-2 : tie.Need-returns-2
 returns-2 c =
     let a = c .before .before .before .before .before .before .before .before .before .before .before .before .before .before .before .before .before .before .before .before .before .before .before .before .before .before .before .before .before .before .before .before .before in
     let b = lent (now (a .args .vertices)) (now (a .args .walks)) (now (a .args .hops)) (now (a .args .held)) (now (a .args .settled)) (now (a .args .parts)) in
-    let h = opens-as b (queryOf (a .args .q)) (a .pre .0) _ (c .before .before .before .before .before .before .before .before .before .before .before .before .before .before .before .before .before .before .before .before .before .before .before .before .before .read-road .ensures) _ (window-is b (queryOf (a .args .q)) (a .pre .0) _ (c .before .before .before .before .before .before .before .before .before .before .before .before .before .before .before .before .before .before .before .before .before .before .before .ticks-of .ensures)) _ _ _ (c .before .before .before .before .before .before .before .before .before .before .before .before .before .before .before .before .before .before .before .before .open .ensures) _ (c .before .before .before .before .before .before .before .before .before .before .before .before .before .before .start .given .1) in (
+    let h = opens-as b (queryOf (a .args .q)) (a .pre .0) _ (c .before .before .before .before .before .before .before .before .before .before .before .before .before .before .before .before .before .before .before .before .before .before .before .before .before .read-road .ensures) _ (window-is b (queryOf (a .args .q)) (a .pre .0) _ (c .before .before .before .before .before .before .before .before .before .before .before .before .before .before .before .before .before .before .before .before .before .before .before .ticks-of .ensures)) _ _ _ (c .before .before .before .before .before .before .before .before .before .before .before .before .before .before .before .before .before .before .before .before .begin .ensures) _ (c .before .before .before .before .before .before .before .before .before .before .before .before .before .before .start .given .1) in (
       ends-back b (queryOf (a .args .q)) (a .pre .0) _ _ _ h (c .before .before .before .before .before .before .before .before .before .before .before .before .before .before .before .before .before .before .before .held .given) (c .before .before .before .before .before .before .before .before .before .before .before .before .before .before .before .before .before .parts .given) _ _ _ _ _ (c .before .before .before .before .before .before .before .before .steps .ensures .0),
       c .before .before .before .before .before .before .before .before .steps .ensures .1,
     )
@@ -49,7 +50,7 @@ all-steps-spec =
     read-road-requires
     (λ c. search needs)
     ticks-of-requires
-    open-requires
+    begin-requires
     (λ c. search needs)
     (λ c. search needs)
     steps-requires

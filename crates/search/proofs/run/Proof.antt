@@ -1,11 +1,11 @@
-use mathlib.Core.Path.{sym, ap, subst, _∙_}
+use mathlib.Core.Path.{sym, ap, _∙_}
 use Prim.Native.Nat.{ℕ}
 use native.Mathlib.Omega.{arith}
 use lib.ListN.{length, length-replicate}
 use denote.Ref.{now}
-use Rattle.search.specs.Asked.{queryOf}
-use Rattle.search.specs.Progress.{lent, Reaches}
-use Rattle.search.proofs.Closing.{refused-early, valid, whole-held, fits-end, concluded, step-low, late}
+use Rattle.records.specs.Asked.{queryOf}
+use Rattle.intake.specs.Lending.{lent}
+use Rattle.search.proofs.AnswerAllowed.{refused-early, valid, whole-held, fits-end, concluded, step-low, late}
 use borrow.Author.Needs.{needs}
 use Rattle.search.proofs.run.Statement.{statement}
 use Rattle.search.proofs.run.Tie as tie
@@ -26,23 +26,27 @@ all-steps-requires c κs =
 
 conclude-requires : tie.Need-conclude-requires
 conclude-requires c κs =
-    let a = c .before .before .before .before .before .before .before .before .before .before .before .before .before .before .before .before .before .before .before .before .before .before .before .before .before .before .before .before .before .before .before in
-    fits-end (lent (now (a .args .vertices)) (now (a .args .walks)) (now (a .args .hops)) (now (a .args .held)) (now (a .args .settled)) (now (a .args .parts))) (queryOf (a .args .q)) (a .args .limit) _ (c .before .before .before .before .before .before .before .before .before .before .before .before .before .before .before .before .before .before .before .before .input-fault .ensures .0) (c .before .before .before .before .before .before .before .before .before .before .before .before .before .before .before .before .before .before .if1 .left) _ _ _ _ _ (subst (Reaches _ _ _ _ _ _) (c .before .before .before .before .p .given .1) (c .before .before .before .before .before .before .before .before .before .before .before .before .before .all-steps .ensures .0)) (c .before .before .before .before .before .before .before .before .before .before .settled .given) (c .before .before .before .before .before .before .before .before .parts .given)
+    let s = c .before .before .before .before .before .before .before .before .before .before .before .before .before in
+    let a = s .before .before .before .before .before .before .before .before .before .before .before .before .before .before .before .before .before .before in
+    fits-end (lent (now (a .args .vertices)) (now (a .args .walks)) (now (a .args .hops)) (now (a .args .held)) (now (a .args .settled)) (now (a .args .parts))) (queryOf (a .args .q)) (a .args .limit) _ (s .before .before .before .before .before .before .before .input-fault .ensures .0) (s .before .before .before .before .before .if1 .left) _ _ _ _ (s .all-steps .ensures .0) _ _ (c .before .before .before .before .p .given .1) (c .before .before .before .before .before .before .before .before .before .before .settled .given) (c .before .before .before .before .before .before .before .before .parts .given)
 
-cast-refusal : tie.Need-cast-refusal
-cast-refusal c =
-    let a = c .before .before .before .before .before .before .before .before .before .before .before .before .before .before .before .before .before .before .before .before .before .before .before .before .before .before .before .before .before .before .before .before .before .before .before .before .before .before .before .before in
-    omega (arith, step-low (lent (now (a .args .vertices)) (now (a .args .walks)) (now (a .args .hops)) (now (a .args .held)) (now (a .args .settled)) (now (a .args .parts))) (queryOf (a .args .q)) (a .args .limit) _ (c .before .before .before .before .before .before .before .before .before .before .before .before .before .before .before .before .before .before .before .before .before .before .before .before .before .before .before .before .before .input-fault .ensures .0) (c .before .before .before .before .before .before .before .before .before .before .before .before .before .before .before .before .before .before .before .before .before .before .before .before .before .before .before .if1 .left) _ _ _ _ _ (subst (Reaches _ _ _ _ _ _) (c .before .before .before .before .before .before .before .before .before .before .before .before .before .number .given .1) (c .before .before .before .before .before .before .before .before .before .before .before .before .before .before .before .before .before .before .before .before .before .before .all-steps .ensures .0)), a .fits .limit)
+cast-give-up : tie.Need-cast-give-up
+cast-give-up c =
+    let s = c .before .before .before .before .before .before .before .before .before .before .before .before .before in
+    let a = s .before .before .before .before .before .before .before .before .before .before .before .before .before .before .before .before .before .before in
+    omega (arith, step-low (lent (now (a .args .vertices)) (now (a .args .walks)) (now (a .args .hops)) (now (a .args .held)) (now (a .args .settled)) (now (a .args .parts))) (queryOf (a .args .q)) (a .args .limit) _ (s .before .before .before .before .before .before .before .input-fault .ensures .0) (s .before .before .before .before .before .if1 .left) _ _ _ _ (s .all-steps .ensures .0) _ _ (c .before .before .before .before .number .given .1))
 
 returns-2 : tie.Need-returns-2
 returns-2 c =
-    let a = c .before .before .before .before .before .before .before .before .before .before .before .before .before .before .before .before .before .before .before .before .before .before .before .before .before .before .before .before .before .before .before .before .before .before .before .before .before .before in
-    concluded (lent (now (a .args .vertices)) (now (a .args .walks)) (now (a .args .hops)) (now (a .args .held)) (now (a .args .settled)) (now (a .args .parts))) (queryOf (a .args .q)) (a .args .limit) _ (c .before .before .before .before .before .before .before .before .before .before .before .before .before .before .before .before .before .before .before .before .before .before .before .before .before .before .before .input-fault .ensures .0) (c .before .before .before .before .before .before .before .before .before .before .before .before .before .before .before .before .before .before .before .before .before .before .before .before .before .if1 .left) _ _ _ _ _ (subst (Reaches _ _ _ _ _ _) (c .before .before .before .before .before .before .before .before .before .before .before .p .given .1) (c .before .before .before .before .before .before .before .before .before .before .before .before .before .before .before .before .before .before .before .before .all-steps .ensures .0)) _ _ _ _ (c .before .before .before .before .before .before .conclude .ensures) (c .before .before .before .before .before .before .before .before .before .before .before .before .before .before .before .before .before .before .before .held .given) (c .before .before .before .before .before .before .before .before .before .before .before .before .before .before .before .before .before .settled .given) (c .before .before .before .before .before .before .before .before .before .before .before .before .before .before .before .parts .given)
+    let s = c .before .before .before .before .before .before .before .before .before .before .before .before .before .before .before .before .before .before .before .before in
+    let a = s .before .before .before .before .before .before .before .before .before .before .before .before .before .before .before .before .before .before in
+    concluded (lent (now (a .args .vertices)) (now (a .args .walks)) (now (a .args .hops)) (now (a .args .held)) (now (a .args .settled)) (now (a .args .parts))) (queryOf (a .args .q)) (a .args .limit) _ (s .before .before .before .before .before .before .before .input-fault .ensures .0) (s .before .before .before .before .before .if1 .left) _ _ _ _ (s .all-steps .ensures .0) _ _ (c .before .before .before .before .before .before .before .before .before .before .before .p .given .1) _ _ _ _ (c .before .before .before .before .before .before .conclude .ensures) (c .before .before .before .before .before .before .before .before .before .before .before .before .before .before .before .before .before .before .before .held .given) (c .before .before .before .before .before .before .before .before .before .before .before .before .before .before .before .before .before .settled .given) (c .before .before .before .before .before .before .before .before .before .before .before .before .before .before .before .parts .given)
 
 returns-3 : tie.Need-returns-3
 returns-3 c =
-    let a = c .before .before .before .before .before .before .before .before .before .before .before .before .before .before .before .before .before .before .before .before .before .before .before .before .before .before .before .before .before .before .before .before .before .before .before .before .before .before .before .before .before in
-    late (lent (now (a .args .vertices)) (now (a .args .walks)) (now (a .args .hops)) (now (a .args .held)) (now (a .args .settled)) (now (a .args .parts))) (queryOf (a .args .q)) (a .args .limit) _ (c .before .before .before .before .before .before .before .before .before .before .before .before .before .before .before .before .before .before .before .before .before .before .before .before .before .before .before .before .before .before .input-fault .ensures .0) (c .before .before .before .before .before .before .before .before .before .before .before .before .before .before .before .before .before .before .before .before .before .before .before .before .before .before .before .before .if1 .left) _ _ _ _ _ (subst (Reaches _ _ _ _ _ _) (c .before .before .before .before .before .before .before .before .before .before .before .before .before .before .number .given .1) (c .before .before .before .before .before .before .before .before .before .before .before .before .before .before .before .before .before .before .before .before .before .before .before .all-steps .ensures .0)) _ _ _ _ (c .refusal2 .ensures) (c .before .before .before .before .before .before .before .before .before .before .before .clear .ensures) (c .before .before .before .before .before .before .before .clear2 .ensures) (c .before .before .before .clear3 .ensures) (c .before .before .before .before .before .before .before .before .before .before .before .before .before .before .before .before .before .before .before .before .before .before .held .given) (c .before .before .before .before .before .before .before .before .before .before .before .before .before .before .before .before .before .before .before .before .settled .given) (c .before .before .before .before .before .before .before .before .before .before .before .before .before .before .before .before .before .before .parts .given)
+    let s = c .before .before .before .before .before .before .before .before .before .before .before .before .before .before .before .before .before .before .before .before in
+    let a = s .before .before .before .before .before .before .before .before .before .before .before .before .before .before .before .before .before .before in
+    late (lent (now (a .args .vertices)) (now (a .args .walks)) (now (a .args .hops)) (now (a .args .held)) (now (a .args .settled)) (now (a .args .parts))) (queryOf (a .args .q)) (a .args .limit) _ (s .before .before .before .before .before .before .before .input-fault .ensures .0) (s .before .before .before .before .before .if1 .left) _ _ _ _ (s .all-steps .ensures .0) _ _ (c .before .before .before .before .before .before .before .before .before .before .before .number .given .1) _ _ _ _ (c .before .before .before .before .before .before .give-up .ensures) (c .before .before .before .before .before .before .before .before .before .before .before .before .before .before .before .before .before .before .before .held .given) (c .before .before .before .before .before .before .before .before .before .before .before .before .before .before .before .before .before .settled .given) (c .before .before .before .before .before .before .before .before .before .before .before .before .before .before .before .parts .given)
 
 pub run-spec : {M : Type 1} → statement M
 run-spec =
@@ -59,10 +63,7 @@ run-spec =
     (λ c. search needs)
     conclude-requires
     (λ c. search needs)
-    (λ c κs. search needs)
-    (λ c κs. search needs)
-    (λ c κs. search needs)
-    cast-refusal
+    cast-give-up
     (λ c κs. search needs)
     (λ c. search needs)
     (λ c. search needs)

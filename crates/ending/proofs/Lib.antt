@@ -1,0 +1,2 @@
+pub mod RestCleared
+pub mod Determined

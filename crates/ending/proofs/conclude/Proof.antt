@@ -1,0 +1,45 @@
+use mathlib.Core.Path.{refl, ap}
+use Prim.Native.Nat.{ℕ}
+use native.Mathlib.Omega.{arith}
+use denote.Ref.{now}
+use Rattle.worktable.specs.Table.{mapOf}
+use Rattle.ending.proofs.RestCleared.{rest-cleared, size-low}
+use borrow.Author.Needs.{needs}
+use Rattle.ending.proofs.conclude.Statement.{statement}
+use Rattle.ending.proofs.conclude.Tie as tie
+
+cast-t22 : tie.Need-cast-t22
+cast-t22 c = let a = c .before .before .before .before .before .before .before .before .before .before .before .before .before .before .before .before .before .before .before .before in omega (arith, c .before .before .before .before .before .before .before .before .before .before .before .before .before .before .finish .ensures .0, size-low (mapOf (a .args .p .table) (now (a .args .held))))
+
+returns : tie.Need-returns
+returns c =
+    let a = c .before .before .before .before .before .before .before .before .before .before .before .before .before .before .before .before .before .before .before .before in
+    record {
+      answer = ap (λ (n : ℕ). record { refusal = 0; place = 0; settled = a .args .p .settled; parts = a .args .p .parts; held = n; finished = a .args .finished }) (c .before .before .before .before .before .before .before .before .before .before .before .before .before .before .finish .ensures .0);
+      held-is = c .before .before .before .before .before .before .before .before .before .before .before .before .before .before .finish .ensures .1;
+      settled-is = rest-cleared _ _ _ _ (a .pre .1) refl (c .before .before .before .before .before .before .before .before .before .zero .ensures);
+      parts-is = rest-cleared _ _ _ _ (a .pre .2) refl (c .before .before .before .before .zero2 .ensures);
+    }
+
+pub conclude-spec : {M : Type 1} → statement M
+conclude-spec =
+    tie.close
+    (tie.spec
+    (λ c κs. search needs)
+    (λ c. search needs)
+    (λ c. search needs)
+    (λ c. search needs)
+    (λ c. search needs)
+    (λ c κs. search needs)
+    (λ c. search needs)
+    (λ c. search needs)
+    (λ c. search needs)
+    (λ c. search needs)
+    (λ c κs. search needs)
+    (λ c. search needs)
+    (λ c. search needs)
+    cast-t22
+    (λ c. search needs)
+    (λ c. search needs)
+    (λ c. search needs)
+    returns)

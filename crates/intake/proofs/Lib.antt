@@ -1,0 +1,3 @@
+pub mod FirstFault
+pub mod RefusalOrder
+pub mod Determined

@@ -1,0 +1,4 @@
+pub mod SeedTable
+pub mod SeedsHeld
+pub mod OpenEnds
+pub mod FirstHeld

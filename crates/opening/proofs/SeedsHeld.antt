@@ -1,0 +1,130 @@
+-- Before the first step the working table holds the seeds. Assumes nothing.
+use mathlib.Core.Path.{_≡_, refl, sym, ap, ap₂, _∙_}
+use mathlib.Core.Logic.{_≢_}
+use mathlib.Core.Bool.{Bool, true, false, not, cond, _||_}
+use mathlib.Core.List.{[]}
+use Prim.Native.Nat.{ℕ, _-_, _≤_, _<_, min}
+use native.Mathlib.Omega.{arith}
+use native.Mathlib.Decide.{ℕ-discrete}
+use lib.Dec.{eqb}
+use borrow.Author.Tests.{eq-eqb, ne-eqb, lt-ltb, le-ltb}
+use Rattle.journeys.specs.Counting.{none, count}
+use Rattle.journeys.specs.Tables.{Tables, Walk}
+use Rattle.journeys.specs.Query.{Query, asked}
+use Rattle.journeys.specs.Network as network
+use Rattle.journeys.specs.Network.{Network, distanceIn, within, into, offered, remaining, met, held, row, entry}
+use Rattle.journeys.specs.Records.{seed, departing}
+use Rattle.journeys.specs.Records as records
+use Rattle.journeys.proofs.Tests.{and-right, cond-false}
+use Rattle.journeys.proofs.Counting.{least-skip, least-empty, none-count}
+use Rattle.journeys.proofs.Known.{not-within}
+use Rattle.journeys.proofs.Held.{departs, departs-is}
+use Rattle.journeys.proofs.Valid.{GoodWalk, good-walk}
+use Rattle.journeys.specs.Valid.{Valid}
+use Rattle.worktable.specs.Map.{Entry, absent, known, Map, empty, put}
+use Rattle.worktable.proofs.MapLaws.{put-same, put-other}
+use Rattle.heldmap.specs.Model.{heldMap}
+use Rattle.heldmap.proofs.RunIsNetwork.{departs-field}
+use Rattle.opening.specs.Seeds.{seedMap}
+
+-- when nothing is settled
+nothing : (v : ℕ) → within (distanceIn []) v ≡ false
+unfolding distanceIn
+nothing v = not-within (distanceIn []) v (omega arith)
+
+module _ (G : Network) where
+  none-into : (u r : ℕ) → into G (distanceIn []) u r ≡ false
+  unfolding into
+  none-into u r = and-right (eqb (G .from r) u) (nothing (G .to r))
+
+  none-offered : (u r : ℕ) → offered G (distanceIn []) u r ≡ none
+  unfolding offered
+  none-offered u r = cond-false _ none (none-into u r)
+
+  known-first : (u : ℕ) → G .seed u ≤ none → network.known G (distanceIn []) u ≡ G .seed u
+  unfolding network.known
+  known-first u h =
+      omega (arith, least-skip (offered G (distanceIn []) u) 0 (G .records) (omega arith) (λ r a b. omega (arith, none-offered u r)), least-empty (offered G (distanceIn []) u))
+
+  into-first : (u : ℕ) → count (into G (distanceIn []) u) (G .records) ≡ 0
+  into-first u = none-count (into G (distanceIn []) u) (G .records) (λ r l. none-into u r)
+
+  remaining-first : (u : ℕ) → remaining G (distanceIn []) u ≡ departs G u
+  remaining-first u = omega (arith, departs-is G (distanceIn []) u, into-first u)
+
+  -- a seed is held with all its departing records, and nothing else is held
+  first-seed : (u : ℕ) → G .seed u < none → heldMap G (distanceIn []) u ≡ known (G .seed u) 0 (departs G u)
+  unfolding heldMap entry held met row
+  first-seed u h = rw (into-first u, lt-ltb (G .seed u) none h, nothing u, known-first u (omega arith), remaining-first u)
+
+  first-other : (u : ℕ) → none ≤ G .seed u → heldMap G (distanceIn []) u ≡ absent
+  unfolding heldMap entry held met
+  first-other u h = rw (into-first u, le-ltb (G .seed u) none h)
+
+module _ (N : Tables) (Q : Query) (ok : Valid N Q) where
+  abbrev e : Walk
+  e = asked N Q
+
+  good : GoodWalk N (Q .walk)
+  good = good-walk N (ok .tables) (Q .walk) (ok .query .walk-low)
+
+  -- whether "to" is a seed too
+  abbrev pub two : Bool
+  two = not (eqb (e .twin) none) || eqb (Q .offset) (e .len)
+
+  seed-from : seed N Q (e .from) ≡ Q .offset
+  unfolding seed
+  seed-from =
+      rw (eq-eqb (e .from) (e .from) refl, ne-eqb (e .to) (e .from) (λ z. good .apart (sym z))) (omega (arith, ok .query .offset-low, good .len-high))
+
+  seed-to : seed N Q (e .to) ≡ cond two (e .len - Q .offset) none
+  unfolding seed
+  seed-to = rw (ne-eqb (e .from) (e .to) (good .apart), eq-eqb (e .to) (e .to) refl) (go two)
+    where
+      go : (t : Bool) → min none (cond t (e .len - Q .offset) none) ≡ cond t (e .len - Q .offset) none
+      go true = omega (arith, good .len-high)
+      go false = omega arith
+
+  seed-other : (u : ℕ) → u ≢ e .from → u ≢ e .to → seed N Q u ≡ none
+  unfolding seed
+  seed-other u a b = rw (ne-eqb (e .from) u (λ z. a (sym z)), ne-eqb (e .to) u (λ z. b (sym z))) (omega arith)
+
+  -- the entries of the two
+  abbrev pub fromEntry : Entry
+  fromEntry = known (Q .offset) 0 (departing N (e .from))
+
+  abbrev pub toEntry : Entry
+  toEntry = known (e .len - Q .offset) 0 (departing N (e .to))
+
+  at-from : heldMap (records.network N Q) (distanceIn []) (e .from) ≡ known (Q .offset) 0 (departing N (e .from))
+  at-from =
+      first-seed (records.network N Q) (e .from) (omega (arith, seed-from, ok .query .offset-low, good .len-high))
+      ∙ ap₂ (λ (d r : ℕ). known d 0 r) seed-from (departs-field N Q (e .from))
+
+  at-to : (t : Bool) → two ≡ t → heldMap (records.network N Q) (distanceIn []) (e .to) ≡ cond t (known (e .len - Q .offset) 0 (departing N (e .to))) absent
+  at-to true q =
+      let s : seed N Q (e .to) ≡ e .len - Q .offset = seed-to ∙ ap (λ (b : Bool). cond b (e .len - Q .offset) none) q in
+      first-seed (records.network N Q) (e .to) (omega (arith, s, good .len-high)) ∙ ap₂ (λ (d r : ℕ). known d 0 r) s (departs-field N Q (e .to))
+  at-to false q =
+      let s : seed N Q (e .to) ≡ none = seed-to ∙ ap (λ (b : Bool). cond b (e .len - Q .offset) none) q in
+      first-other (records.network N Q) (e .to) (omega (arith, s))
+
+  -- The map of the seeds is what the definitions hold before the first step.
+  pub seeds-held : (t : Bool) → two ≡ t → (u : ℕ) → seedMap (e .from) fromEntry (e .to) toEntry t u ≡ heldMap (records.network N Q) (distanceIn []) u
+  unfolding seedMap empty
+  seeds-held true q u = go (ℕ-discrete u (e .to)) (ℕ-discrete u (e .from))
+    where
+      m : Map
+      m = put empty (e .from) fromEntry
+
+      go : Dec (u ≡ e .to) → Dec (u ≡ e .from) → put m (e .to) toEntry u ≡ heldMap (records.network N Q) (distanceIn []) u
+      go (yes a) b = put-same m (e .to) toEntry u a ∙ sym (ap (heldMap (records.network N Q) (distanceIn [])) a ∙ at-to true q)
+      go (no a) (yes b) = put-other m (e .to) toEntry u a ∙ put-same empty (e .from) fromEntry u b ∙ sym (ap (heldMap (records.network N Q) (distanceIn [])) b ∙ at-from)
+      go (no a) (no b) =
+          put-other m (e .to) toEntry u a ∙ put-other empty (e .from) fromEntry u b ∙ sym (first-other (records.network N Q) u (omega (arith, seed-other u b a)))
+  seeds-held false q u = go (ℕ-discrete u (e .from)) (ℕ-discrete u (e .to))
+    where
+      go : Dec (u ≡ e .from) → Dec (u ≡ e .to) → put empty (e .from) fromEntry u ≡ heldMap (records.network N Q) (distanceIn []) u
+      go (yes b) a = put-same empty (e .from) fromEntry u b ∙ sym (ap (heldMap (records.network N Q) (distanceIn [])) b ∙ at-from)
+      go (no b) (yes a) = put-other empty (e .from) fromEntry u b ∙ sym (ap (heldMap (records.network N Q) (distanceIn [])) a ∙ at-to false q)
+      go (no b) (no a) = put-other empty (e .from) fromEntry u b ∙ sym (first-other (records.network N Q) u (omega (arith, seed-other u b a)))

@@ -1,0 +1,67 @@
+-- The seeds in the working table, and step 0. Assumes nothing.
+use mathlib.Core.Path.{_≡_}
+use mathlib.Core.Logic.{_⊎_}
+use mathlib.Core.Bool.{Bool, not, cond, _||_}
+use mathlib.Core.List.{List}
+use Prim.Native.Nat.{ℕ, _/_, _<_, _≤_}
+use lib.Dec.{eqb}
+use lib.ListN.{length}
+use Rattle.journeys.specs.Counting.{none}
+use Rattle.journeys.specs.Tables.{vertexAt, walkAt}
+use Rattle.journeys.specs.Parts.{Part}
+use Rattle.worktable.specs.Map.{Entry, known, Map, empty, put}
+use Rattle.worktable.specs.Table.{Holds}
+use Rattle.parts.specs.Listing.{Behind}
+use Rattle.parts.specs.declared.Road.{Road}
+use Rattle.stepping.specs.declared.Progress.{Progress}
+use Rattle.stepping.specs.declared.Stepped.{Stepped}
+use Rattle.stepping.specs.declared.Stepped.the-variants.{Next, Full}
+use Rattle.opening.specs.declared.Seeded.{Seeded}
+use Rattle.opening.specs.declared.Seeded.the-variants.{At, NoRoom}
+
+-- the seeds: the entry of "from", and that of "to" if it is one
+unfoldable pub seedMap : ℕ → Entry → ℕ → Entry → Bool → Map
+seedMap from x to y two = cond two (put (put empty from x) to y) (put empty from x)
+
+-- the ticks of the two seeds of the query's road: what is left to walk from "from", and from "to" along the twin
+abbrev pub fromTicksOf : Road → ℕ
+fromTicksOf e = e .near .0
+
+abbrev pub toTicksOf : Road → ℕ
+toTicksOf e = e .back .0
+
+-- whether the place is the end of the road
+unfoldable pub atEnd : Road → Bool
+atEnd e = eqb (e .back .0) 0
+
+-- whether "to" is a seed too: the road has a twin, or the place is its end
+unfoldable pub toIsSeed : Road → Bool
+toIsSeed e = not (eqb (e .twin) none) || atEnd e
+
+-- the seeds of that road
+unfoldable pub firstMap : List ℕ → List ℕ → Road → Map
+firstMap v w e =
+    let from = walkAt w (e .walk) .from in
+    let to = walkAt w (e .walk) .to in
+    seedMap from (known (fromTicksOf e) 0 (vertexAt v from .departing)) to (known (toTicksOf e) 0 (vertexAt v to .departing)) (toIsSeed e)
+
+-- the table holds the seeds; or it has fewer slots than there are seeds
+unfoldable pub SeededIs : List ℕ → ℕ → Map → ℕ → Seeded → Type 0
+SeededIs b capacity m seeds (At t) = Holds t b m × (t .capacity ≡ capacity) × (seeds ≤ capacity)
+SeededIs b capacity m seeds NoRoom = capacity < seeds
+
+-- Step 0 lists the parts ps; m is the map of the seeds, of which there are so many.
+pub record Opens (capacity : ℕ) (m : Map) (seeds : ℕ) (ps : List Part) (held′ parts parts′ : List ℕ) (p : Progress) : Type 0 where
+  pub table : Holds (p .table) held′ m
+  pub slots : p .table .capacity ≡ capacity
+  pub fits : seeds ≤ capacity
+  pub count : p .settled ≡ 0
+  pub parted : Behind 0 ps parts parts′ (p .parts)
+
+-- or which of the two has no room: the lower number
+abbrev pub Shut : ℕ → ℕ → List Part → List ℕ → ℕ → Type 0
+Shut capacity seeds ps parts n = ((n ≡ 8) × (capacity < seeds)) ⊎ ((n ≡ 10) × (seeds ≤ capacity) × (length parts / 12 < length ps))
+
+unfoldable pub OpenIs : ℕ → Map → ℕ → List Part → List ℕ → List ℕ → List ℕ → Stepped → Type 0
+OpenIs capacity m seeds ps held′ parts parts′ (Next p) = Opens capacity m seeds ps held′ parts parts′ p
+OpenIs capacity m seeds ps held′ parts parts′ (Full n) = Shut capacity seeds ps parts n

@@ -1,0 +1,131 @@
+// Step 0 of the run: the seeds are entered into the working table, and the parts up to the query place are listed.
+// Promises: the map of the seeds and the parts listed, or the lowest number that lacks room.
+// Rests on: the working table (`worktable`), `parts`, the readers of `records`.
+use parts::Listed;
+use parts::Road;
+use stepping::Progress;
+use stepping::Stepped;
+use words::Ticks;
+use words::walked;
+use worktable::Table;
+ghost use mathlib.Core.Path.{_≡_};
+ghost use mathlib.Core.Logic.{_≢_};
+ghost use mathlib.Core.Bool.{cond};
+ghost use Prim.Native.Nat.{_/_, _%_, _<_, _≤_, min};
+ghost use lib.ListN.{length};
+ghost use Rattle.journeys.specs.Tables.{vertexAt, walkAt};
+ghost use Rattle.worktable.specs.Map.{known};
+ghost use Rattle.parts.specs.Listing.{firstOn};
+ghost use Rattle.opening.specs.Seeds.{seedMap, fromTicksOf, toTicksOf, atEnd, toIsSeed, firstMap, SeededIs, OpenIs};
+
+// The table with the seeds in it, or that it has too few slots.
+enum Seeded {
+    At(Table),
+    NoRoom,
+}
+
+fn departing_at(vertices: &[u8], u: u32) -> u32
+    requires { ⌜ u < length (now vertices) / 12 ⌝ }
+    ensures { λ r. ⌜ (r ≡ vertexAt (now (vertices .entry)) u .departing) × (r < 65536) ⌝ }
+{
+    words::half_at(vertices, 12 * (u as usize) + 8)
+}
+
+// Before the first step: "from" of the query's road, and "to" where it is a seed too.
+fn seeds(
+    held: &mut [u8],
+    vertices: &[u8],
+    from: u32,
+    near: Ticks,
+    to: u32,
+    back: Ticks,
+    two: bool,
+) -> Seeded
+    requires { ⌜ (length (now held) % 16 ≡ 0) × (length (now vertices) / 12 ≤ 65536) ⌝ }
+    requires { ⌜ (from < length (now vertices) / 12) × (to < length (now vertices) / 12) × (from ≢ to) × (near .0 ≤ 100000) × (back .0 ≤ 100000) ⌝ }
+    ensures { λ r. ⌜ SeededIs (now (held .exit)) (min (length (now (held .entry)) / 16) (min (length (now (vertices .entry)) / 12) 65536)) (seedMap from (known (near .0) 0 (vertexAt (now (vertices .entry)) from .departing)) to (known (back .0) 0 (vertexAt (now (vertices .entry)) to .departing)) two) (cond two 2 1) r ⌝ }
+{
+    let empty = worktable::start(held, vertices.len() / 12);
+    if worktable::capacity(empty) < 1 {
+        return Seeded::NoRoom;
+    }
+    let one = worktable::insert(
+        held,
+        empty,
+        from as usize,
+        near.0,
+        departing_at(vertices, from),
+    );
+    if !two {
+        return Seeded::At(one);
+    }
+    if worktable::capacity(one) < 2 {
+        return Seeded::NoRoom;
+    }
+    Seeded::At(worktable::insert(held, one, to as usize, back.0, departing_at(vertices, to)))
+}
+
+// The ticks of the two seeds: what is left to walk to the query place, from "from" of its road and from "to" along the twin.
+fn from_ticks(e: Road) -> Ticks
+    ensures { λ r. ⌜ r .0 ≡ fromTicksOf e ⌝ }
+{
+    let near = e.near;
+    walked(near)
+}
+
+fn to_ticks(e: Road) -> Ticks
+    ensures { λ r. ⌜ r .0 ≡ toTicksOf e ⌝ }
+{
+    let back = e.back;
+    walked(back)
+}
+
+// Whether the query place is the end of its road.
+fn at_end(e: Road) -> bool
+    ensures { λ r. ⌜ r ≡ atEnd e ⌝ }
+{
+    let left = e.back;
+    left.0 == 0
+}
+
+// Whether "to" of the road is a seed too: it has a twin, or the place is its end.
+fn to_is_seed(e: Road) -> bool
+    ensures { λ r. ⌜ r ≡ toIsSeed e ⌝ }
+{
+    (e.twin != words::NONE) | at_end(e)
+}
+
+// Step 0: the seeds in the table, the parts up to the query place; or which of the two has no room.
+pub fn begin(
+    vertices: &[u8],
+    walks: &[u8],
+    held: &mut [u8],
+    parts: &mut [u8],
+    road: Road,
+    allowed: Ticks,
+) -> Stepped
+    requires { ⌜ (length (now held) % 16 ≡ 0) × (length (now vertices) / 12 ≤ 65536) × (road .walk < length (now walks) / 16) × (road .near .0 ≤ 100000) × (road .back .0 ≤ 100000) ⌝ }
+    requires { ⌜ (walkAt (now walks) (road .walk) .from < length (now vertices) / 12) × (walkAt (now walks) (road .walk) .to < length (now vertices) / 12) × (walkAt (now walks) (road .walk) .from ≢ walkAt (now walks) (road .walk) .to) ⌝ }
+    ensures { λ r. ⌜ OpenIs (min (length (now (held .entry)) / 16) (min (length (now (vertices .entry)) / 12) 65536)) (firstMap (now (vertices .entry)) (now (walks .entry)) road) (cond (toIsSeed road) 2 1) (firstOn road (allowed .0)) (now (held .exit)) (now (parts .entry)) (now (parts .exit)) r ⌝ }
+{
+    let w = records::walk_at(walks, road.walk as usize);
+    let Seeded::At(table) = seeds(
+        held,
+        vertices,
+        w.from,
+        from_ticks(road),
+        w.to,
+        to_ticks(road),
+        to_is_seed(road),
+    ) else {
+        return Stepped::Full(8);
+    };
+    let Listed::Fits(first) = parts::list_first(parts, road, allowed) else {
+        return Stepped::Full(10);
+    };
+    Stepped::Next(Progress {
+        table: table,
+        settled: 0,
+        parts: first,
+    })
+}

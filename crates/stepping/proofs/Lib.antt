@@ -1,0 +1,3 @@
+pub mod SettledEntry
+pub mod NextEntry
+pub mod StepEnds

@@ -1,0 +1,88 @@
+-- One step in the code's terms. Assumes nothing.
+use mathlib.Core.Path.{_≡_, refl, sym, ap, subst, _∙_}
+use mathlib.Core.Logic.{inl, inr}
+use mathlib.Core.List.{List}
+use Prim.Native.Nat.{ℕ, _+_, _-_, _*_, _/_, _≤_, _<_}
+use native.Mathlib.Omega.{arith}
+use lib.ListN.{length}
+use Rattle.journeys.specs.Parts.{Part}
+use Rattle.journeys.specs.Answers.{settledBytes}
+use Rattle.words.specs.Written.{written}
+use Rattle.records.specs.Fields.{settledOf}
+use Rattle.worktable.specs.Map.{Map, size}
+use Rattle.worktable.specs.Table.{mapOf}
+use Rattle.worktable.specs.declared.Table.{Table}
+use Rattle.passing.specs.Row.{Row, passes, rowOf}
+use Rattle.passing.specs.declared.Arriving.{Arriving}
+use Rattle.meeting.specs.Passing.{passed, Enough, Ready}
+use Rattle.meeting.specs.Answer.{Leads, ArrivedIs, Passed}
+use Rattle.meeting.specs.declared.Arrived.{Arrived}
+use Rattle.halves.proofs.NextRecord.{ends-at}
+use Rattle.heldmap.specs.Model.{walksAt, hopsAt, rowAt, settledNow}
+use Rattle.parts.specs.Listing.{Behind, Overfull, ListedIs, partsOn}
+use Rattle.parts.specs.declared.Listed.{Listed}
+use Rattle.parts.specs.declared.Listed.the-variants as listed
+use Rattle.parts.specs.declared.Road.{Road}
+use Rattle.stepping.specs.Taken.{StepIs, Begins}
+use Rattle.stepping.specs.declared.Progress.{Progress}
+use Rattle.stepping.specs.declared.Stepped.the-variants.{Next, Full}
+
+-- x is settled, its arriving records are two parts, and they are passed
+module _ (v w h : List ℕ) (x slot : ℕ) (a : Arriving) (t t1 : Table) (h1 : List ℕ) {held w1 r1 : List ℕ} (B : Begins v w h x slot a t held) (walks-are : w1 ≡ walksAt v w x) (hops-are : r1 ≡ hopsAt v h x)
+    (L : Leads t t1 h1 (settledNow (mapOf t held) x)) where
+  abbrev R : Row
+  R = rowAt v w h x a
+
+  abbrev n : ℕ
+  n = passes a
+
+  abbrev m : Map
+  m = settledNow (mapOf t held) x
+
+  pub ready : Ready v w1 r1 a t1 h1
+  ready =
+      subst (λ (y : List ℕ). Ready v y r1 a t1 h1) (sym walks-are)
+      (subst (λ (y : List ℕ). Ready v (walksAt v w x) y a t1 h1) (sym hops-are)
+      (record { order = L .holds .order; sound = B .sound; leaves = B .leaves; enough = subst (λ (k : Map). Enough R n k) (sym (L .holds .map)) (B .enough) }))
+
+  -- what was passed is the row of x
+  over-parts : (h2 : List ℕ) (r : Arrived) → Passed v w1 r1 a t1 h1 h2 r → ArrivedIs t1 h2 (passed R n (mapOf t1 h1)) r
+  over-parts h2 r p =
+      subst (λ (y : List ℕ). ArrivedIs t1 h2 (passed (rowOf v (walksAt v w x) y a) n (mapOf t1 h1)) r) hops-are
+      (subst (λ (y : List ℕ). ArrivedIs t1 h2 (passed (rowOf v y r1 a) n (mapOf t1 h1)) r) walks-are p)
+
+  pub all-passed : (h2 : List ℕ) (r : Arrived) → Passed v w1 r1 a t1 h1 h2 r → ArrivedIs t h2 (passed R n m) r
+  all-passed h2 r p = ends-at t t1 h2 (L .capacity) r (ap (passed R n) (L .holds .map)) (over-parts h2 r p)
+
+module _ (p : Progress) (m : Map) (x d : ℕ) (w : List ℕ) (road : Road) (left first n : ℕ) (held′ settled settled′ parts parts′ : List ℕ) where
+  abbrev ps : List Part
+  ps = partsOn w road left first n
+
+  -- the parts as the code asks for them: from the first walk as it is read, and up to the end
+  parts-as : (f : ℕ) → f ≡ first → (r : Listed) → ListedIs (p .parts) (partsOn w road left f ((f + n) - f)) parts parts′ r → ListedIs (p .parts) ps parts parts′ r
+  parts-as f e r x =
+      subst (λ (g : ℕ). ListedIs (p .parts) (partsOn w road left g n) parts parts′ r) e
+      (subst (λ (k : ℕ). ListedIs (p .parts) (partsOn w road left f k) parts parts′ r) (let q : (f + n) - f ≡ n = omega arith in q) x)
+
+  pub full-held : p .table .capacity < size m → StepIs p m x d ps held′ settled settled′ parts parts′ (Full 8)
+  unfolding StepIs
+  full-held h = inl (refl, h)
+
+  pub full-settled : size m ≤ p .table .capacity → p .settled ≡ length settled / 8 → StepIs p m x d ps held′ settled settled′ parts parts′ (Full 9)
+  unfolding StepIs
+  full-settled h e = inr (inl (refl, h, omega arith))
+
+  pub full-parts : (f : ℕ) → f ≡ first → size m ≤ p .table .capacity → p .settled ≤ length settled / 8 → (p .settled ≡ length settled / 8 → ⊥) → (r : Listed)
+      → ListedIs (p .parts) (partsOn w road left f ((f + n) - f)) parts parts′ r → r ≡ listed.NoRoom → StepIs p m x d ps held′ settled settled′ parts parts′ (Full 10)
+  unfolding StepIs ListedIs
+  full-parts f i h l ne r a e =
+      let y : Overfull (p .parts) ps parts parts′ = subst (ListedIs (p .parts) ps parts parts′) e (parts-as f i r a) in
+      inr (inr (refl, h, omega arith, y .over))
+
+  pub one-more : (f : ℕ) → f ≡ first → (t2 : Table) (c : ℕ) → Leads (p .table) t2 held′ m → size m ≤ p .table .capacity → p .settled ≤ length settled / 8 → (p .settled ≡ length settled / 8 → ⊥)
+      → settled′ ≡ written settled (8 * p .settled) (settledBytes (settledOf x d)) → (r : Listed) → ListedIs (p .parts) (partsOn w road left f ((f + n) - f)) parts parts′ r
+      → r ≡ listed.Fits c → StepIs p m x d ps held′ settled settled′ parts parts′ (Next (record { table = t2; settled = p .settled + 1; parts = c }))
+  unfolding StepIs ListedIs
+  one-more f i t2 c L h l ne s r a e =
+      let y : Behind (p .parts) ps parts parts′ c = subst (ListedIs (p .parts) ps parts parts′) e (parts-as f i r a) in
+      record { table = L; fits = h; count = refl; room = omega arith; listed = s; parted = y }

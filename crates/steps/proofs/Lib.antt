@@ -1,0 +1,3 @@
+pub mod PartsAsDefined
+pub mod RunningNext
+pub mod LoopEnds

@@ -1,0 +1,90 @@
+// The steps of a run behind step 0, up to its limit.
+// Promises: as many steps as the limit and the order of settling allow, and whether that is all; or the first step that lacks room.
+// Rests on: one step (`stepping`), what it means for the held map (`heldmap`).
+use parts::Road;
+use records::Query;
+use stepping::Progress;
+use stepping::Stepped;
+use words::Ticks;
+use worktable::Nearest;
+use worktable::Table;
+ghost use mathlib.Core.Path.{_≡_};
+ghost use lib.ListN.{replicate};
+ghost use Rattle.journeys.specs.Tables.{tablesOf, walkAt};
+ghost use Rattle.journeys.specs.Query as query;
+ghost use Rattle.worktable.specs.Table.{InOrder};
+ghost use Rattle.parts.specs.Listing.{roadOf};
+ghost use Rattle.records.specs.Asked.{queryOf};
+ghost use Rattle.intake.specs.Lending.{lent};
+ghost use Rattle.steps.specs.Running.{WaitsIs, Stands, Ends};
+ghost use Rattle.journeys.specs.Valid.{Valid};
+
+// The end of the steps: how far they went and whether nothing is left, or the refusal and its step.
+pub enum Ended {
+    Done(Progress, u32),
+    Refused(u32, usize),
+}
+
+// Whether a vertex waits within the ticks allowed.
+fn waits(held: &[u8], t: Table, allowed: Ticks) -> bool
+    requires { ⌜ InOrder t (now held) ⌝ }
+    ensures { λ r. ⌜ WaitsIs t (now (held .entry)) (allowed .0) r ⌝ }
+{
+    match stepping::next(held, t, allowed.0) {
+        Nearest::At(_, _, _) => true,
+        Nearest::Nothing => false,
+    }
+}
+
+// Steps up to the limit: as many as it and the order allow, or the first that lacks room.
+pub fn steps<'a>(
+    vertices: &[u8],
+    walks: &'a [u8],
+    hops: &'a [u8],
+    held: &mut [u8],
+    settled: &mut [u8],
+    parts: &mut [u8],
+    scratch: &mut [u16],
+    start: Progress,
+    q: Query,
+    road: Road,
+    allowed: Ticks,
+    limit: u32,
+) -> Ended
+    requires { ⌜ Valid (tablesOf (now vertices) (now walks) (now hops)) (queryOf q) × (allowed .0 ≡ query.allowed (queryOf q)) × (road ≡ roadOf (q .walk) (walkAt (now walks) (q .walk)) (q .offset .0)) × (now scratch ≡ replicate 2048 0) × (start .settled ≡ 0) ⌝ }
+    requires { ⌜ Stands (lent (now vertices) (now walks) (now hops) (now held) (now settled) (now parts)) (queryOf q) (start .parts) start (now held) (now settled) (now parts) ⌝ }
+    ensures { λ r. ⌜ Ends (lent (now (vertices .entry)) (now (walks .entry)) (now (hops .entry)) (now (held .entry)) (now (settled .entry)) (now (parts .entry))) (queryOf q) limit (start .parts) (now (held .exit)) (now (settled .exit)) (now (parts .exit)) r ⌝ }
+    ensures { λ _. ⌜ now (scratch .exit) ≡ replicate 2048 0 ⌝ }
+{
+    let mut p = start;
+    while p.settled < limit as usize {
+        let table = p.table;
+        let Nearest::At(slot, x, d) = stepping::next(held, table, allowed.0) else {
+            return Ended::Done(p, 1);
+        };
+        let arriving = stepping::arriving_at(vertices, walks, hops, x, d, q.arrival, q.speed);
+        match stepping::step(
+            vertices,
+            walks,
+            hops,
+            held,
+            settled,
+            parts,
+            scratch,
+            p,
+            x,
+            slot,
+            arriving,
+            road,
+            Ticks(allowed.0 - d),
+        ) {
+            Stepped::Next(more) => p = more,
+            Stepped::Full(n) => return Ended::Refused(n, p.settled + 1),
+        }
+    }
+    let table = p.table;
+    if waits(held, table, allowed) {
+        return Ended::Done(p, 0);
+    }
+    Ended::Done(p, 1)
+}
