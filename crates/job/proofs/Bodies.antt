@@ -8,17 +8,13 @@ use native.Mathlib.Omega.{arith}
 use lib.ListN.{length, take, drop, length-drop}
 use lib.Seq.{length-take-le}
 use Rattle.journeys.specs.Counting.{joined}
-use Rattle.job.specs.declared.Asked.{Asked}
+use Rattle.records.specs.declared.Query.{Query}
 use Rattle.job.specs.declared.Job.{Job}
 use Rattle.job.specs.declared.Job.the-variants.{Good}
 use Rattle.job.specs.Job.{Read, job, faulty, Question, body, jobOf, taken}
 use Rattle.job.specs.Steps.{bodies, Laid, LaidOut}
-use Rattle.job.specs.Write.{over, Wrote}
-use Rattle.job.proofs.Written.{both, in-front, over-none}
-
--- one more of so many still fits
-pub one-fits : (k i n m : ℕ) → i < n → k * n ≤ m → k * i + k ≤ m
-one-fits k i n m l h = let le : i + 1 ≤ n = omega arith in omega (arith, mul-le-mul-left k le, mul-add k i 1, mul-one k)
+use Rattle.copying.specs.Write.{over, Wrote}
+use Rattle.copying.proofs.Copied.{both, in-front, over-none}
 
 pub length-body : (s : List ℕ) (size i : ℕ) → 20 * i + 4 + size ≤ length s → length (body s size i) ≡ size
 unfolding body
@@ -57,5 +53,5 @@ table-taken s t b v w h q {d} {d′} {r} e p a = in-front a ∙ ap (λ (l : List
 pub table-kept : (s t : List ℕ) (n : ℕ) (d : List ℕ) → faulty n ≡ jobOf s → d ≡ over (taken (jobOf s) t) d
 table-kept s t n d e = over-none d ∙ ap (λ (x : Read). over (taken x t) d) e
 
-pub laid-of : {s : List ℕ} {r : Job} {v w h : ℕ} {q : Asked} → r ≡ Good v w h q → LaidOut s r → Laid s v w h
+pub laid-of : {s : List ℕ} {r : Job} {v w h : ℕ} {q : Query} → r ≡ Good v w h q → LaidOut s r → Laid s v w h
 laid-of {s} {r} {v} {w} {h} {q} e l = subst (λ (x : Job). LaidOut s x) e l

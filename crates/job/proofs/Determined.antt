@@ -4,8 +4,6 @@ use denote.Ref.{now}
 use Rattle.job.proofs.Told.{told-one}
 use Rattle.job.proofs.read.Reads as read
 use Rattle.job.proofs.load.Reads as load
-use Rattle.job.proofs.text.report.Reads as report
-use Rattle.job.proofs.text.fault_line.Reads as fault-line
 
 pub one-read : (κs : _) (a : _) (z z′ : _) (e e′ : _) → read.Post κs a z e → read.Post κs a z′ e′ → z ≡ z′
 one-read κs a z z′ e e′ p q = told-one z z′ (p .0 ∙ sym (q .0))
@@ -14,11 +12,3 @@ pub one-load : (κs : _) (a : _) (z z′ : _) (e e′ : _) → load.Post κs a z
     → (z ≡ z′) × (now (e .1 .0) ≡ now (e′ .1 .0)) × (now (e .1 .1 .0) ≡ now (e′ .1 .1 .0)) × (now (e .1 .1 .1 .0) ≡ now (e′ .1 .1 .1 .0))
 one-load κs a z z′ e e′ p q =
     (told-one z z′ (p .0 ∙ sym (q .0)), p .1 .1 .0 ∙ sym (q .1 .1 .0), p .1 .1 .1 .0 ∙ sym (q .1 .1 .1 .0), p .1 .1 .1 .1 ∙ sym (q .1 .1 .1 .1))
-
-pub one-report : (κs : _) (a : _) (z z′ : _) (e e′ : _) → report.Post κs a z e → report.Post κs a z′ e′
-    → (z ≡ z′) × (now (e .1 .1 .1 .1 .1 .1 .1 .1 .1 .0) ≡ now (e′ .1 .1 .1 .1 .1 .1 .1 .1 .1 .0))
-one-report κs a z z′ e e′ p q = (p .1 .0 ∙ sym (q .1 .0), p .0 ∙ sym (q .0))
-
-pub one-fault-line : (κs : _) (a : _) (z z′ : _) (e e′ : _) → fault-line.Post κs a z e → fault-line.Post κs a z′ e′
-    → (z ≡ z′) × (now (e .1 .0) ≡ now (e′ .1 .0))
-one-fault-line κs a z z′ e e′ p q = (p .1 .0 ∙ sym (q .1 .0), p .0 ∙ sym (q .0))

@@ -1,10 +1,7 @@
 pub mod Seconds
 pub mod Scan
-pub mod Written
 pub mod Bodies
-pub mod Decimal
-pub mod Lines
 pub mod Told
 pub mod Determined
-pub mod Document
+pub mod BaseJob
 pub mod Long

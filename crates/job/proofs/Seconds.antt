@@ -8,7 +8,7 @@ use lib.IntN.{pos, negsuc, subℕ}
 use borrow.Author.Tests.{lt-ltb, le-ltb}
 use Rattle.journeys.specs.Bytes.{clock, midnight, clocked}
 use Rattle.journeys.proofs.Tests.{le-or-lt}
-use Rattle.records.specs.Meaning.{secondsOf}
+use Rattle.words.specs.Quantities.{secondsOf}
 use Rattle.job.specs.Job.{seconds}
 
 -- what `records` reads of the bits

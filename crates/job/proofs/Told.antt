@@ -4,15 +4,15 @@ use mathlib.Core.List.{List}
 use Prim.Native.Nat.{ℕ, _+_, _*_, _<_}
 use lib.ListN.{getD}
 use Rattle.journeys.specs.Bytes.{be32, clock, clocked}
-use Rattle.journeys.specs.Query.{Query}
-use Rattle.job.specs.declared.Asked.{Asked}
+use Rattle.journeys.specs.Query as query
+use Rattle.records.specs.declared.Query.{Query}
 use Rattle.job.specs.declared.Job.{Job}
 use Rattle.job.specs.declared.Job.the-variants.{Good, Faulty}
 use Rattle.job.specs.Job.{Read, job, faulty, Question, questionAt, be24, told}
 use Rattle.job.proofs.Seconds.{seconds-clocked}
 
-asked : Question → Asked
-asked q = record { record_number = q .walk; offset = q .offset; arrival = q .arrival; duration = q .duration; speed = q .speed }
+asked : Question → Query
+asked q = record { walk = q .walk; offset = record { 0 = q .offset }; arrival = record { 0 = q .arrival }; duration = q .duration; speed = q .speed }
 
 back : Read → Job
 back (job v w h q) = Good v w h (asked q)
@@ -28,7 +28,7 @@ pub told-one : (r r′ : Job) → told r ≡ told r′ → r ≡ r′
 told-one r r′ e = sym (back-told r) ∙ ap back e ∙ back-told r′
 
 -- the query by `clock`, as the definitions of a run have it
-abbrev pub queryOf : Question → Query
+abbrev pub queryOf : Question → query.Query
 queryOf q = record { walk = q .walk; offset = q .offset; arrival = clocked (q .arrival); duration = q .duration; speed = q .speed }
 
 pub query-clocked : (s : List ℕ) (i : ℕ) → be32 s (20 * i + 12) < 4294967296

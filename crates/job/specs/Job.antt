@@ -7,7 +7,7 @@ use lib.IntN.{ℤ, subℕ}
 use lib.ListN.{length, getD, take, drop}
 use Rattle.journeys.specs.Counting.{count, joined}
 use Rattle.journeys.specs.Bytes.{be32, clock, midnight}
-use Rattle.job.specs.declared.Asked.{Asked}
+use Rattle.records.specs.declared.Query.{Query}
 use Rattle.job.specs.declared.Job.{Job}
 use Rattle.job.specs.declared.Job.the-variants.{Good, Faulty}
 
@@ -92,12 +92,12 @@ taken (job v w h q) table = table
 taken (faulty n) table = []
 
 -- ---- the code's answers in the words of document 01
-abbrev pub question : Asked → Question
+abbrev pub question : Query → Question
 question q =
     record {
-      walk = q .record_number;
-      offset = q .offset;
-      arrival = q .arrival;
+      walk = q .walk;
+      offset = q .offset .0;
+      arrival = q .arrival .0;
       duration = q .duration;
       speed = q .speed;
     }

@@ -1,19 +1,18 @@
-// The job reader and the printed text of the program `reach`.
-// It promises, for every input, the job or the number N of document 01, the tables copied out of the 20-byte records, and every byte of the text.
-// It rests on the definitions of `journeys`, on the words and seconds of `records` and on the decimal digits of `io`.
-mod text;
-
-use records::seconds_of;
-use records::word;
-use records::word_at;
-pub use text::fault_line;
-pub use text::report;
+// The job reader of the program `reach`.
+// Promises: for every input the job or the number N of document 01, and the tables copied out of the 20-byte records.
+// Rests on: bytes copied into a buffer (`copying`), the words and seconds of `words`, the query of `records`.
+use copying::put;
+use records::Query;
+use words::Offset;
+use words::seconds_of;
+use words::word;
+use words::word_at;
 ghost use mathlib.Core.Path.{_≡_};
 ghost use Prim.Native.Nat.{_+_, _*_, _/_, _<_, _≤_};
 ghost use lib.ListN.{length};
 ghost use Rattle.job.specs.Job.{be24, questionAt, question, tableOf, told, taken, jobOf};
 ghost use Rattle.job.specs.Steps.{itemOf, endedOf, bodies, LaidOut};
-ghost use Rattle.job.specs.Write.{over, Wrote};
+ghost use Rattle.copying.specs.Write.{over, Wrote};
 
 // What one record of a job is, or its number where it is faulty.
 pub enum Item {
@@ -24,22 +23,13 @@ pub enum Item {
     Faulty(usize),
 }
 
-// The query's fields. The arrival is in signed seconds from midnight.
-pub struct Asked {
-    pub record_number: u32,
-    pub offset: u32,
-    pub arrival: i32,
-    pub duration: u32,
-    pub speed: u32,
-}
-
 // A job with the numbers of its table records, or the number N of document 01.
 pub enum Job {
     Good {
         vertices: usize,
         walks: usize,
         hops: usize,
-        asked: Asked,
+        asked: Query,
     },
     Faulty(usize),
 }
@@ -59,15 +49,15 @@ fn three_bytes(s: &[u8], at: usize) -> u32
 }
 
 // The query that stands in record i.
-fn asked_at(s: &[u8], i: usize) -> Asked
+fn asked_at(s: &[u8], i: usize) -> Query
     requires { ⌜ 20 * (i + 1) ≤ length (now s) ⌝ }
     ensures { λ r. ⌜ question r ≡ questionAt (now (s .entry)) i ⌝ }
 {
     let at = 20 * i;
-    Asked {
-        record_number: word_at(s, at + 4),
-        offset: word_at(s, at + 8),
-        arrival: seconds_of(word_at(s, at + 12)).0,
+    Query {
+        walk: word_at(s, at + 4),
+        offset: Offset(word_at(s, at + 8)),
+        arrival: seconds_of(word_at(s, at + 12)),
         duration: three_bytes(s, at + 16),
         speed: wide(s[at + 19]),
     }
@@ -160,19 +150,6 @@ pub fn read(s: &[u8]) -> Job
         }
     }
     Job::Faulty(whole)
-}
-
-// Copies bytes to a place of a buffer, and answers the place behind them.
-fn put(out: &mut [u8], at: usize, bytes: &[u8]) -> usize
-    requires { ⌜ at + length (now bytes) ≤ length (now out) ⌝ }
-    ensures { λ r. ⌜ Wrote (now (out .entry)) at (now (bytes .entry)) (now (out .exit)) r ⌝ }
-{
-    let mut i = 0;
-    while i < bytes.len() {
-        out[at + i] = bytes[i];
-        i += 1;
-    }
-    at + i
 }
 
 // Copies the bodies of records to the front of a buffer.

@@ -10,8 +10,8 @@ use Rattle.journeys.specs.Counting.{none}
 use Rattle.journeys.specs.Query.{Query}
 use Rattle.journeys.proofs.Determined.{answer-unique}
 use Rattle.job.specs.Job.{Read, job, faulty, jobOf}
-use Rattle.job.specs.Text.{printed}
-use Rattle.job.specs.Write.{over}
+use Rattle.report.specs.Text.{printed}
+use Rattle.copying.specs.Write.{over}
 use Rattle.reach.specs.Says.{Texts, SaysOf, Says, InFront, RunTold, Answered}
 use Rattle.reach.proofs.run_text.Reads as run-text
 use Rattle.reach.proofs.answer.Reads as answer

@@ -18,14 +18,15 @@ use Rattle.journeys.specs.Records.{network}
 use Rattle.journeys.specs.Refusals.{Refusal, unless, orElse, firstFrom, firstBad, tableLengths, bufferLengths, contents, queryRefusal}
 use Rattle.journeys.specs.Answers.{Lent, Answer, early, refusedEarly, Room, roomUpTo, acceptedAfter, refusedLate, answerOver, Allowed}
 use Rattle.journeys.proofs.Tests.{split, cond-true}
-use Rattle.journeys.proofs.Valid.{Valid, early-valid}
+use Rattle.journeys.proofs.Valid.{early-valid}
+use Rattle.journeys.specs.Valid.{Valid}
 use Rattle.journeys.proofs.Decoding.{vertex-count, walk-count}
 use Rattle.journeys.proofs.Refusals.{room-exactly}
 use Rattle.journeys.proofs.Document.{ways, laws, strict, order-dist, allowed-low}
 use Rattle.journeys.proofs.Settling.{order-size}
 use Rattle.journeys.proofs.Fits.{held-most, parts-most, distinct}
 use Rattle.job.specs.Job.{Read, job, faulty, jobOf}
-use Rattle.job.specs.Text.{decimalIn, decimal, field, line, answerWord, printed, fault}
+use Rattle.report.specs.Text.{decimalIn, decimal, field, line, answerWord, printed, fault}
 use Rattle.reach.specs.Says.{roomy, SaysOf, Says}
 use Rattle.reach.proofs.JobSizes.{few}
 

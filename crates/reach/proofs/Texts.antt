@@ -6,7 +6,6 @@ use mathlib.Core.List.{List, []}
 use Prim.Native.Nat.{ℕ, zero, suc, _+_, _*_, _/_, _≤_, _<_}
 use native.Mathlib.Omega.{arith}
 use lib.Dec.{leb}
-use lib.IntN.{ℤ}
 use lib.ListN.{length, take, drop, length-append, length-replicate}
 use lib.Seq.{take-at, take-all}
 use borrow.Author.Tests.{le-leb}
@@ -15,14 +14,14 @@ use Rattle.journeys.specs.Counting.{none}
 use Rattle.journeys.specs.Query.{Query}
 use Rattle.journeys.specs.Answers.{Answer, Allowed}
 use Rattle.journeys.proofs.Tests.{cond-true, and-true, le-or-lt}
-use Rattle.search.specs.Asked.{queryBy}
+use Rattle.records.specs.Asked.{queryOf}
+use Rattle.records.specs.declared.Query as asked
 use Rattle.search.specs.Progress.{answerOf}
-use Rattle.search.specs.declared.Answer as search
+use Rattle.records.specs.declared.Answer as search
 use Rattle.job.specs.Job.{Read, job, faulty, Question, body, tableOf, jobOf, taken, question, told}
 use Rattle.job.specs.Steps.{bodies, Laid, LaidOut}
-use Rattle.job.specs.Text.{printed, fault, fits, report, faultIn}
-use Rattle.job.specs.Write.{over}
-use Rattle.job.specs.declared.Asked.{Asked}
+use Rattle.report.specs.Text.{printed, fault, fits, report, faultIn}
+use Rattle.copying.specs.Write.{over}
 use Rattle.job.specs.declared.Job.{Job}
 use Rattle.job.specs.declared.Job.the-variants.{Good, Faulty}
 use Rattle.job.proofs.Long.{long-job}
@@ -84,7 +83,7 @@ unfolding over
 front-taken s t d d′ n v w h q e l b =
     ap (take n) (b ∙ ap (λ (z : Read). over (taken z t) d) e) ∙ take-at t (drop (length t) d) n l
 
-module _ (s : List ℕ) (j : Job) (v w h : ℕ) (q : Asked) (e : j ≡ Good v w h q) (t : told j ≡ jobOf s) (L : LaidOut s j) where
+module _ (s : List ℕ) (j : Job) (v w h : ℕ) (q : asked.Query) (e : j ≡ Good v w h q) (t : told j ≡ jobOf s) (L : LaidOut s j) where
   pub laid : Laid s v w h
   laid = laid-of e L
 
@@ -100,22 +99,18 @@ module _ (s : List ℕ) (j : Job) (v w h : ℕ) (q : Asked) (e : j ≡ Good v w 
   hops-long : length (tableOf s 3 16) ≡ 16 * h
   hops-long = ap length (laid .hopTable) ∙ length-bodies s 16 (v + w) h (omega arith) (omega (arith, laid .whole))
 
-  -- the run has the tables of the job, and z is the arrival as it stands in the query
-  pub run-answered : (vs vs′ ws ws′ hs hs′ out out′ : List ℕ) (r : ℕ) (z : ℤ) → z ≡ q .arrival → vs′ ≡ over (taken (jobOf s) (tableOf s 1 12)) vs → ws′ ≡ over (taken (jobOf s) (tableOf s 2 16)) ws
+  -- the run has the tables of the job, and its query
+  pub run-answered : (vs vs′ ws ws′ hs hs′ out out′ : List ℕ) (r : ℕ) → vs′ ≡ over (taken (jobOf s) (tableOf s 1 12)) vs → ws′ ≡ over (taken (jobOf s) (tableOf s 2 16)) ws
       → hs′ ≡ over (taken (jobOf s) (tableOf s 3 16)) hs
-      → RunTold (take (12 * v) vs′) (take (16 * w) ws′) (take (16 * h) hs′) (queryBy (q .record_number) (q .offset) z (q .duration) (q .speed)) out out′ r → Answered s out out′ r
+      → RunTold (take (12 * v) vs′) (take (16 * w) ws′) (take (16 * h) hs′) (queryOf q) out out′ r → Answered s out out′ r
   unfolding RunTold Answered Says SaysOf
-  run-answered vs vs′ ws ws′ hs hs′ out out′ r z f a b c R = (R .0, subst (λ (y : Read). SaysOf s y (R .0)) (sym is-job) as-told, R .2)
+  run-answered vs vs′ ws ws′ hs hs′ out out′ r a b c R = (R .0, subst (λ (y : Read). SaysOf s y (R .0)) (sym is-job) as-told, R .2)
     where
-      Q : ℤ → Query
-      Q y = queryBy (q .record_number) (q .offset) y (q .duration) (q .speed)
-
-      as-told : Texts (tableOf s 1 12) (tableOf s 2 16) (tableOf s 3 16) (Q (q .arrival)) (R .0)
+      as-told : Texts (tableOf s 1 12) (tableOf s 2 16) (tableOf s 3 16) (queryOf q) (R .0)
       as-told =
-          subst (λ (y : ℤ). Texts (tableOf s 1 12) (tableOf s 2 16) (tableOf s 3 16) (Q y) (R .0)) f
-          (subst (λ (y : List ℕ). Texts (tableOf s 1 12) (tableOf s 2 16) y (Q z) (R .0)) (front-taken s (tableOf s 3 16) hs hs′ (16 * h) v w h (question q) is-job hops-long c)
-          (subst (λ (y : List ℕ). Texts (tableOf s 1 12) y (take (16 * h) hs′) (Q z) (R .0)) (front-taken s (tableOf s 2 16) ws ws′ (16 * w) v w h (question q) is-job walks-long b)
-          (subst (λ (y : List ℕ). Texts y (take (16 * w) ws′) (take (16 * h) hs′) (Q z) (R .0)) (front-taken s (tableOf s 1 12) vs vs′ (12 * v) v w h (question q) is-job vertices-long a) (R .1))))
+          subst (λ (y : List ℕ). Texts (tableOf s 1 12) (tableOf s 2 16) y (queryOf q) (R .0)) (front-taken s (tableOf s 3 16) hs hs′ (16 * h) v w h (question q) is-job hops-long c)
+          (subst (λ (y : List ℕ). Texts (tableOf s 1 12) y (take (16 * h) hs′) (queryOf q) (R .0)) (front-taken s (tableOf s 2 16) ws ws′ (16 * w) v w h (question q) is-job walks-long b)
+          (subst (λ (y : List ℕ). Texts y (take (16 * w) ws′) (take (16 * h) hs′) (queryOf q) (R .0)) (front-taken s (tableOf s 1 12) vs vs′ (12 * v) v w h (question q) is-job vertices-long a) (R .1)))
 
 -- ---- a longer input
 -- Of an input longer than 51,221 bytes the program reads so many. Its text is that of the whole input.

@@ -6,11 +6,11 @@ use lib.ListN.{length, replicate}
 use Rattle.journeys.specs.Counting.{none}
 use Rattle.journeys.specs.Query.{Query}
 use Rattle.journeys.specs.Answers.{Lent, Answer, Allowed}
-use Rattle.search.specs.Asked.{queryBy}
-use Rattle.search.specs.Progress.{lent}
+use Rattle.records.specs.Asked.{queryBy}
+use Rattle.intake.specs.Lending.{lent}
 use Rattle.job.specs.Job.{Read, job, faulty, Question, tableOf, jobOf}
-use Rattle.job.specs.Text.{printed, fault}
-use Rattle.job.specs.Write.{over}
+use Rattle.report.specs.Text.{printed, fault}
+use Rattle.copying.specs.Write.{over}
 
 -- the tables of a job, with room for all that its 512 vertices and 1,024 walks can need
 abbrev pub roomy : List ℕ → List ℕ → List ℕ → Lent

@@ -1,16 +1,14 @@
 // The program `reach`: a job on standard input, its text on standard output, with room lent for all and no step limit.
 // Promises: the text is that of document 01, for every input (`Says`).
-// Rests on: the job reader and the printed text (`job`), the run (`search`), and the contracts of the C library's read and write.
+// Rests on: the job reader (`job`), the run (`search`), the printed text (`report`), and the contracts of the C library's read and write.
 use job::Job;
-use records::Offset;
-use records::Seconds;
-use search::Query;
+use records::Query;
 ghost use mathlib.Core.Path.{_≡_};
 ghost use mathlib.Core.List.{List};
 ghost use Prim.Native.Nat.{ℕ, _≤_};
 ghost use lib.ListN.{length, take};
 ghost use Rattle.io.specs.Counts.{Counts};
-ghost use Rattle.search.specs.Asked.{queryOf};
+ghost use Rattle.records.specs.Asked.{queryOf};
 ghost use Rattle.reach.specs.Says.{RunTold, Answered};
 
 // The run over the tables of a job, and its text.
@@ -32,18 +30,7 @@ fn run_text<'a>(vertices: &[u8], walks: &'a [u8], hops: &'a [u8], q: Query, out:
         q,
         4294967295,
     );
-    job::report(
-        a.refusal,
-        a.place,
-        a.settled,
-        a.parts,
-        a.held,
-        a.finished,
-        &settled,
-        &parts,
-        &held,
-        out,
-    )
+    report::report(a, &settled, &parts, &held, out)
 }
 
 // The text of a job of any length.
@@ -62,19 +49,12 @@ fn answer(input: &[u8], out: &mut [u8]) -> usize
             hops: h,
             asked,
         } => {
-            let q = Query {
-                walk: asked.record_number,
-                offset: Offset(asked.offset),
-                arrival: Seconds(asked.arrival),
-                duration: asked.duration,
-                speed: asked.speed,
-            };
             let a = 12 * v;
             let b = 16 * w;
             let c = 16 * h;
-            run_text(&vertices[..a], &walks[..b], &hops[..c], q, out)
+            run_text(&vertices[..a], &walks[..b], &hops[..c], asked, out)
         }
-        Job::Faulty(n) => job::fault_line(n, out),
+        Job::Faulty(n) => report::fault_line(n, out),
     }
 }
 
@@ -92,5 +72,7 @@ fn main() {
     let n = io::read_full(0, &mut input);
     let mut out = [0u8; 100548];
     let m = answer_read(&input, n, &mut out);
-    io::write_all(1, &out[..m]);
+    if !io::write_all(1, &out[..m]) {
+        io::write_all(2, b"reach: the answer cannot be written\n");
+    }
 }

@@ -20,11 +20,12 @@ use Rattle.journeys.specs.Parts.{partList}
 use Rattle.journeys.specs.Refusals as refusals
 use Rattle.journeys.specs.Answers.{Lent, Answer, early, refusedEarly, refusedLate, heldBytes, settledBytes, partBytes, roomAt, roomUpTo, acceptedAfter, answerOver, Allowed, Room}
 use Rattle.journeys.proofs.Tests.{split, cond-true, cond-false}
-use Rattle.journeys.proofs.Valid.{Valid, early-valid}
+use Rattle.journeys.proofs.Valid.{early-valid}
+use Rattle.journeys.specs.Valid.{Valid}
 use Rattle.journeys.proofs.Refusals.{room-is, room-exactly, room-first}
 use Rattle.journeys.proofs.OrderLaws.{orderOf, order-is, order-unique}
 use Rattle.journeys.proofs.Determined.{Accepted, accepted-run}
-use Rattle.records.proofs.Filling.{word-back}
+use Rattle.words.proofs.Written.{word-back}
 use Rattle.siltbrow.specs.Ran.{answerBytes}
 use Rattle.siltbrow.specs.Call.{Call, Completed, refusal, place, settledCount, partCount, heldCount, finished, read, Orders, steps, S}
 

@@ -12,8 +12,8 @@ use denote.Ref.{now}
 use Rattle.journeys.specs.Query.{Query}
 use Rattle.journeys.specs.Answers.{Lent, Answer}
 use Rattle.journeys.proofs.Determined.{answer-unique}
-use Rattle.search.specs.Asked.{queryBy}
-use Rattle.search.specs.Progress.{lent}
+use Rattle.records.specs.Asked.{queryBy}
+use Rattle.intake.specs.Lending.{lent}
 use Rattle.siltbrow.specs.Ran.{answerBytes, Ran}
 use Rattle.siltbrow.specs.Call.{Call, Completed}
 use Rattle.siltbrow.proofs.siltbrow_run as siltbrow_run

@@ -25,11 +25,11 @@ use Rattle.journeys.proofs.Firsts.{distance-in}
 use Rattle.journeys.proofs.Greedy.{State}
 use Rattle.journeys.proofs.Settling.{order-state, order-grows}
 use Rattle.journeys.proofs.Held.{known-met, dropped-stays}
-use Rattle.journeys.proofs.Valid.{Valid}
+use Rattle.journeys.specs.Valid.{Valid}
 use Rattle.journeys.proofs.Ways.{arrives-low}
 use Rattle.journeys.proofs.Document.{ways, laws, strict, journey-arrives, order-dist, allowed-low}
 use Rattle.journeys.proofs.Demands.{held-exactly, held-means, known-settled}
-use Rattle.records.proofs.Filling.{length-held, held-back}
+use Rattle.records.proofs.RecordBytes.{length-held, held-back}
 use Rattle.siltbrow.specs.Call.{Call, Completed, refusal, heldCount, read, Orders, steps, S}
 use Rattle.siltbrow.proofs.RecordsInBytes.{Stands, stands-front, record-listed, listed-record}
 use Rattle.siltbrow.proofs.Demands.{valid, theOrder, is-order, held-are}

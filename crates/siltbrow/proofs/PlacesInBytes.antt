@@ -13,7 +13,7 @@ use Rattle.journeys.specs.Order.{Settled}
 use Rattle.journeys.specs.Parts.{Part, partList, Covered}
 use Rattle.journeys.specs.Answers.{partBytes}
 use Rattle.journeys.proofs.Demands.{place-exactly, point-exactly}
-use Rattle.records.proofs.Filling.{length-part, part-back}
+use Rattle.records.proofs.RecordBytes.{length-part, part-back}
 use Rattle.siltbrow.specs.Call.{Call, Completed, refusal, partCount, finished, read, Orders, S}
 use Rattle.siltbrow.proofs.RecordsInBytes.{Stands, stands-front, record-listed, listed-record}
 use Rattle.siltbrow.proofs.Demands.{valid, theOrder, is-order, parts-are, finished-whole}

@@ -14,7 +14,7 @@ use Rattle.journeys.specs.Order.{Settled}
 use Rattle.journeys.specs.Answers.{settledBytes}
 use Rattle.journeys.proofs.Counting.{in-left}
 use Rattle.journeys.proofs.Demands.{listed-exactly}
-use Rattle.records.proofs.Filling.{length-settled, settled-back}
+use Rattle.records.proofs.RecordBytes.{length-settled, settled-back}
 use Rattle.siltbrow.specs.Call.{Call, Completed, refusal, settledCount, finished, read, Orders, steps, S}
 use Rattle.siltbrow.proofs.RecordsInBytes.{Stands, stands-front, record-listed, listed-record}
 use Rattle.siltbrow.proofs.Demands.{valid, theOrder, is-order, settled-are, finished-whole}

@@ -7,11 +7,11 @@ use lib.IntN.{ℤ}
 use lib.ListN.{length, drop-of-length-le}
 use Rattle.journeys.specs.Bytes.{word}
 use Rattle.journeys.specs.Answers.{Lent, Allowed}
-use Rattle.records.specs.Written.{written}
-use Rattle.records.proofs.Filling.{front, written-next, four-words}
-use Rattle.search.specs.Asked.{queryBy}
+use Rattle.words.specs.Written.{written}
+use Rattle.words.proofs.Written.{front, written-next, four-words}
+use Rattle.records.specs.Asked.{queryBy}
 use Rattle.search.specs.Progress.{answerOf}
-use Rattle.search.specs.declared.Answer as search
+use Rattle.records.specs.declared.Answer as search
 use Rattle.siltbrow.specs.Ran.{Ran}
 
 module _ (d : List ℕ) (a b c e f g : ℕ) (long : length d ≡ 24) where

@@ -1,18 +1,18 @@
 // What the map server in C calls: include/siltbrow.h declares it.
 // Promises: the numbers that document 01 gives, for every byte string of every length; the tables are only read.
 // Rests on: `audit`, whose scratch it lends, and `search`, which has the run.
-use records::Offset;
-use records::Seconds;
-use records::put_word;
-use search::Answer;
-use search::Query;
+use records::Answer;
+use records::Query;
+use words::Offset;
+use words::Seconds;
+use words::put_word;
 ghost use mathlib.Core.Path.{_≡_};
 ghost use Rattle.journeys.specs.Refusals.{check};
 ghost use mathlib.Core.List.{_++_};
 ghost use lib.ListN.{length};
 ghost use Rattle.journeys.specs.Bytes.{word};
-ghost use Rattle.search.specs.Asked.{queryBy};
-ghost use Rattle.search.specs.Progress.{lent};
+ghost use Rattle.records.specs.Asked.{queryBy};
+ghost use Rattle.intake.specs.Lending.{lent};
 ghost use Rattle.siltbrow.specs.Packed.{packed};
 ghost use Rattle.siltbrow.specs.Ran.{Ran};
 

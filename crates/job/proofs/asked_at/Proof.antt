@@ -1,14 +1,10 @@
 -- `job::asked_at` meets its contract: each field is the callee's word, and the arrival is read back from its bits. Assumes nothing.
 use Prim.Native.Nat.{ℕ, _+_, _*_}
-use native.Mathlib.Omega.{arith}
 use mathlib.Core.Path.{_≡_, ap, _∙_}
 use denote.Ref.{now}
-use mir.Syntax.{w32}
-use mir.Val.{toZ, ofZ}
-use mir.ValLaws.{toZ-ofZ}
 use Rattle.journeys.specs.Bytes.{be32, clock}
-use Rattle.records.specs.declared.Seconds.{Seconds}
-use Rattle.records.specs.Meaning.{secondsOf}
+use Rattle.words.specs.declared.Seconds.{Seconds}
+use Rattle.words.specs.Quantities.{secondsOf}
 use Rattle.job.specs.Job.{seconds, questionAt}
 use Rattle.job.proofs.Seconds.{seconds-is}
 use borrow.Author.Needs.{needs}
@@ -18,14 +14,13 @@ use Rattle.job.proofs.asked_at.Tie as tie
 returns : tie.Need-returns
 unfolding questionAt
 returns c =
-    let told = c .before .before .before .before in
+    let told = c .before .before .before in
     let b = told .before .before .before .before .before in
     let s = now (b .args .s) in
     let at = 20 * b .args .i in
     let bits = be32 s (at + 12) in
     let e : told .seconds-of .result ≡ secondsOf (clock bits) = told .seconds-of .ensures ∙ ap (λ (n : ℕ). secondsOf (clock n)) (told .before .word-at3 .ensures) in
-    let a : toZ w32 (ofZ w32 (told .seconds-of .result .0)) ≡ seconds bits =
-    toZ-ofZ w32 _ (record { sfits = omega (arith, c .struct-told .given) }) ∙ ap (λ (t : Seconds). t .0) e ∙ seconds-is bits in
+    let a : told .seconds-of .result .0 ≡ seconds bits = ap (λ (t : Seconds). t .0) e ∙ seconds-is bits in
     cc
 
 pub asked-at-spec : {M : Type 1} → statement M

@@ -7,9 +7,9 @@ use native.Mathlib.Nat.{mul-zero}
 use lib.ListN.{length}
 use denote.Ref.{now}
 use Rattle.job.specs.Steps.{bodies}
-use Rattle.job.specs.Write.{Wrote}
-use Rattle.job.proofs.Written.{nothing}
-use Rattle.job.proofs.Bodies.{one-fits, length-body, body-lent, no-bodies, times-more, one-more}
+use Rattle.copying.specs.Write.{Wrote}
+use Rattle.copying.proofs.Copied.{nothing, one-fits}
+use Rattle.job.proofs.Bodies.{length-body, body-lent, no-bodies, times-more, one-more}
 use Rattle.job.proofs.copy_table.Statement.{statement}
 use Rattle.job.proofs.copy_table.Tie as tie
 

@@ -1,7 +1,4 @@
 use mathlib.Core.Path.{sym, _∙_}
-use mir.Syntax.{w32}
-use mir.Val.{toZ, ofZ}
-use mir.ValLaws.{toZ-ofZ}
 use Prim.Native.Nat.{ℕ}
 use native.Mathlib.Omega.{arith}
 use lib.ListN.{length-replicate}
@@ -12,35 +9,35 @@ use Rattle.reach.proofs.answer.Statement.{statement}
 use Rattle.reach.proofs.answer.Tie as tie
 
 mul-a : tie.Need-mul-a
-mul-a c = omega (arith, (laid _ _ _ _ _ _ (c .before .before .v .given .1) (c .before .before .before .before .before .before .before .load .ensures .0) (c .before .before .before .before .before .before .before .load .ensures .1 .0)) .vertexMost)
+mul-a c = omega (arith, (laid _ _ _ _ _ _ (c .before .v .given .1) (c .before .before .before .before .before .before .load .ensures .0) (c .before .before .before .before .before .before .load .ensures .1 .0)) .vertexMost)
 
 mul-b : tie.Need-mul-b
-mul-b c = omega (arith, (laid _ _ _ _ _ _ (c .before .before .v .given .1) (c .before .before .before .before .before .before .before .load .ensures .0) (c .before .before .before .before .before .before .before .load .ensures .1 .0)) .walkMost)
+mul-b c = omega (arith, (laid _ _ _ _ _ _ (c .before .v .given .1) (c .before .before .before .before .before .before .load .ensures .0) (c .before .before .before .before .before .before .load .ensures .1 .0)) .walkMost)
 
 mul-c : tie.Need-mul-c
-mul-c c = omega (arith, (laid _ _ _ _ _ _ (c .before .before .v .given .1) (c .before .before .before .before .before .before .before .load .ensures .0) (c .before .before .before .before .before .before .before .load .ensures .1 .0)) .hopMost)
+mul-c c = omega (arith, (laid _ _ _ _ _ _ (c .before .v .given .1) (c .before .before .before .before .before .before .load .ensures .0) (c .before .before .before .before .before .before .load .ensures .1 .0)) .hopMost)
 
 array-share-prefix-vertices : tie.Need-array-share-prefix-vertices
-array-share-prefix-vertices c = omega (arith, (laid _ _ _ _ _ _ (c .before .before .v .given .1) (c .before .before .before .before .before .before .before .load .ensures .0) (c .before .before .before .before .before .before .before .load .ensures .1 .0)) .vertexMost, (c .before .before .before .before .before .before .before .load .kept .1 .0 ∙ length-replicate {A = ℕ} 6144 0))
+array-share-prefix-vertices c = omega (arith, (laid _ _ _ _ _ _ (c .before .v .given .1) (c .before .before .before .before .before .before .load .ensures .0) (c .before .before .before .before .before .before .load .ensures .1 .0)) .vertexMost, (c .before .before .before .before .before .before .load .kept .1 .0 ∙ length-replicate {A = ℕ} 6144 0))
 
 slice-aggregate-run-text : tie.Need-slice-aggregate-run-text
-slice-aggregate-run-text c = sym (length-take-le _ _ (omega (arith, (laid _ _ _ _ _ _ (c .before .before .before .v .given .1) (c .before .before .before .before .before .before .before .before .load .ensures .0) (c .before .before .before .before .before .before .before .before .load .ensures .1 .0)) .vertexMost, (c .before .before .before .before .before .before .before .before .load .kept .1 .0 ∙ length-replicate {A = ℕ} 6144 0))))
+slice-aggregate-run-text c = sym (length-take-le _ _ (omega (arith, (laid _ _ _ _ _ _ (c .before .before .v .given .1) (c .before .before .before .before .before .before .before .load .ensures .0) (c .before .before .before .before .before .before .before .load .ensures .1 .0)) .vertexMost, (c .before .before .before .before .before .before .before .load .kept .1 .0 ∙ length-replicate {A = ℕ} 6144 0))))
 
 array-share-prefix-walks : tie.Need-array-share-prefix-walks
-array-share-prefix-walks c = omega (arith, (laid _ _ _ _ _ _ (c .before .before .before .v .given .1) (c .before .before .before .before .before .before .before .before .load .ensures .0) (c .before .before .before .before .before .before .before .before .load .ensures .1 .0)) .walkMost, (c .before .before .before .before .before .before .before .before .load .kept .1 .1 .0 ∙ length-replicate {A = ℕ} 16384 0))
+array-share-prefix-walks c = omega (arith, (laid _ _ _ _ _ _ (c .before .before .v .given .1) (c .before .before .before .before .before .before .before .load .ensures .0) (c .before .before .before .before .before .before .before .load .ensures .1 .0)) .walkMost, (c .before .before .before .before .before .before .before .load .kept .1 .1 .0 ∙ length-replicate {A = ℕ} 16384 0))
 
 slice-aggregate-run-text-2 : tie.Need-slice-aggregate-run-text-2
-slice-aggregate-run-text-2 c = sym (length-take-le _ _ (omega (arith, (laid _ _ _ _ _ _ (c .before .before .before .before .v .given .1) (c .before .before .before .before .before .before .before .before .before .load .ensures .0) (c .before .before .before .before .before .before .before .before .before .load .ensures .1 .0)) .walkMost, (c .before .before .before .before .before .before .before .before .before .load .kept .1 .1 .0 ∙ length-replicate {A = ℕ} 16384 0))))
+slice-aggregate-run-text-2 c = sym (length-take-le _ _ (omega (arith, (laid _ _ _ _ _ _ (c .before .before .before .v .given .1) (c .before .before .before .before .before .before .before .before .load .ensures .0) (c .before .before .before .before .before .before .before .before .load .ensures .1 .0)) .walkMost, (c .before .before .before .before .before .before .before .before .load .kept .1 .1 .0 ∙ length-replicate {A = ℕ} 16384 0))))
 
 array-share-prefix-hops : tie.Need-array-share-prefix-hops
-array-share-prefix-hops c = omega (arith, (laid _ _ _ _ _ _ (c .before .before .before .before .v .given .1) (c .before .before .before .before .before .before .before .before .before .load .ensures .0) (c .before .before .before .before .before .before .before .before .before .load .ensures .1 .0)) .hopMost, (c .before .before .before .before .before .before .before .before .before .load .kept .1 .1 .1 .0 ∙ length-replicate {A = ℕ} 16384 0))
+array-share-prefix-hops c = omega (arith, (laid _ _ _ _ _ _ (c .before .before .before .v .given .1) (c .before .before .before .before .before .before .before .before .load .ensures .0) (c .before .before .before .before .before .before .before .before .load .ensures .1 .0)) .hopMost, (c .before .before .before .before .before .before .before .before .load .kept .1 .1 .1 .0 ∙ length-replicate {A = ℕ} 16384 0))
 
 slice-aggregate-run-text-3 : tie.Need-slice-aggregate-run-text-3
-slice-aggregate-run-text-3 c = sym (length-take-le _ _ (omega (arith, (laid _ _ _ _ _ _ (c .before .before .before .before .before .v .given .1) (c .before .before .before .before .before .before .before .before .before .before .load .ensures .0) (c .before .before .before .before .before .before .before .before .before .before .load .ensures .1 .0)) .hopMost, (c .before .before .before .before .before .before .before .before .before .before .load .kept .1 .1 .1 .0 ∙ length-replicate {A = ℕ} 16384 0))))
+slice-aggregate-run-text-3 c = sym (length-take-le _ _ (omega (arith, (laid _ _ _ _ _ _ (c .before .before .before .before .v .given .1) (c .before .before .before .before .before .before .before .before .before .load .ensures .0) (c .before .before .before .before .before .before .before .before .before .load .ensures .1 .0)) .hopMost, (c .before .before .before .before .before .before .before .before .before .load .kept .1 .1 .1 .0 ∙ length-replicate {A = ℕ} 16384 0))))
 
 returns : tie.Need-returns
 returns c = (
-  run-answered _ _ _ _ _ _ (c .before .before .before .before .before .before .before .before .before .v .given .1) (c .before .before .before .before .before .before .before .before .before .before .before .before .before .before .load .ensures .0) (c .before .before .before .before .before .before .before .before .before .before .before .before .before .before .load .ensures .1 .0) _ _ _ _ _ _ _ _ _ (toZ w32 (ofZ w32 ((c .before .before .before .before .before .before .before .before .before .v .given .0 .1 .1 .1 .0) .arrival))) (toZ-ofZ w32 ((c .before .before .before .before .before .before .before .before .before .v .given .0 .1 .1 .1 .0) .arrival) (record { sfits = omega (arith, c .before .before .before .before .before .before .before .struct-told .given) })) (c .before .before .before .before .before .before .before .before .before .before .before .before .before .before .load .ensures .1 .1 .0) (c .before .before .before .before .before .before .before .before .before .before .before .before .before .before .load .ensures .1 .1 .1 .0) (c .before .before .before .before .before .before .before .before .before .before .before .before .before .before .load .ensures .1 .1 .1 .1) (c .before .before .run-text .ensures .0),
+  run-answered _ _ _ _ _ _ (c .before .before .before .before .before .before .before .before .v .given .1) (c .before .before .before .before .before .before .before .before .before .before .before .before .before .load .ensures .0) (c .before .before .before .before .before .before .before .before .before .before .before .before .before .load .ensures .1 .0) _ _ _ _ _ _ _ _ _ (c .before .before .before .before .before .before .before .before .before .before .before .before .before .load .ensures .1 .1 .0) (c .before .before .before .before .before .before .before .before .before .before .before .before .before .load .ensures .1 .1 .1 .0) (c .before .before .before .before .before .before .before .before .before .before .before .before .before .load .ensures .1 .1 .1 .1) (c .before .before .run-text .ensures .0),
   c .before .before .run-text .ensures .1,
 )
 

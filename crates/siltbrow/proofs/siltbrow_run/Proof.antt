@@ -1,5 +1,5 @@
 use denote.Ref.{now}
-use Rattle.search.specs.Progress.{lent}
+use Rattle.intake.specs.Lending.{lent}
 use mir.Syntax.{w32}
 use mir.Val.{toZ, ofZ}
 use mir.ValLaws.{toZ-ofZ}
