@@ -1,7 +1,11 @@
 /* From which streets can the pharmacy be reached by ten o'clock? One query
  * through siltbrow.h, over five vertices, three streets for both ways and one
  * ride. A word is another offset of the pharmacy on its street: 2001 is beyond
- * the end, and refused. `rt staticlib siltbrow` makes the library. Then:
+ * the end, and refused. Where the library is installed (`make install`):
+ *
+ *   gcc -std=c99 examples/streets.c $(pkg-config --cflags --libs siltbrow)
+ *
+ * or straight from here, after `make lib`:
  *
  *   gcc -std=c99 -Iinclude examples/streets.c target/staticlib/libsiltbrow.a
  */
@@ -29,59 +33,54 @@ static const uint8_t walks[] = {
 /* From, to, departure, arrival: 9:56:00 to 9:58:00. */
 static const uint8_t hops[] = {RECORD(3, 1, 35760, 35880)};
 
-enum { RECORD_ASKED = 1, ARRIVAL = 36000, DURATION = 300, SPEED = 10, NO_LIMIT = 65536 };
+enum { RECORD_ASKED = 1, ARRIVAL = 36000, DURATION = 300, SPEED = 10 };
 
 /* Room that is always enough. */
-static uint8_t held[sizeof vertices / 12 * 16];
-static uint8_t settled[sizeof vertices / 12 * 8];
-static uint8_t parts[(sizeof walks / 16 + 2) * 12];
-static uint8_t answer[24];
+static uint8_t held[SILTBROW_HELD_BYTES(sizeof vertices)];
+static uint8_t settled[SILTBROW_SETTLED_BYTES(sizeof vertices)];
+static uint8_t parts[SILTBROW_PART_BYTES(sizeof walks)];
 
-static const char *const refusals[] = {
-    "nothing", "a length", "a walk", "a hop", "the order of the walks",
-    "the order of the hops", "a vertex", "the query", "room for held records",
-    "room for settled records", "room for parts",
-};
-
-/* The number at place i of a list of numbers. */
-static unsigned number(const uint8_t *list, unsigned i)
+/* The one place that calls the library. */
+static siltbrow_answer ask(uint32_t offset)
 {
-    const uint8_t *b = list + 4 * i;
-    return (unsigned)b[0] << 24 | (unsigned)b[1] << 16 | (unsigned)b[2] << 8 | b[3];
+    uint8_t bytes[SILTBROW_ANSWER_SIZE];
+    /* It returns 1 only where the answer has another size. */
+    (void)siltbrow_run(vertices, sizeof vertices, walks, sizeof walks, hops, sizeof hops,
+                       RECORD_ASKED, offset, ARRIVAL, DURATION, SPEED, SILTBROW_NO_LIMIT, held,
+                       sizeof held, settled, sizeof settled, parts, sizeof parts, bytes,
+                       sizeof bytes);
+    return siltbrow_read_answer(bytes);
 }
 
 static void print_vertex(const uint8_t *record)
 {
-    unsigned distance = number(record, 1);
+    unsigned vertex = siltbrow_get(record), distance = siltbrow_get(record + 4);
     unsigned leave = ARRIVAL - (distance + SPEED - 1) / SPEED;
-    printf("vertex %u  leave by %02u:%02u:%02u  (%u ticks)\n", number(record, 0), leave / 3600,
+    printf("vertex %u  leave by %02u:%02u:%02u  (%u ticks)\n", vertex, leave / 3600,
            leave / 60 % 60, leave % 60, distance);
 }
 
 static void print_part(const uint8_t *record)
 {
-    const uint8_t *walk = walks + 16 * number(record, 0);
-    printf("street %u to %u  from %5.1f m to %5.1f m of %.1f m\n", number(walk, 0), number(walk, 1),
-           number(record, 1) / 10.0, number(record, 2) / 10.0, number(walk, 2) / 10.0);
+    const uint8_t *walk = walks + SILTBROW_WALK_SIZE * siltbrow_get(record);
+    printf("street %u to %u  from %5.1f m to %5.1f m of %.1f m\n", siltbrow_get(walk),
+           siltbrow_get(walk + 4), siltbrow_get(record + 4) / 10.0, siltbrow_get(record + 8) / 10.0,
+           siltbrow_get(walk + 8) / 10.0);
 }
 
 int main(int words, char **word)
 {
-    uint32_t offset = words > 1 ? (uint32_t)strtoul(word[1], NULL, 10) : 1500;
-    if (siltbrow_run(vertices, sizeof vertices, walks, sizeof walks, hops, sizeof hops,
-                     RECORD_ASKED, offset, ARRIVAL, DURATION, SPEED, NO_LIMIT, held, sizeof held,
-                     settled, sizeof settled, parts, sizeof parts, answer, sizeof answer) != 0)
-        return 2; /* the answer is not 24 bytes */
-    unsigned refusal = number(answer, 0), place = number(answer, 1);
-    if (refusal != 0) {
-        printf("refused: %s (refusal %u, place %u)\n", refusals[refusal], refusal, place);
+    siltbrow_answer answer = ask(words > 1 ? (uint32_t)strtoul(word[1], NULL, 10) : 1500);
+    if (answer.refusal != SILTBROW_ACCEPTED) {
+        printf("refused: %s (refusal %u, place %u)\n", siltbrow_refusal_text(answer.refusal),
+               answer.refusal, answer.place);
         return 1;
     }
-    for (unsigned i = 0; i < number(answer, 2); i++)
-        print_vertex(settled + 8 * i);
-    for (unsigned i = 0; i < number(answer, 3); i++)
-        print_part(parts + 12 * i);
-    printf("%u vertices still held, %s\n", number(answer, 4),
-           number(answer, 5) ? "nothing is left to settle" : "the limit came first");
+    for (unsigned i = 0; i < answer.settled; i++)
+        print_vertex(settled + SILTBROW_SETTLED_SIZE * i);
+    for (unsigned i = 0; i < answer.parts; i++)
+        print_part(parts + SILTBROW_PART_SIZE * i);
+    printf("%u vertices still held, %s\n", answer.held,
+           answer.finished ? "nothing is left to settle" : "the limit came first");
     return 0;
 }

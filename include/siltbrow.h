@@ -2,8 +2,11 @@
  *
  * Every slice is a pointer and then a length in bytes. NULL with length 0 is
  * an empty slice. Nothing is allocated, nothing is kept between calls, and
- * calls may run at the same time on the same tables. A call's own arrays take
- * 4,096 bytes of the stack.
+ * calls may run at the same time on the same tables.
+ *
+ * Below the calls stand names for the numbers used here, and a few inline
+ * functions for the bytes. examples/streets.c is one query, examples/server.c
+ * answers many at once from threads.
  *
  * The tables are big-endian records of fixed size with no header, numbered
  * from 0. Times are signed seconds from midnight of the service day; all other
@@ -94,12 +97,33 @@
  *
  * Until it returns, a call uses its buffers and its answer alone: they overlap
  * neither one another nor the tables.
+ *
+ * What a call costs:
+ *
+ * - Each run checks its tables first, which takes as long as siltbrow_check.
+ *   At the full size of 65,536 vertices and 9.2 MB that is some 10 to 100 ms,
+ *   more than the search of a short query. docs/BENCH.md has the times.
+ * - Vertices that lie near one another should have near numbers: with numbers
+ *   that say nothing of the place the check takes up to nine times as long.
+ * - Every lent buffer is written whole, with zero behind the records. A buffer
+ *   that is larger than needed costs time at every call.
+ * - One held record for each vertex keeps the search fast on any tables. With
+ *   less room tables can be made on which a run takes over a second.
+ * - A call uses less than 8 KB of stack, 4,096 bytes of them for its arrays.
+ * - The library is code for x86-64 Linux. It needs memset and nothing else.
  */
 #ifndef SILTBROW_H
 #define SILTBROW_H
 
 #include <stddef.h>
 #include <stdint.h>
+
+/* The second number moves where a call changes, the third where only the
+ * inside does; the first becomes 1 when all calls are there. */
+#define SILTBROW_VERSION "0.1.0"
+#define SILTBROW_VERSION_MAJOR 0
+#define SILTBROW_VERSION_MINOR 1
+#define SILTBROW_VERSION_PATCH 0
 
 #ifdef __cplusplus
 extern "C" {
@@ -118,6 +142,143 @@ uint32_t siltbrow_run(const uint8_t *vertices, size_t vertices_len,
                       uint8_t *settled, size_t settled_len,
                       uint8_t *parts, size_t parts_len,
                       uint8_t *answer, size_t answer_len);
+
+/* The bytes of each record, and of the answer. */
+#define SILTBROW_VERTEX_SIZE 12u
+#define SILTBROW_WALK_SIZE 16u
+#define SILTBROW_HOP_SIZE 16u
+#define SILTBROW_HELD_SIZE 16u
+#define SILTBROW_SETTLED_SIZE 8u
+#define SILTBROW_PART_SIZE 12u
+#define SILTBROW_ANSWER_SIZE 24u
+
+/* "None" as a distance, and "no twin". */
+#define SILTBROW_NONE 0xFFFFFFFFu
+/* No step limit. */
+#define SILTBROW_NO_LIMIT 0xFFFFFFFFu
+
+/* The most that tables and query may have; times are in seconds, lengths in
+ * decimetres, speeds in decimetres a second. */
+#define SILTBROW_MAX_VERTICES 65536u
+#define SILTBROW_MAX_WALKS 262144u
+#define SILTBROW_MAX_HOPS 262144u
+#define SILTBROW_MAX_LENGTH 100000u
+#define SILTBROW_MIN_TIME (-86400)
+#define SILTBROW_MAX_TIME 172800
+#define SILTBROW_MAX_DURATION 86400u
+#define SILTBROW_MAX_SPEED 100u
+
+/* The refusals. */
+#define SILTBROW_ACCEPTED 0u
+#define SILTBROW_BAD_LENGTH 1u
+#define SILTBROW_BAD_WALK 2u
+#define SILTBROW_BAD_HOP 3u
+#define SILTBROW_WALK_ORDER 4u
+#define SILTBROW_HOP_ORDER 5u
+#define SILTBROW_BAD_VERTEX 6u
+#define SILTBROW_BAD_QUERY 7u
+#define SILTBROW_HELD_ROOM 8u
+#define SILTBROW_SETTLED_ROOM 9u
+#define SILTBROW_PART_ROOM 10u
+
+/* Bytes that are always enough, from the bytes of a table: for buffers that
+ * are arrays as well as for those that are allocated. */
+#define SILTBROW_HELD_BYTES(vertices_len) ((vertices_len) / SILTBROW_VERTEX_SIZE * SILTBROW_HELD_SIZE)
+#define SILTBROW_SETTLED_BYTES(vertices_len) ((vertices_len) / SILTBROW_VERTEX_SIZE * SILTBROW_SETTLED_SIZE)
+#define SILTBROW_PART_BYTES(walks_len) (((walks_len) / SILTBROW_WALK_SIZE + 2u) * SILTBROW_PART_SIZE)
+
+/* The answer of a run. */
+typedef struct siltbrow_answer {
+    uint32_t refusal;
+    uint32_t place;
+    uint32_t settled;
+    uint32_t parts;
+    uint32_t held;
+    uint32_t finished;
+} siltbrow_answer;
+
+/* The number in the 4 bytes at "at". */
+static inline uint32_t siltbrow_get(const uint8_t *at)
+{
+    return (uint32_t)at[0] << 24 | (uint32_t)at[1] << 16 | (uint32_t)at[2] << 8 | at[3];
+}
+
+/* The same as signed seconds: the times of a hop. */
+static inline int32_t siltbrow_get_time(const uint8_t *at)
+{
+    uint32_t number = siltbrow_get(at);
+    return number < 0x80000000u ? (int32_t)number : -(int32_t)~number - 1;
+}
+
+/* Puts a number into the 4 bytes at "at". */
+static inline void siltbrow_put(uint8_t *at, uint32_t number)
+{
+    at[0] = (uint8_t)(number >> 24);
+    at[1] = (uint8_t)(number >> 16);
+    at[2] = (uint8_t)(number >> 8);
+    at[3] = (uint8_t)number;
+}
+
+/* The answer in the 24 bytes that a run has filled. */
+static inline siltbrow_answer siltbrow_read_answer(const uint8_t *bytes)
+{
+    siltbrow_answer answer;
+    answer.refusal = siltbrow_get(bytes);
+    answer.place = siltbrow_get(bytes + 4);
+    answer.settled = siltbrow_get(bytes + 8);
+    answer.parts = siltbrow_get(bytes + 12);
+    answer.held = siltbrow_get(bytes + 16);
+    answer.finished = siltbrow_get(bytes + 20);
+    return answer;
+}
+
+/* Refusal and place in what siltbrow_check returns. */
+static inline uint32_t siltbrow_check_refusal(uint64_t checked)
+{
+    return (uint32_t)(checked >> 32);
+}
+
+static inline uint32_t siltbrow_check_place(uint64_t checked)
+{
+    return (uint32_t)(checked & 0xFFFFFFFFu);
+}
+
+/* What a refusal means, for a person. */
+static inline const char *siltbrow_refusal_text(uint32_t refusal)
+{
+    switch (refusal) {
+    case SILTBROW_ACCEPTED: return "nothing is refused";
+    case SILTBROW_BAD_LENGTH: return "a length is no whole number of records, or a table has too few or too many";
+    case SILTBROW_BAD_WALK: return "a walk's ends, length or twin are wrong";
+    case SILTBROW_BAD_HOP: return "a hop's ends or times are wrong";
+    case SILTBROW_WALK_ORDER: return "the walks do not ascend by \"to\"";
+    case SILTBROW_HOP_ORDER: return "the hops do not ascend by \"to\"";
+    case SILTBROW_BAD_VERTEX: return "a vertex's first walk, first hop, departing count or zero is wrong";
+    case SILTBROW_BAD_QUERY: return "the query is outside its limits";
+    case SILTBROW_HELD_ROOM: return "there is too little room for held records";
+    case SILTBROW_SETTLED_ROOM: return "there is too little room for settled records";
+    case SILTBROW_PART_ROOM: return "there is too little room for parts";
+    default: return "there is no such refusal";
+    }
+}
+
+/* What the place of a refusal counts. */
+static inline const char *siltbrow_place_text(uint32_t refusal)
+{
+    switch (refusal) {
+    case SILTBROW_BAD_LENGTH: return "slice: 0 vertices, 1 walks, 2 hops, 3 held, 4 settled, 5 parts";
+    case SILTBROW_BAD_WALK:
+    case SILTBROW_WALK_ORDER: return "walk record";
+    case SILTBROW_BAD_HOP:
+    case SILTBROW_HOP_ORDER: return "hop record";
+    case SILTBROW_BAD_VERTEX: return "vertex record";
+    case SILTBROW_BAD_QUERY: return "field: 0 record, 1 offset, 2 arrival, 3 duration, 4 speed";
+    case SILTBROW_HELD_ROOM:
+    case SILTBROW_SETTLED_ROOM:
+    case SILTBROW_PART_ROOM: return "step";
+    default: return "nothing";
+    }
+}
 
 #ifdef __cplusplus
 }

@@ -1,0 +1,181 @@
+/* Holds what siltbrow.h has beside the calls against the library itself: the
+ * bytes, the refusals and their names, the limits, the rooms, the version. It
+ * is compiled as C99, C11 and C++17. */
+#include <stdio.h>
+#include <string.h>
+
+#include "siltbrow.h"
+
+static unsigned passed, failed;
+
+static void count(int good, const char *what)
+{
+    if (good) {
+        passed++;
+        return;
+    }
+    failed++;
+    printf("not so: %s\n", what);
+}
+
+/* Two vertices and a street of two records between them; a ride back. */
+static uint8_t vertices[2 * SILTBROW_VERTEX_SIZE];
+static uint8_t walks[2 * SILTBROW_WALK_SIZE];
+static uint8_t hops[2 * SILTBROW_HOP_SIZE];
+
+static uint8_t held[SILTBROW_HELD_BYTES(sizeof vertices)];
+static uint8_t settled[SILTBROW_SETTLED_BYTES(sizeof vertices)];
+static uint8_t parts[SILTBROW_PART_BYTES(sizeof walks)];
+
+static void put4(uint8_t *at, uint32_t a, uint32_t b, uint32_t c, uint32_t d)
+{
+    siltbrow_put(at, a);
+    siltbrow_put(at + 4, b);
+    siltbrow_put(at + 8, c);
+    siltbrow_put(at + 12, d);
+}
+
+static void fill(void)
+{
+    siltbrow_put(vertices, 0);
+    siltbrow_put(vertices + 4, 0);
+    siltbrow_put(vertices + 8, 3u << 16);
+    siltbrow_put(vertices + 12, 1);
+    siltbrow_put(vertices + 16, 0);
+    siltbrow_put(vertices + 20, 1u << 16);
+    put4(walks, 1, 0, SILTBROW_MAX_LENGTH, 1);
+    put4(walks + 16, 0, 1, SILTBROW_MAX_LENGTH, 0);
+    put4(hops, 0, 1, (uint32_t)SILTBROW_MIN_TIME, (uint32_t)SILTBROW_MAX_TIME);
+    put4(hops + 16, 0, 1, 0, 1);
+}
+
+static siltbrow_answer ask(uint32_t record, uint32_t offset, int32_t arrival, uint32_t duration,
+                           uint32_t speed, size_t held_len, size_t settled_len, size_t parts_len)
+{
+    uint8_t bytes[SILTBROW_ANSWER_SIZE];
+    (void)siltbrow_run(vertices, sizeof vertices, walks, sizeof walks, hops, sizeof hops, record,
+                       offset, arrival, duration, speed, SILTBROW_NO_LIMIT, held, held_len, settled,
+                       settled_len, parts, parts_len, bytes, sizeof bytes);
+    return siltbrow_read_answer(bytes);
+}
+
+static siltbrow_answer ask_fully(uint32_t duration, uint32_t speed)
+{
+    return ask(0, 0, SILTBROW_MAX_TIME, duration, speed, sizeof held, sizeof settled, sizeof parts);
+}
+
+static void refused(siltbrow_answer answer, uint32_t refusal, uint32_t place, const char *what)
+{
+    count(answer.refusal == refusal && answer.place == place, what);
+}
+
+/* The check of the three tables as they stand, some of them cut. */
+static void checked(size_t v, size_t w, size_t h, uint32_t refusal, uint32_t place, const char *what)
+{
+    uint64_t answer = siltbrow_check(vertices, v, walks, w, hops, h);
+    count(siltbrow_check_refusal(answer) == refusal && siltbrow_check_place(answer) == place, what);
+}
+
+/* One field of a table gets another number, and the check refuses it. */
+static void broken(uint8_t *at, uint32_t number, uint32_t refusal, uint32_t place, const char *what)
+{
+    uint32_t before = siltbrow_get(at);
+    siltbrow_put(at, number);
+    checked(sizeof vertices, sizeof walks, sizeof hops, refusal, place, what);
+    siltbrow_put(at, before);
+}
+
+static void bytes_test(void)
+{
+    static const uint32_t numbers[] = {0, 1, 255, 256, 65536, 0x01020304u, 0x7FFFFFFFu, 0x80000000u, SILTBROW_NONE};
+    uint8_t b[4];
+    for (size_t i = 0; i < sizeof numbers / sizeof *numbers; i++) {
+        siltbrow_put(b, numbers[i]);
+        count(siltbrow_get(b) == numbers[i], "a number comes back from its bytes");
+    }
+    siltbrow_put(b, 0x01020304u);
+    count(b[0] == 1 && b[1] == 2 && b[2] == 3 && b[3] == 4, "the highest byte comes first");
+    siltbrow_put(b, (uint32_t)SILTBROW_MIN_TIME);
+    count(siltbrow_get_time(b) == SILTBROW_MIN_TIME, "a time before midnight comes back");
+    siltbrow_put(b, 0x80000000u);
+    count(siltbrow_get_time(b) == INT32_MIN, "the lowest time comes back");
+    siltbrow_put(b, SILTBROW_MAX_TIME);
+    count(siltbrow_get_time(b) == SILTBROW_MAX_TIME, "the last time comes back");
+}
+
+static void table_test(void)
+{
+    size_t v = sizeof vertices, w = sizeof walks, h = sizeof hops;
+    checked(v, w, h, SILTBROW_ACCEPTED, 0, "lengths and times at their limits are good");
+    checked(v - 1, w, h, SILTBROW_BAD_LENGTH, 0, "a cut vertex");
+    checked(v, w - 1, h, SILTBROW_BAD_LENGTH, 1, "a cut walk");
+    checked(v, w, h - 1, SILTBROW_BAD_LENGTH, 2, "a cut hop");
+    broken(walks + 8, SILTBROW_MAX_LENGTH + 1, SILTBROW_BAD_WALK, 0, "a walk that is too long");
+    broken(walks + 12, SILTBROW_NONE, SILTBROW_BAD_WALK, 1, "a twin that does not name it back");
+    broken(hops + 8, (uint32_t)(SILTBROW_MIN_TIME - 1), SILTBROW_BAD_HOP, 0, "a hop that is too early");
+    broken(hops + 12, (uint32_t)(SILTBROW_MAX_TIME + 1), SILTBROW_BAD_HOP, 0, "a hop that is too late");
+    put4(walks, 0, 1, 10, SILTBROW_NONE);
+    put4(walks + 16, 1, 0, 10, SILTBROW_NONE);
+    checked(v, w, h, SILTBROW_WALK_ORDER, 1, "walks out of order");
+    fill();
+    put4(hops + 16, 1, 0, 0, 1);
+    checked(v, w, h, SILTBROW_HOP_ORDER, 1, "hops out of order");
+    fill();
+    broken(vertices + 8, 2u << 16, SILTBROW_BAD_VERTEX, 0, "a departing count");
+}
+
+static void query_test(void)
+{
+    int32_t late = SILTBROW_MAX_TIME;
+    uint32_t longest = SILTBROW_MAX_LENGTH, day = SILTBROW_MAX_DURATION, fast = SILTBROW_MAX_SPEED;
+    size_t h = sizeof held, s = sizeof settled, p = sizeof parts;
+    siltbrow_answer all = ask_fully(day, fast);
+    count(all.refusal == SILTBROW_ACCEPTED && all.settled == 2 && all.parts == 2 && all.finished == 1,
+          "the widest query is accepted, with the room that is always enough");
+    count(siltbrow_get(settled) == 1 && siltbrow_get(settled + 4) == 0, "the place itself is settled first");
+    refused(ask(2, 0, late, day, fast, h, s, p), SILTBROW_BAD_QUERY, 0, "no such walk");
+    refused(ask(0, longest + 1, late, day, fast, h, s, p), SILTBROW_BAD_QUERY, 1, "an offset beyond the end");
+    refused(ask(0, 0, late + 1, day, fast, h, s, p), SILTBROW_BAD_QUERY, 2, "an arrival that is too late");
+    refused(ask_fully(day + 1, fast), SILTBROW_BAD_QUERY, 3, "a duration that is too long");
+    refused(ask_fully(day, fast + 1), SILTBROW_BAD_QUERY, 4, "a speed that is too high");
+    refused(ask(0, 0, late, day, fast, h - 1, s, p), SILTBROW_BAD_LENGTH, 3, "a cut held record");
+    refused(ask(0, 0, late, day, fast, h, s - 1, p), SILTBROW_BAD_LENGTH, 4, "a cut settled record");
+    refused(ask(0, 0, late, day, fast, h, s, p - 1), SILTBROW_BAD_LENGTH, 5, "a cut part");
+    refused(ask(0, 0, late, day, fast, 0, s, p), SILTBROW_HELD_ROOM, 0, "no room for held records");
+    refused(ask(0, 0, late, day, fast, h, 0, p), SILTBROW_SETTLED_ROOM, 1, "no room for settled records");
+    refused(ask(0, 0, late, day, fast, h, s, 0), SILTBROW_PART_ROOM, 0, "no room for parts");
+}
+
+static void count_test(void)
+{
+    static uint8_t many[(SILTBROW_MAX_VERTICES + 1) * SILTBROW_VERTEX_SIZE];
+    uint64_t most = siltbrow_check(many, sizeof many - SILTBROW_VERTEX_SIZE, NULL, 0, NULL, 0);
+    uint64_t more = siltbrow_check(many, sizeof many, NULL, 0, NULL, 0);
+    count(most == 0, "as many vertices as there may be");
+    count(siltbrow_check_refusal(more) == SILTBROW_BAD_LENGTH, "one vertex more");
+    count(SILTBROW_MAX_WALKS == 4 * SILTBROW_MAX_VERTICES && SILTBROW_MAX_HOPS == SILTBROW_MAX_WALKS, "walks and hops");
+}
+
+static void text_test(void)
+{
+    char version[32];
+    for (uint32_t a = 0; a <= SILTBROW_PART_ROOM; a++)
+        for (uint32_t b = 0; b < a; b++)
+            count(strcmp(siltbrow_refusal_text(a), siltbrow_refusal_text(b)) != 0, "each refusal has its own text");
+    count(strcmp(siltbrow_refusal_text(99), "there is no such refusal") == 0, "no other refusal has one");
+    count(strcmp(siltbrow_place_text(SILTBROW_BAD_WALK), "walk record") == 0, "the place of a walk");
+    (void)snprintf(version, sizeof version, "%d.%d.%d", SILTBROW_VERSION_MAJOR, SILTBROW_VERSION_MINOR, SILTBROW_VERSION_PATCH);
+    count(strcmp(version, SILTBROW_VERSION) == 0, "the version is its three numbers");
+}
+
+int main(void)
+{
+    fill();
+    bytes_test();
+    table_test();
+    query_test();
+    count_test();
+    text_test();
+    printf("%u passed, %u failed\n", passed, failed);
+    return failed != 0;
+}
