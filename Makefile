@@ -1,10 +1,14 @@
 # make run: the program on the base job. make test: the gate.
-# make ask JOB=..: the program on a readable job.
+# make ask TOWN=.. or JOB=..: a town by names, or a job of records, to the program. make city: a whole city to the library.
+# make lib: the library for C. make install PREFIX=..: library, header and siltbrow.pc there.
 # make soak: millions of cases through the C calls, SEED=.. CASES=.. if given. It prints the seed: with it a failure comes again.
 # make bench: the library's times beside the Rust program's. make figures: how many vertices it holds, into docs/.
 REACH = for_x86_64 && rt check reach >/dev/null && $$run target/bin/reach
+PREFIX = /usr/local
+INTO = $(DESTDIR)$(abspath $(PREFIX))
+VERSION = $(shell sed -n 's/^.define SILTBROW_VERSION "\(.*\)"$$/\1/p' include/siltbrow.h)
 
-.PHONY: run test ask soak bench figures
+.PHONY: run test ask lib install soak bench figures
 
 run:
 	@bash -c '. tests/common && $(REACH) <crates/reach/stdin'
@@ -14,6 +18,16 @@ test:
 
 ask:
 	@bash -c '. tests/common && build_outside && $(REACH) < <("$$outside" job $(JOB))'
+
+lib:
+	@bash -c '. tests/common && library && echo "$$archive"'
+
+install: lib
+	@install -d "$(INTO)/lib/pkgconfig" "$(INTO)/include"
+	@install -m 644 target/staticlib/libsiltbrow.a "$(INTO)/lib/"
+	@install -m 644 include/siltbrow.h "$(INTO)/include/"
+	@sed -e 's|@PREFIX@|$(abspath $(PREFIX))|' -e 's|@VERSION@|$(VERSION)|' include/siltbrow.pc.in >"$(INTO)/lib/pkgconfig/siltbrow.pc"
+	@echo "siltbrow $(VERSION) is in $(INTO)"
 
 soak:
 	@bash tests/run/run $(or $(SEED),$(shell date +%s)) $(or $(CASES),3000000)

@@ -1,0 +1,205 @@
+/* A map server in small: many queries at once, from threads over one copy of
+ * the tables.
+ *
+ *   server VERTICES WALKS HOPS THREADS <queries
+ *
+ * The three words are files with the tables, as `make city` writes them. A
+ * query is a line of numbers: record, offset, arrival, duration, speed. For
+ * each query a line is printed, in the order in which they were asked. Where
+ * the library is installed (`make install`):
+ *
+ *   gcc -std=c11 -pthread examples/server.c $(pkg-config --cflags --libs siltbrow)
+ *
+ * Tables are only read, so all threads share them. Held, settled, parts and
+ * answer belong to one call at a time, so each thread has its own; they are
+ * made once and used for all its queries.
+ */
+#define _POSIX_C_SOURCE 200809L
+#include <fcntl.h>
+#include <inttypes.h>
+#include <pthread.h>
+#include <stdio.h>
+#include <stdlib.h>
+#include <sys/mman.h>
+#include <sys/stat.h>
+#include <unistd.h>
+
+#include "siltbrow.h"
+
+typedef struct {
+    const uint8_t *bytes;
+    size_t len;
+} Slice;
+
+typedef struct {
+    uint32_t record, offset;
+    int32_t arrival;
+    uint32_t duration, speed;
+    siltbrow_answer answer;
+    uint64_t metres; /* of covered parts, both ways of a street counted */
+    uint32_t sum;    /* over every byte that was answered */
+} Query;
+
+/* What one thread lends to the library. */
+typedef struct {
+    uint8_t *held, *settled, *parts;
+    size_t held_len, settled_len, parts_len;
+} Room;
+
+static Slice vertices, walks, hops;
+
+static Query *queries;
+static size_t query_count;
+static size_t next_query;
+static pthread_mutex_t next_lock = PTHREAD_MUTEX_INITIALIZER;
+
+static void fail(const char *what)
+{
+    perror(what);
+    exit(2);
+}
+
+static void *allocate(size_t len)
+{
+    void *block = malloc(len > 0 ? len : 1);
+    if (block == NULL)
+        fail("no memory");
+    return block;
+}
+
+static Slice map_table(const char *path)
+{
+    struct stat about;
+    Slice slice = {NULL, 0};
+    int file = open(path, O_RDONLY);
+    if (file < 0 || fstat(file, &about) != 0)
+        fail(path);
+    slice.len = (size_t)about.st_size;
+    if (slice.len > 0) { /* an empty slice may be NULL */
+        void *bytes = mmap(NULL, slice.len, PROT_READ, MAP_SHARED, file, 0);
+        if (bytes == MAP_FAILED)
+            fail(path);
+        slice.bytes = bytes;
+    }
+    close(file);
+    return slice;
+}
+
+/* One held record for each vertex: enough for every query, and fast. */
+static Room make_room(void)
+{
+    Room room;
+    room.held_len = SILTBROW_HELD_BYTES(vertices.len);
+    room.settled_len = SILTBROW_SETTLED_BYTES(vertices.len);
+    room.parts_len = SILTBROW_PART_BYTES(walks.len);
+    room.held = allocate(room.held_len);
+    room.settled = allocate(room.settled_len);
+    room.parts = allocate(room.parts_len);
+    return room;
+}
+
+/* The one place that calls the library. */
+static siltbrow_answer ask(const Query *q, const Room *room)
+{
+    uint8_t bytes[SILTBROW_ANSWER_SIZE];
+    (void)siltbrow_run(vertices.bytes, vertices.len, walks.bytes, walks.len, hops.bytes, hops.len,
+                       q->record, q->offset, q->arrival, q->duration, q->speed, SILTBROW_NO_LIMIT,
+                       room->held, room->held_len, room->settled, room->settled_len, room->parts,
+                       room->parts_len, bytes, sizeof bytes);
+    return siltbrow_read_answer(bytes);
+}
+
+static uint32_t add_up(uint32_t sum, const uint8_t *bytes, size_t len)
+{
+    for (size_t i = 0; i < len; i++)
+        sum = (sum ^ bytes[i]) * 16777619u;
+    return sum;
+}
+
+static void answer_one(Query *q, const Room *room)
+{
+    q->answer = ask(q, room);
+    q->metres = 0;
+    for (size_t i = 0; i < q->answer.parts; i++) {
+        const uint8_t *part = room->parts + SILTBROW_PART_SIZE * i;
+        q->metres += siltbrow_get(part + 8) - siltbrow_get(part + 4);
+    }
+    q->metres /= 10;
+    q->sum = add_up(2166136261u, room->held, SILTBROW_HELD_SIZE * (size_t)q->answer.held);
+    q->sum = add_up(q->sum, room->settled, SILTBROW_SETTLED_SIZE * (size_t)q->answer.settled);
+    q->sum = add_up(q->sum, room->parts, SILTBROW_PART_SIZE * (size_t)q->answer.parts);
+}
+
+/* The next query that nobody has taken, or NULL. */
+static Query *take_query(void)
+{
+    pthread_mutex_lock(&next_lock);
+    Query *taken = next_query < query_count ? &queries[next_query++] : NULL;
+    pthread_mutex_unlock(&next_lock);
+    return taken;
+}
+
+static void *work(void *unused)
+{
+    Room room = make_room();
+    (void)unused;
+    for (Query *q = take_query(); q != NULL; q = take_query())
+        answer_one(q, &room);
+    free(room.held);
+    free(room.settled);
+    free(room.parts);
+    return NULL;
+}
+
+static void read_queries(void)
+{
+    size_t room = 0;
+    Query q = {0};
+    while (scanf("%" SCNu32 "%" SCNu32 "%" SCNd32 "%" SCNu32 "%" SCNu32, &q.record, &q.offset,
+                 &q.arrival, &q.duration, &q.speed) == 5) {
+        if (query_count == room) {
+            room = 2 * room + 64;
+            queries = realloc(queries, room * sizeof *queries);
+            if (queries == NULL)
+                fail("no memory");
+        }
+        queries[query_count++] = q;
+    }
+}
+
+static int print_query(size_t number, const Query *q)
+{
+    siltbrow_answer a = q->answer;
+    if (a.refusal != SILTBROW_ACCEPTED)
+        printf("query %zu: refused, %s (%" PRIu32 "; %s %" PRIu32 ")\n", number,
+               siltbrow_refusal_text(a.refusal), a.refusal, siltbrow_place_text(a.refusal), a.place);
+    else
+        printf("query %zu: %" PRIu32 " corners, %" PRIu64 " m in %" PRIu32 " parts, %" PRIu32
+               " held, sum %08" PRIx32 "\n",
+               number, a.settled, q->metres, a.parts, a.held, q->sum);
+    return a.refusal != SILTBROW_ACCEPTED;
+}
+
+int main(int words, char **word)
+{
+    enum { MOST_THREADS = 256 };
+    pthread_t thread[MOST_THREADS];
+    int threads = words == 5 ? atoi(word[4]) : 0, refused = 0;
+    if (threads < 1 || threads > MOST_THREADS) {
+        fprintf(stderr, "usage: server VERTICES WALKS HOPS THREADS <queries\n");
+        return 2;
+    }
+    vertices = map_table(word[1]);
+    walks = map_table(word[2]);
+    hops = map_table(word[3]);
+    read_queries();
+    for (int i = 0; i < threads; i++)
+        if (pthread_create(&thread[i], NULL, work, NULL) != 0)
+            fail("no thread");
+    for (int i = 0; i < threads; i++)
+        pthread_join(thread[i], NULL);
+    for (size_t i = 0; i < query_count; i++)
+        refused |= print_query(i, &queries[i]);
+    free(queries);
+    return refused;
+}
