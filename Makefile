@@ -3,21 +3,25 @@
 # make lib: the library for C. make install PREFIX=..: library, header and siltbrow.pc there.
 # make soak: millions of cases through the C calls, SEED=.. CASES=.. if given. It prints the seed: with it a failure comes again.
 # make bench: the library's times beside the Rust program's. make figures: how many vertices it holds, into docs/.
-REACH = for_x86_64 && rt check reach >/dev/null && $$run target/bin/reach
 PREFIX = /usr/local
 INTO = $(DESTDIR)$(abspath $(PREFIX))
 VERSION = $(shell sed -n 's/^.define SILTBROW_VERSION "\(.*\)"$$/\1/p' include/siltbrow.h)
 
-.PHONY: run test ask lib install soak bench figures
+export TOWN JOB ASK RAW BRIEF SVG GEOJSON TABLES STREETS RIDES CORNERS
+
+.PHONY: run test ask city lib install soak bench figures
 
 run:
-	@bash -c '. tests/common && $(REACH) <crates/reach/stdin'
+	@bash -c '. tests/common && for_x86_64 && prove reach && $$run target/bin/reach <crates/reach/stdin'
 
 test:
 	@bash .ci/run
 
 ask:
-	@bash -c '. tests/common && build_outside && $(REACH) < <("$$outside" job $(JOB))'
+	@outside/ask ask
+
+city:
+	@outside/ask city
 
 lib:
 	@bash -c '. tests/common && library && echo "$$archive"'

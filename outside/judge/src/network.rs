@@ -55,11 +55,24 @@ impl Plan {
         });
     }
 
+    /// Which walk of this list stands at each place of the table.
+    pub fn walk_order(&self) -> Vec<usize> {
+        let mut order: Vec<usize> = (0..self.walks.len()).collect();
+        order.sort_by_key(|&i| self.walks[i].to);
+        order
+    }
+
+    /// Which hop of this list stands at each place of the table.
+    pub fn hop_order(&self) -> Vec<usize> {
+        let mut order: Vec<usize> = (0..self.hops.len()).collect();
+        order.sort_by_key(|&i| self.hops[i].to);
+        order
+    }
+
     /// Sorts both lists by "to", moves the twins along, counts for the
     /// vertices. A departing count above 65,535 is cut to its field.
     pub fn build(&self) -> Network {
-        let mut order: Vec<usize> = (0..self.walks.len()).collect();
-        order.sort_by_key(|&i| self.walks[i].to);
+        let order = self.walk_order();
         let mut now = vec![0; order.len()];
         for (new, &old) in order.iter().enumerate() {
             now[old] = new as u32;
@@ -70,8 +83,7 @@ impl Plan {
             Walk { twin, ..walk }
         };
         let walks: Vec<Walk> = order.iter().map(moved).collect();
-        let mut hops = self.hops.clone();
-        hops.sort_by_key(|hop| hop.to);
+        let hops: Vec<Hop> = self.hop_order().iter().map(|&i| self.hops[i]).collect();
         let mut network = Network {
             vertices: Vec::new(),
             walks,

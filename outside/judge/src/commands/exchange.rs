@@ -3,6 +3,7 @@
 //! bytes and then its bytes. README.md has the layout.
 
 use std::io::{BufReader, BufWriter, ErrorKind, Read, Write};
+use std::process::{Command, Stdio};
 
 use super::Tally;
 use crate::cases::{big, stream};
@@ -117,6 +118,33 @@ pub fn judge(choice: Choice) -> Result<(), String> {
         tally.count(false, || "the answers do not end where they should".into());
     }
     tally.close()
+}
+
+/// One case through a driver that is started for it alone: what the library
+/// behind it answers, unless it wrote where it may not.
+pub fn ask(driver: &[String], case: &Case) -> Result<Outcome, String> {
+    let (name, words) = driver.split_first().ok_or("no driver is named")?;
+    let mut bytes = Vec::new();
+    let put = write_case(&mut bytes, case);
+    put.map_err(|error| format!("cannot write the case: {error}"))?;
+    bytes.push(END);
+    let failed = |error| format!("{name}: {error}");
+    let mut child = Command::new(name)
+        .args(words)
+        .stdin(Stdio::piped())
+        .stdout(Stdio::piped())
+        .spawn()
+        .map_err(failed)?;
+    if let Some(mut input) = child.stdin.take() {
+        input.write_all(&bytes).map_err(failed)?;
+    }
+    let output = child.wait_with_output().map_err(failed)?;
+    let reply = read_reply(&mut output.stdout.as_slice(), case).map_err(failed)?;
+    match (output.status.success(), reply.touched) {
+        (true, 0) => Ok(reply.outcome),
+        (true, touched) => Err(format!("touched beside the slices: {}", names(touched))),
+        (false, _) => Err(format!("{name} ended with {}", output.status)),
+    }
 }
 
 /// `fast` decides; `slow` has a say wherever it can look at every step.

@@ -25,16 +25,23 @@ pub fn run(file: Option<&str>) -> Result<(), String> {
 
 /// The job's bytes, or a message that names the line.
 pub fn encode(text: &str) -> Result<Vec<u8>, String> {
-    let mut job = Vec::new();
+    Ok(encode_lines(text)?.0)
+}
+
+/// The job's bytes, and for each record, the last one perhaps cut, the line
+/// in which it begins.
+pub fn encode_lines(text: &str) -> Result<(Vec<u8>, Vec<usize>), String> {
+    let (mut job, mut lines) = (Vec::new(), Vec::new());
     for (number, line) in text.lines().enumerate() {
         let plain = line.split('#').next().unwrap_or("");
         let words: Vec<&str> = plain.split_whitespace().collect();
         if let Some((name, fields)) = words.split_first() {
             let record = record(name, fields);
             job.extend(record.map_err(|e| format!("line {}: {e}", number + 1))?);
+            lines.resize(job.len().div_ceil(JOB), number + 1);
         }
     }
-    Ok(job)
+    Ok((job, lines))
 }
 
 fn record(name: &str, fields: &[&str]) -> Result<Vec<u8>, String> {
