@@ -2,6 +2,7 @@
 # make ask TOWN=.. or JOB=..: a town by names, or a job of records, to the program. make city: a whole city to the library.
 # make lib: the library for C. make install PREFIX=..: library, header and siltbrow.pc there.
 # make soak: millions of cases through the C calls, SEED=.. CASES=.. if given. It prints the seed: with it a failure comes again.
+# make fuzz: damaged tables, queries, rooms and jobs for an hour, SEED=.. SECONDS=.. if given.
 # make bench: the library's times beside the Rust program's. make figures: how many vertices it holds, into docs/.
 PREFIX = /usr/local
 INTO = $(DESTDIR)$(abspath $(PREFIX))
@@ -9,7 +10,7 @@ VERSION = $(shell sed -n 's/^.define SILTBROW_VERSION "\(.*\)"$$/\1/p' include/s
 
 export TOWN JOB ASK RAW BRIEF SVG GEOJSON TABLES STREETS RIDES CORNERS
 
-.PHONY: run test ask city lib install soak bench figures
+.PHONY: run test ask city lib install soak fuzz bench figures
 
 run:
 	@bash -c '. tests/common && for_x86_64 && prove reach && $$run target/bin/reach <crates/reach/stdin'
@@ -35,6 +36,9 @@ install: lib
 
 soak:
 	@bash tests/run/run $(or $(SEED),$(shell date +%s)) $(or $(CASES),3000000)
+
+fuzz:
+	@bash tests/fuzz/run $(or $(SEED),$(shell date +%s)) $(or $(SECONDS),3600)
 
 bench:
 	@bench/run speed

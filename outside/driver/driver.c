@@ -1,10 +1,18 @@
 /* Calls the library on the cases of `outside make` (standard input) and writes
  * what it answers for `outside judge` (standard output). It judges nothing but
  * the bytes around each slice. Numbers are big-endian, a slice is its length in
- * four bytes and then its bytes; README.md has the layout. */
+ * four bytes and then its bytes; README.md has the layout.
+ *
+ * With the word "pages" every slice stands between two pages that nobody may
+ * touch: at every other case it ends just before one, at the others up to 15
+ * bytes before, so that its address is any. Whoever reads or writes beyond it
+ * ends the driver, and the judge misses the answer. */
+#define _DEFAULT_SOURCE
 #include <stdio.h>
 #include <stdlib.h>
 #include <string.h>
+#include <sys/mman.h>
+#include <unistd.h>
 
 #include "siltbrow.h"
 
@@ -17,11 +25,23 @@ enum { GUARD = 61 };
 enum { VERTICES, WALKS, HOPS, HELD, SETTLED, PARTS, ANSWER, SLICES };
 
 typedef struct {
-    uint8_t *block; /* guard, bytes, guard */
+    uint8_t *block; /* guard, bytes, guard; NULL where an arena has them */
+    uint8_t *start; /* its first byte, with guard bytes before it */
     uint8_t *bytes; /* what the library gets: may be NULL if empty */
     size_t len;
+    size_t behind; /* guard bytes behind it */
     uint8_t *copy; /* a table as it was lent; NULL for a buffer */
 } Slice;
+
+/* Memory between two pages that nobody may touch; one for each slice. */
+typedef struct {
+    uint8_t *base;
+    size_t size; /* both pages included */
+} Arena;
+
+static int with_pages;
+static unsigned long cases;
+static Arena arenas[SLICES];
 
 static _Noreturn void fail(const char *message)
 {
@@ -76,35 +96,72 @@ static uint8_t guard_byte(size_t i)
     return (uint8_t)(0x81 + i % 101);
 }
 
-static Slice read_slice(int null, int table)
+/* Makes an arena hold so many bytes. */
+static void enlarge(Arena *arena, size_t len)
 {
-    Slice slice = {NULL, NULL, read_number(), NULL};
-    slice.block = allocate(slice.len + 2 * GUARD);
-    for (size_t i = 0; i < GUARD; i++) {
-        slice.block[i] = guard_byte(i);
-        slice.block[GUARD + slice.len + i] = guard_byte(i + 7);
-    }
-    slice.bytes = slice.block + GUARD;
-    read_bytes(slice.bytes, slice.len);
-    if (table && slice.len != 0) {
+    size_t page = (size_t)sysconf(_SC_PAGESIZE);
+    size_t size = (len / page + 3) * page;
+    if (size <= arena->size)
+        return;
+    if (arena->base != NULL)
+        munmap(arena->base, arena->size);
+    void *base = mmap(NULL, size, PROT_READ | PROT_WRITE, MAP_PRIVATE | MAP_ANONYMOUS, -1, 0);
+    if (base == MAP_FAILED)
+        fail("no memory");
+    arena->base = base;
+    arena->size = size;
+    if (mprotect(arena->base, page, PROT_NONE) != 0 || mprotect(arena->base + size - page, page, PROT_NONE) != 0)
+        fail("cannot forbid a page");
+}
+
+/* Finds the place of a slice: just before the forbidden page, or some bytes
+ * before it, which are guard bytes then. */
+static void place_before_page(Slice *slice, int number)
+{
+    size_t page = (size_t)sysconf(_SC_PAGESIZE);
+    Arena *arena = &arenas[number];
+    slice->behind = cases % 2 == 0 ? 0 : (cases / 2 + 5 * (size_t)number) % 16;
+    enlarge(arena, slice->len + GUARD + slice->behind);
+    slice->start = arena->base + arena->size - page - slice->behind - slice->len;
+}
+
+static void place_in_block(Slice *slice)
+{
+    slice->behind = GUARD;
+    slice->block = allocate(slice->len + 2 * GUARD);
+    slice->start = slice->block + GUARD;
+}
+
+static Slice read_slice(int null, int number)
+{
+    Slice slice = {NULL, NULL, NULL, read_number(), 0, NULL};
+    if (with_pages)
+        place_before_page(&slice, number);
+    else
+        place_in_block(&slice);
+    for (size_t i = 0; i < GUARD; i++)
+        slice.start[i - GUARD] = guard_byte(i);
+    for (size_t i = 0; i < slice.behind; i++)
+        slice.start[slice.len + i] = guard_byte(i + 7);
+    read_bytes(slice.start, slice.len);
+    if (number <= HOPS && slice.len != 0) {
         slice.copy = allocate(slice.len);
-        memcpy(slice.copy, slice.bytes, slice.len);
+        memcpy(slice.copy, slice.start, slice.len);
     }
-    if (null && slice.len == 0)
-        slice.bytes = NULL;
+    slice.bytes = null && slice.len == 0 ? NULL : slice.start;
     return slice;
 }
 
 /* 1 if the library wrote beside a slice, or into a table. */
 static unsigned touched(const Slice *slice)
 {
-    for (size_t i = 0; i < GUARD; i++) {
-        if (slice->block[i] != guard_byte(i))
+    for (size_t i = 0; i < GUARD; i++)
+        if (slice->start[i - GUARD] != guard_byte(i))
             return 1;
-        if (slice->block[GUARD + slice->len + i] != guard_byte(i + 7))
+    for (size_t i = 0; i < slice->behind; i++)
+        if (slice->start[slice->len + i] != guard_byte(i + 7))
             return 1;
-    }
-    return slice->copy != NULL && memcmp(slice->copy, slice->bytes, slice->len) != 0;
+    return slice->copy != NULL && memcmp(slice->copy, slice->start, slice->len) != 0;
 }
 
 static void close_slices(Slice *slices, int count)
@@ -133,7 +190,7 @@ static void do_run(Slice *s, int null)
     for (int i = 0; i < 6; i++)
         number[i] = read_number();
     for (int i = HELD; i < SLICES; i++)
-        s[i] = read_slice(null, 0);
+        s[i] = read_slice(null, i);
     int32_t arrival;
     memcpy(&arrival, &number[2], sizeof arrival);
     uint32_t value = siltbrow_run(
@@ -150,9 +207,10 @@ static void do_run(Slice *s, int null)
     close_slices(s, SLICES);
 }
 
-int main(void)
+int main(int words, char **word)
 {
-    for (;;) {
+    with_pages = words > 1 && strcmp(word[1], "pages") == 0;
+    for (;; cases++) {
         uint8_t head[2];
         read_bytes(head, 1);
         if (head[0] == END)
@@ -160,7 +218,7 @@ int main(void)
         read_bytes(head + 1, 1);
         Slice slices[SLICES];
         for (int i = VERTICES; i <= HOPS; i++)
-            slices[i] = read_slice(head[1], 1);
+            slices[i] = read_slice(head[1], i);
         if (head[0] == CHECK)
             do_check(slices);
         else if (head[0] == RUN)

@@ -4,7 +4,7 @@ use std::path::Path;
 use std::process::ExitCode;
 
 use outside::commands::exchange::{self, Choice};
-use outside::commands::{bench, jobs, jobtext, mutants, selftest};
+use outside::commands::{bench, fuzz, jobs, jobtext, mutants, selftest};
 use outside::mutant::{Mutant, Sound};
 
 const USAGE: &str = "usage:
@@ -14,6 +14,8 @@ const USAGE: &str = "usage:
                                         write cases for the driver
   outside judge SEED CASES | big | marked
                                         judge the driver's answers
+  outside make fuzz SEED SECONDS        write damaged cases for so long
+  outside judge fuzz SEED SECONDS       judge the driver's answers to them
   outside show SEED NUMBER              print one case and its outcome
   outside reach                         a job in, its printed lines out
   outside job [FILE]                    make a binary job from readable lines
@@ -21,6 +23,8 @@ const USAGE: &str = "usage:
   outside judge-jobs SEED CASES DIR     judge the outputs DIR/000000.out ...
   outside try-jobs SEED CASES PROGRAM [ARGUMENTS]
                                         run a program on jobs and judge it
+  outside fuzz-jobs SEED SECONDS PROGRAM [ARGUMENTS]
+                                        run a program on damaged jobs for so long
   outside bench [ROUNDS]                time the fast program
 The variable OUTSIDE_MUTANT makes self and reach use a wrong version.";
 
@@ -48,6 +52,11 @@ fn command(words: &[String]) -> Option<Result<(), String>> {
         ("mutants", rest) => {
             let (seed, cases) = seeded(rest, 6_000)?;
             mutants::run(seed, cases)
+        }
+        ("make", ["fuzz", seed, seconds]) => fuzz::make(seed.parse().ok()?, seconds.parse().ok()?),
+        ("judge", ["fuzz", seed, _]) => fuzz::judge(seed.parse().ok()?),
+        ("fuzz-jobs", [seed, seconds, _, ..]) => {
+            fuzz::jobs(seed.parse().ok()?, seconds.parse().ok()?, &rest[2..])
         }
         ("make", rest) => exchange::make(choice(rest)?),
         ("judge", rest) => exchange::judge(choice(rest)?),

@@ -3,6 +3,7 @@
 
 pub mod big;
 pub mod damage;
+pub mod fuzz;
 pub mod groups;
 pub mod jobs;
 pub mod small;

@@ -2,7 +2,7 @@
 
 use std::collections::{BTreeMap, BTreeSet};
 
-use super::{big, groups, jobs, stream};
+use super::{big, fuzz, groups, jobs, stream};
 use crate::commands::selftest::refusal;
 use crate::fast;
 use crate::mutant::Sound;
@@ -230,5 +230,30 @@ fn fast_and_slow_agree() {
     for number in 0..300 {
         let job = jobs::job(11, number);
         assert_eq!(fast::print(&job, Sound), slow::print(&job), "job {number}");
+    }
+}
+
+/// Damage without a plan still has to come everywhere: to each refusal, and
+/// often enough as far as an accepted run.
+#[test]
+fn damaged_cases_come_everywhere() {
+    let mut seen = [0; 11];
+    let mut strange = 0;
+    for index in 0..4_000 {
+        let case = fuzz::case(1, index);
+        let outcome = case.fast(Sound);
+        match case.call == Call::Run && outcome.returned == 1 {
+            true => strange += 1,
+            false => seen[refusal(&case, &outcome).0 as usize] += 1,
+        }
+    }
+    assert!(strange >= 100, "{strange} answers of another length");
+    assert!(seen[0] >= 800, "{} accepted", seen[0]);
+    for (number, &count) in seen.iter().enumerate() {
+        // Walks that are moved mostly lose their twins first, which is refusal 2.
+        assert!(
+            count >= 20 || number == 4 && count >= 3,
+            "refusal {number}: {count}"
+        );
     }
 }

@@ -38,7 +38,7 @@ impl Choice {
     }
 }
 
-const END: u8 = 0;
+pub const END: u8 = 0;
 const CHECK: u8 = 1;
 const RUN: u8 = 2;
 
@@ -52,7 +52,7 @@ pub fn make(choice: Choice) -> Result<(), String> {
     written.map_err(|error| format!("cannot write the cases: {error}"))
 }
 
-fn write_case(out: &mut impl Write, case: &Case) -> std::io::Result<()> {
+pub fn write_case(out: &mut impl Write, case: &Case) -> std::io::Result<()> {
     let kind = match case.call {
         Call::Check => CHECK,
         Call::Run => RUN,
@@ -88,11 +88,11 @@ fn write_slice(out: &mut impl Write, bytes: &[u8]) -> std::io::Result<()> {
 }
 
 /// What the driver wrote about one case.
-struct Reply {
-    outcome: Outcome,
+pub struct Reply {
+    pub outcome: Outcome,
     /// One bit for each slice whose surroundings (or, for a table, contents)
     /// were changed.
-    touched: u8,
+    pub touched: u8,
 }
 
 pub fn judge(choice: Choice) -> Result<(), String> {
@@ -109,7 +109,13 @@ pub fn judge(choice: Choice) -> Result<(), String> {
         };
         match choice.marked(number) {
             Some(marked) => judge_marked(marked, &case, &reply, &mut tally),
-            None => judge_one(&format!("case {number}"), &case, &reply, &mut tally),
+            None => judge_one(
+                &format!("case {number}"),
+                &case,
+                &reply,
+                case.small(),
+                &mut tally,
+            ),
         }
     }
     let mut end = Vec::new();
@@ -147,10 +153,11 @@ pub fn ask(driver: &[String], case: &Case) -> Result<Outcome, String> {
     }
 }
 
-/// `fast` decides; `slow` has a say wherever it can look at every step.
-fn judge_one(name: &str, case: &Case, reply: &Reply, tally: &mut Tally) {
+/// `fast` decides; `slow` has a say where it is asked, which should be wherever
+/// it can look at every step.
+pub fn judge_one(name: &str, case: &Case, reply: &Reply, ask_slow: bool, tally: &mut Tally) {
     let right = case.fast(Sound);
-    let agreed = !case.small() || case.slow() == right;
+    let agreed = !ask_slow || case.slow() == right;
     let good = agreed && reply.outcome == right && reply.touched == 0;
     tally.count(good, || {
         let mut text = format!("{name}\n{}", show::case(case));
@@ -175,7 +182,7 @@ fn judge_marked(marked: &Marked, case: &Case, reply: &Reply, tally: &mut Tally) 
             show::case(case)
         )
     });
-    judge_one(marked.name, case, reply, tally);
+    judge_one(marked.name, case, reply, case.small(), tally);
 }
 
 fn names(touched: u8) -> String {
@@ -190,7 +197,7 @@ fn names(touched: u8) -> String {
     set.join(", ")
 }
 
-fn read_reply(input: &mut impl Read, case: &Case) -> std::io::Result<Reply> {
+pub fn read_reply(input: &mut impl Read, case: &Case) -> std::io::Result<Reply> {
     let [kind] = read_bytes(input)?;
     let right = match case.call {
         Call::Check => CHECK,

@@ -56,7 +56,8 @@ pub fn drive(seed: u64, count: usize, program: &[String]) -> Result<(), String> 
     tally.close()
 }
 
-fn printed(program: &[String], job: Vec<u8>) -> Result<Vec<u8>, String> {
+/// What a program prints on a job.
+pub fn printed(program: &[String], job: Vec<u8>) -> Result<Vec<u8>, String> {
     let started = Command::new(&program[0])
         .args(&program[1..])
         .stdin(Stdio::piped())
@@ -81,8 +82,13 @@ fn printed(program: &[String], job: Vec<u8>) -> Result<Vec<u8>, String> {
 }
 
 fn judge_one(seed: u64, number: usize, output: Result<Vec<u8>, String>, tally: &mut Tally) {
-    let bytes = job(seed, number as u64);
-    let (right, slow) = (fast::print(&bytes, Sound), slow::print(&bytes));
+    let name = format!("job {number} of seed {seed}");
+    judge_job(&name, &job(seed, number as u64), output, tally);
+}
+
+/// Both programs have to print the same, and so has the one that is judged.
+pub fn judge_job(name: &str, job: &[u8], output: Result<Vec<u8>, String>, tally: &mut Tally) {
+    let (right, slow) = (fast::print(job, Sound), slow::print(job));
     let good = right == slow && output.as_deref() == Ok(right.as_bytes());
     tally.count(good, || {
         let got = match &output {
@@ -94,6 +100,6 @@ fn judge_one(seed: u64, number: usize, output: Result<Vec<u8>, String>, tally: &
         } else {
             "fast and slow differ here\n"
         };
-        format!("job {number} of seed {seed}\n{agreed}printed\n{got}expected\n{right}")
+        format!("{name}\n{agreed}printed\n{got}expected\n{right}")
     });
 }

@@ -2,6 +2,7 @@
 
 pub mod bench;
 pub mod exchange;
+pub mod fuzz;
 pub mod jobs;
 pub mod jobtext;
 pub mod mutants;
