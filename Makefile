@@ -1,4 +1,4 @@
-# make run: the program on the base job. make test: the gate.
+# make run: the program on the base job, proved first. make prove: the proofs alone. make test: the gate.
 # make ask TOWN=.. or JOB=..: a town by names, or a job of records, to the program. make city: a whole city to the library.
 # make lib: the library for C. make install PREFIX=..: library, header and siltbrow.pc there.
 # make soak: millions of cases through the C calls, SEED=.. CASES=.. if given. It prints the seed: with it a failure comes again.
@@ -10,10 +10,13 @@ VERSION = $(shell sed -n 's/^.define SILTBROW_VERSION "\(.*\)"$$/\1/p' include/s
 
 export TOWN JOB ASK RAW BRIEF SVG GEOJSON TABLES STREETS RIDES CORNERS
 
-.PHONY: run test ask city lib install soak fuzz bench figures
+.PHONY: run prove test ask city lib install soak fuzz bench figures
 
-run:
-	@bash -c '. tests/common && for_x86_64 && prove reach && $$run target/bin/reach <crates/reach/stdin'
+run: prove
+	@bash -c '. tests/common && for_x86_64 && $$run target/bin/reach <crates/reach/stdin'
+
+prove:
+	@bash -c '. tests/common && prove reach'
 
 test:
 	@bash .ci/run
