@@ -1,0 +1,105 @@
+/* How much stack a call of the library takes: each call runs on a thread whose
+ * stack was painted before, and what is still painted afterwards was not used. */
+#define _DEFAULT_SOURCE
+#include <pthread.h>
+#include <stdio.h>
+#include <stdlib.h>
+#include <string.h>
+#include <sys/mman.h>
+
+#include "siltbrow.h"
+
+enum { SIDE = 160, VERTICES = SIDE * SIDE, WALKS = 4 * SIDE * (SIDE - 1), STACK = 1 << 18, MOST = 8192 };
+
+static uint8_t vertices[VERTICES * SILTBROW_VERTEX_SIZE];
+static uint8_t walks[WALKS * SILTBROW_WALK_SIZE];
+static uint8_t held[SILTBROW_HELD_BYTES(sizeof vertices)];
+static uint8_t settled[SILTBROW_SETTLED_BYTES(sizeof vertices)];
+static uint8_t parts[SILTBROW_PART_BYTES(sizeof walks)];
+static uint8_t answer[SILTBROW_ANSWER_SIZE];
+
+static uint32_t limit;
+static size_t held_len;
+static const uint8_t *top; /* where the frame of the caller lies */
+
+/* A grid of streets for one way each, there and back. */
+static void make_grid(void)
+{
+    uint32_t count = 0;
+    for (uint32_t v = 0; v < VERTICES; v++) {
+        uint32_t from[4], near = 0;
+        if (v >= SIDE) from[near++] = v - SIDE;
+        if (v % SIDE > 0) from[near++] = v - 1;
+        if (v % SIDE < SIDE - 1) from[near++] = v + 1;
+        if (v + SIDE < VERTICES) from[near++] = v + SIDE;
+        siltbrow_put(vertices + 12 * v, count);
+        siltbrow_put(vertices + 12 * v + 8, near << 16);
+        for (uint32_t i = 0; i < near; i++, count++) {
+            siltbrow_put(walks + 16 * count, from[i]);
+            siltbrow_put(walks + 16 * count + 4, v);
+            siltbrow_put(walks + 16 * count + 8, 500 + v * 7919 % 1000);
+            siltbrow_put(walks + 16 * count + 12, SILTBROW_NONE);
+        }
+    }
+}
+
+static void *run(void *unused)
+{
+    uint8_t here = 0;
+    top = &here;
+    (void)siltbrow_run(vertices, sizeof vertices, walks, sizeof walks, NULL, 0, WALKS / 2, 10, 36000,
+                       SILTBROW_MAX_DURATION, 14, limit, held, held_len, settled, sizeof settled,
+                       parts, sizeof parts, answer, sizeof answer);
+    return unused;
+}
+
+static void *check(void *unused)
+{
+    uint8_t here = 0;
+    top = &here;
+    if (siltbrow_check(vertices, sizeof vertices, walks, sizeof walks, NULL, 0) != 0)
+        exit(2);
+    return unused;
+}
+
+/* The bytes below the caller's frame that a call has used. */
+static size_t used(void *(*call)(void *))
+{
+    pthread_attr_t attributes;
+    pthread_t thread;
+    uint8_t *stack = mmap(NULL, STACK, PROT_READ | PROT_WRITE, MAP_PRIVATE | MAP_ANONYMOUS, -1, 0);
+    memset(stack, 0xA5, STACK);
+    pthread_attr_init(&attributes);
+    pthread_attr_setstack(&attributes, stack, STACK);
+    if (pthread_create(&thread, &attributes, call, NULL) != 0)
+        exit(2);
+    pthread_join(thread, NULL);
+    size_t low = 0;
+    while (stack[low] == 0xA5)
+        low++;
+    size_t depth = (size_t)(top - (stack + low));
+    munmap(stack, STACK);
+    return depth;
+}
+
+int main(void)
+{
+    static const uint32_t limits[] = {0, 1, 300, 5000, VERTICES / 2, SILTBROW_NO_LIMIT};
+    static const size_t rooms[] = {VERTICES, 4000, 600, 0};
+    size_t most = 0;
+    uint32_t whole = 0; /* runs that settle every vertex */
+    make_grid();
+    for (size_t i = 0; i < sizeof limits / sizeof *limits; i++)
+        for (size_t j = 0; j < sizeof rooms / sizeof *rooms; j++) {
+            limit = limits[i];
+            held_len = rooms[j] * SILTBROW_HELD_SIZE;
+            size_t depth = used(run);
+            most = depth > most ? depth : most;
+            whole += siltbrow_read_answer(answer).settled == VERTICES;
+        }
+    size_t depth = used(check);
+    printf("a check uses %zu bytes of stack, a run at most %zu\n", depth, most);
+    int good = whole > 0 && depth > 1000 && most > 1000 && depth < MOST && most < MOST;
+    printf("%d passed, %d failed\n", good, !good);
+    return !good;
+}
