@@ -33,7 +33,6 @@ function following(    text, i, j, ready) {
     done[$2] = 1
     number++
     if ($4 != "(unchanged") {
-        if (!begun++) print "siltbrow: proving " all - number + 1 " of " all " crates; all of them take about 5 minutes on two cores"
         printf "%4d of %d  %s proved in %s s%s\n", number, all, $2, substr($4, 2), following()
         fflush()
     }
