@@ -34,6 +34,14 @@ pub fn run(wanted: &Wanted) -> Result<(), String> {
     for ask in &asks {
         told.push(one(wanted, &town, &tables, ask)?);
     }
+    if asks.is_empty() {
+        told.push(format!(
+            "The tables are in order: {} corners, {} walks (a street for both ways is two), {} rides. Nothing is asked.\n",
+            tables.corner.len(),
+            tables.lane.len(),
+            tables.ride.len()
+        ));
+    }
     print(told.join("\n"))
 }
 

@@ -54,11 +54,20 @@ impl Wanted {
         Ok(files.then_some(wanted))
     }
 
-    /// What is asked: in place of the town's own lines where it is given.
+    /// What is asked: in place of the town's own lines where it is given. A
+    /// picture shows one answer.
     pub fn asks(&self, town: &Town) -> Result<Vec<Ask>, String> {
-        match &self.ask {
-            Some(text) => Ok(vec![text::question(text)?]),
-            None => Ok(town.asks.clone()),
+        let asks = match &self.ask {
+            Some(text) => vec![text::question(text)?],
+            None => town.asks.clone(),
+        };
+        let drawn = self.svg.is_some() || self.geojson.is_some();
+        match drawn && asks.len() != 1 {
+            true => Err(format!(
+                "a picture shows one answer, and {} questions are asked: give one with ASK",
+                asks.len()
+            )),
+            false => Ok(asks),
         }
     }
 
