@@ -133,6 +133,7 @@ static void query_test(void)
     count(all.refusal == SILTBROW_ACCEPTED && all.settled == 2 && all.parts == 2 && all.finished == 1,
           "the widest query is accepted, with the room that is always enough");
     count(siltbrow_get(settled) == 1 && siltbrow_get(settled + 4) == 0, "the place itself is settled first");
+    count(ask(0, longest / 2, late, day, fast, h, s, p).parts == 4, "a place in the middle gives two parts more than there are walks");
     refused(ask(2, 0, late, day, fast, h, s, p), SILTBROW_BAD_QUERY, 0, "no such walk");
     refused(ask(0, longest + 1, late, day, fast, h, s, p), SILTBROW_BAD_QUERY, 1, "an offset beyond the end");
     refused(ask(0, 0, late + 1, day, fast, h, s, p), SILTBROW_BAD_QUERY, 2, "an arrival that is too late");

@@ -24,11 +24,7 @@ fn split(word: &str) -> (&str, &str) {
 
 /// A number and its unit, which may stand in one word or in two. `units` has
 /// each unit with its factor.
-fn measured<'a>(
-    words: &mut &'a [String],
-    what: &str,
-    units: &[(&str, i64)],
-) -> Result<i64, String> {
+fn measured(words: &mut &[String], what: &str, units: &[(&str, i64)]) -> Result<i64, String> {
     let known: Vec<&str> = units.iter().map(|unit| unit.0).collect();
     let known = known.join(", ");
     let Some((first, rest)) = words.split_first() else {
