@@ -128,7 +128,7 @@ impl Tables {
         };
         let fits = |lane: &Lane| {
             let street = &town.streets[lane.street];
-            along(street, lane.back) && of.is_none_or(|length| length == street.length)
+            along(street, lane.back) && of.unwrap_or(street.length) == street.length
         };
         let lanes = self.lane.iter().enumerate().filter(|(_, lane)| fits(lane));
         let found: Vec<(usize, &Lane)> = lanes.collect();
