@@ -1,4 +1,4 @@
-# What `rt check` prints, as a line for each crate of `target` that is proved: its name, its seconds, how many there are, what comes next.
+# What `rt check` or `rt staticlib` prints, as a line for each crate of `target` that is proved: its name, its seconds, how many there are, what comes next.
 # The first file is crates.txt. Crates that were proved before are only counted. Where a crate is not proved, what was said of it is shown.
 NR == FNR {
     if ($0 ~ /^[a-z_]+:/) {
@@ -49,7 +49,7 @@ function following(    text, i, j, ready) {
     next
 }
 
-/^rt: ok|^rt: .* ran/ { said = ""; next }
+/^rt: ok|^rt: .* ran|^rt: target\/staticlib/ { said = ""; next }
 /^(fn|struct|enum) .*: proved$/ { next }
 { said = said $0 "\n" }
 END { if (said) printf "%s", said }
