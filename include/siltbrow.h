@@ -1,5 +1,7 @@
 /* Siltbrow: the incoming isochrone of a walking network with scheduled rides.
  *
+ * docs/RULES.md has the rules in full, by number.
+ *
  * Every slice is a pointer and then a length in bytes. NULL with length 0 is
  * an empty slice. Nothing is allocated, nothing is kept between calls, and
  * calls may run at the same time on the same tables.

@@ -71,7 +71,7 @@ static void record(uint8_t *table, size_t i, uint32_t a, uint32_t b, uint32_t c,
     put(table + 16 * i + 12, d);
 }
 
-/* The base job of document 01. */
+/* The base job, RULES 15. */
 static tables base(void)
 {
     tables t = room(5, 6, 1);

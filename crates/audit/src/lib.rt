@@ -1,4 +1,4 @@
-// The check of the three tables: refusals 1 (places 0 to 2) to 6 of document 01, or none.
+// The check of the three tables: refusals 1 (places 0 to 2) to 6, or none: RULES 12.12.
 // Promises: for every byte string of every length the answer is that of the definition, the tables are only read, and the lent scratch is zero afterwards.
 // Rests on: the readers of `records`, the counts of `departing` and the definitions of `journeys`. It has no array of its own.
 use departing::BLOCK;

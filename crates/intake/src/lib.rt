@@ -1,4 +1,4 @@
-// Refusals 1 to 7 of document 01: a chain of tests in the fixed order, each of which can stand in another chain.
+// Refusals 1 to 7 (RULES 12): a chain of tests in the fixed order, each of which can stand in another chain.
 // Promises: for any bytes and any query the first reason, or none; the scratch is zero afterwards.
 // Rests on: the lengths and the contents of the tables (`audit`), the scratch of `departing`, the readers of `records`.
 use records::Query;

@@ -1,4 +1,4 @@
--- Document 01 read off the definitions: the base job and faulty jobs. Assumes nothing.
+-- The rules read off the definitions: the base job and faulty jobs. Assumes nothing.
 use mathlib.Core.Path.{_≡_, refl}
 use mathlib.Core.List.{List, [], _∷_, _++_, flatMap}
 use Prim.Native.Nat.{ℕ, _+_, _*_}

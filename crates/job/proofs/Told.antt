@@ -1,4 +1,4 @@
--- The code's answer and the words of document 01 say the same: nothing is lost, and the query is that of `journeys`. Assumes nothing.
+-- The code's answer and the words of RULES 14 say the same: nothing is lost, and the query is that of `journeys`. Assumes nothing.
 use mathlib.Core.Path.{_≡_, refl, sym, ap, _∙_}
 use mathlib.Core.List.{List}
 use Prim.Native.Nat.{ℕ, _+_, _*_, _<_}

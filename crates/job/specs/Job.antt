@@ -1,4 +1,4 @@
--- The job of document 01: 20-byte records with no header, a 4-byte kind and 16 bytes, numbered from 0. Assumes nothing.
+-- The job of RULES 14: 20-byte records with no header, a 4-byte kind and 16 bytes, numbered from 0. Assumes nothing.
 use mathlib.Core.Bool.{Bool, not, cond, _&&_, _||_}
 use mathlib.Core.List.{List, []}
 use Prim.Native.Nat.{ℕ, zero, suc, _+_, _-_, _*_, _/_}
@@ -91,7 +91,7 @@ abbrev pub taken : Read → List ℕ → List ℕ
 taken (job v w h q) table = table
 taken (faulty n) table = []
 
--- ---- the code's answers in the words of document 01
+-- ---- the code's answers in the words of RULES 14
 abbrev pub question : Query → Question
 question q =
     record {

@@ -1,5 +1,5 @@
 // The job reader of the program `reach`.
-// Promises: for every input the job or the number N of document 01, and the tables copied out of the 20-byte records.
+// Promises: for every input the job or the number N of RULES 14.4, and the tables copied out of the 20-byte records.
 // Rests on: bytes copied into a buffer (`copying`), the words and seconds of `words`, the query of `records`.
 use copying::put;
 use records::Query;
@@ -23,7 +23,7 @@ pub enum Item {
     Faulty(usize),
 }
 
-// A job with the numbers of its table records, or the number N of document 01.
+// A job with the numbers of its table records, or the number N of RULES 14.4.
 pub enum Job {
     Good {
         vertices: usize,

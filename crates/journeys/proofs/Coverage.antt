@@ -1,4 +1,4 @@
--- The list of parts of document 01 holds exactly the parts of its roads, so a finished run covers exactly the places from which a journey starts in time.
+-- The list of parts of RULES 10 holds exactly the parts of its roads, so a finished run covers exactly the places from which a journey starts in time.
 -- Assumes nothing.
 use mathlib.Core.Path.{_≡_, refl, sym, ap, subst, _∙_}
 use mathlib.Core.Logic.{_⊎_, inl, inr, ⊎-elim, _≢_}
@@ -39,7 +39,7 @@ unfolding part
 in-part i a z q = rw (ne-eqb a z q) (inl refl)
 
 module _ (N : Tables) (Q : Query) where
-  -- a walk record as a road: no waits in document 01
+  -- a walk record as a road, without waits: RULES 6.3
   abbrev pub road : ℕ → Road
   road i = record { end = walk N i .to; len = walk N i .len; lag = 0; near = near N Q i; more = 0 }
 

@@ -1,4 +1,4 @@
--- What the definitions promise a planner, in the words of document 01. Each theorem says in one sentence what it means. Assumes nothing.
+-- What the definitions promise a planner, in the words of RULES 18. Each theorem says in one sentence what it means. Assumes nothing.
 use mathlib.Core.Path.{_≡_, refl, ap}
 use mathlib.Core.Logic.{_⊎_, inl, inr, ⊎-elim, _↔_, _≢_}
 use mathlib.Core.Bool.{Bool, true, false, not, cond}

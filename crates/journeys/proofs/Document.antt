@@ -1,4 +1,4 @@
--- Document 01's walks and hops are such a network, and its journeys are those of the theory. Assumes nothing.
+-- Walks and hops with the offers of RULES 8.4 are such a network, and the journeys of RULES 6 are those of the theory. Assumes nothing.
 use mathlib.Core.Path.{_≡_, refl, sym, ap, subst, _∙_}
 use mathlib.Core.Logic.{_⊎_, inl, inr, ⊎-elim, _≢_}
 use mathlib.Core.Bool.{Bool, true, false, not, cond, _&&_, _||_}

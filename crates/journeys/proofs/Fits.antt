@@ -1,4 +1,4 @@
--- All figures fit their 4 bytes: under the limits of document 01 every seed, offer, known distance, offset and count is below none. Assumes nothing.
+-- All figures fit their 4 bytes (RULES 7.4): within the limits of RULES 4 and 5.1 every seed, offer, known distance, offset and count is below none. Assumes nothing.
 use mathlib.Core.Path.{_≡_, refl, subst}
 use mathlib.Core.Logic.{_⊎_, inl, inr, ⊎-elim}
 use mathlib.Core.Bool.{Bool, true, false, not, cond, _&&_, _||_}

@@ -1,4 +1,4 @@
--- Every limit of document 01 at its last good and its first bad value: the table of specs/Limits under one statement, and the largest counts as laws.
+-- Every limit of the rules at its last good and its first bad value: the table of specs/Limits under one statement, and the largest counts as laws.
 -- Assumes nothing.
 use mathlib.Core.Path.{_≡_, refl}
 use mathlib.Core.Bool.{true}

@@ -1,4 +1,4 @@
--- The marked cases of document 01, proved from the definitions as one table under one statement. Assumes nothing.
+-- The marked cases of RULES 16, proved from the definitions as one table under one statement. Assumes nothing.
 use mathlib.Core.Path.{_≡_, refl}
 use mathlib.Core.Bool.{true}
 use Rattle.journeys.specs.Counting.{In}
@@ -10,6 +10,6 @@ table : tested marked ≡ true
 unfolding tested marked
 table = refl
 
--- In each marked case, whatever answer the definitions allow shows what document 01 says.
+-- In each marked case, whatever answer the definitions allow shows what RULES 16 says.
 pub marked-cases : (c : Case) → In c marked → (a : Answer) → Allowed (c .lent) (c .query) (c .limit) a → c .view a ≡ c .want
 marked-cases = cases-hold marked table

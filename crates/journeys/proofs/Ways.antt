@@ -1,4 +1,4 @@
--- Journeys over any network of monotone offers, and the distance. What later requests change of document 01's journeys (waits, rides of no minutes,
+-- Journeys over any network of monotone offers, and the distance. What later requests change of the journeys of RULES 6 (waits, rides of no minutes,
 -- the other direction) is another instance of what stands here. Assumes nothing.
 use mathlib.Core.Path.{_≡_}
 use mathlib.Core.Logic.{_↔_}

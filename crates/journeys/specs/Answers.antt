@@ -1,4 +1,4 @@
--- What a run answers and what it leaves in every lent byte. Assumes nothing.
+-- What a run answers and what it leaves in every lent byte: RULES 11 and 12.8 to 12.11. Assumes nothing.
 use mathlib.Core.Path.{_≡_}
 use mathlib.Core.Logic.{_≢_}
 use mathlib.Core.Bool.{cond}

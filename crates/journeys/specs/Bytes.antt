@@ -1,4 +1,4 @@
--- Numbers in bytes, big-endian. Assumes nothing.
+-- Numbers in bytes, big-endian: RULES 3.1. Assumes nothing.
 use mathlib.Core.List.{List, [], _∷_, _++_}
 use Prim.Native.Nat.{ℕ, _+_, _-_, _*_, _/_, _%_}
 use lib.IntN.{ℤ, pos, negsuc}

@@ -1,4 +1,4 @@
--- The journeys once more, by the clock: times are signed ticks from midnight of the service day. Assumes nothing.
+-- The journeys of RULES 6 once more, by the clock: times are signed ticks from midnight of the service day. Assumes nothing.
 use mathlib.Core.Path.{_≡_}
 use mathlib.Core.Logic.{_≢_}
 use Prim.Native.Nat.{ℕ, _-_, _<_}

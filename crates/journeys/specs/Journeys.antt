@@ -1,4 +1,4 @@
--- Journeys: who can be at the query place by T. Assumes nothing.
+-- Journeys, RULES 6 and 7: who can be at the query place by T. Assumes nothing.
 -- Time is told by the ticks that are left until T, so that a start before midnight is a number like any other and an earlier start a larger one.
 use mathlib.Core.Path.{_≡_}
 use mathlib.Core.Logic.{_≢_}

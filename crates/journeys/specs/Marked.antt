@@ -1,4 +1,4 @@
--- The base job of document 01 in bytes, and its marked cases as one table. Assumes nothing.
+-- The base job in bytes, and its marked cases as one table: RULES 15 and 16. Assumes nothing.
 use mathlib.Core.List.{List, [], _∷_, _++_, flatMap}
 use Prim.Native.Nat.{ℕ, _+_, _*_, _/_, _%_}
 use lib.ListN.{replicate, take}

@@ -1,4 +1,4 @@
--- What is known, met, remaining and held when S is settled, over any records that lead from vertex to vertex and make offers. Assumes nothing.
+-- What is known, met, remaining and held when S is settled (RULES 8.5, 9), over any records that lead from vertex to vertex and make offers. Assumes nothing.
 use mathlib.Core.Path.{_≡_}
 use mathlib.Core.Bool.{Bool, not, cond, _&&_, _||_}
 use mathlib.Core.List.{List, [], _∷_}

@@ -1,4 +1,4 @@
--- The order of settling: ascending by distance, then by number, among the distances at most D. Assumes nothing.
+-- The order of settling, RULES 8.1: ascending by distance, then by number, among the distances at most D. Assumes nothing.
 use mathlib.Core.Path.{_≡_}
 use mathlib.Core.Logic.{_⊎_}
 use mathlib.Core.List.{List, [], _∷_}

@@ -1,4 +1,4 @@
--- The covered parts of walk records, in the order in which they are written. Assumes nothing.
+-- The covered parts of walk records, in the order in which they are written: RULES 10. Assumes nothing.
 use mathlib.Core.Bool.{cond}
 use mathlib.Core.List.{List, [], _∷_, _++_, flatMap}
 use Prim.Native.Nat.{ℕ, _-_, max, _≤_}

@@ -1,4 +1,4 @@
--- The query, and what turns its seconds into ticks. Assumes nothing.
+-- The query, and what turns its seconds into ticks: RULES 5. Assumes nothing.
 use Prim.Native.Nat.{ℕ, _-_, _*_}
 use Rattle.journeys.specs.Tables.{Tables, Walk, walk}
 

@@ -1,4 +1,4 @@
--- The records of document 01 as a network: walks are numbered first, then hops. Assumes nothing.
+-- Walks and hops as a network, RULES 8.3 and 8.4: walks are numbered first, then hops. Assumes nothing.
 use mathlib.Core.Bool.{not, cond, _&&_, _||_}
 use Prim.Native.Nat.{ℕ, _+_, _-_, min}
 use lib.Dec.{eqb, leb, ltb}

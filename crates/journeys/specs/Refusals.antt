@@ -1,4 +1,4 @@
--- Refusals 1 to 7: which input is refused, by number and place, for the first reason in the fixed order. Assumes nothing.
+-- Refusals 1 to 7, RULES 12.2 to 12.7: which input is refused, by number and place, for the first reason in the fixed order. Assumes nothing.
 use mathlib.Core.Bool.{Bool, not, cond, _&&_, _||_}
 use mathlib.Core.List.{List, [], _∷_}
 use Prim.Native.Nat.{ℕ, zero, suc, _+_, _-_, _/_, _%_}

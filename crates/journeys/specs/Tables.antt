@@ -1,4 +1,4 @@
--- The three tables: records of fixed size with no header, numbered from 0. Assumes nothing.
+-- The three tables, RULES 3: records of fixed size with no header, numbered from 0. Assumes nothing.
 use mathlib.Core.List.{List, [], _∷_}
 use Prim.Native.Nat.{ℕ, _+_, _*_, _/_}
 use lib.ListN.{length, getD}

@@ -1,4 +1,4 @@
--- What the program prints. Assumes nothing.
+-- What the program prints: RULES 14. Assumes nothing.
 use mathlib.Core.Path.{_≡_}
 use mathlib.Core.List.{List}
 use Prim.Native.Nat.{ℕ}
@@ -16,7 +16,7 @@ use Rattle.copying.specs.Write.{over}
 abbrev pub roomy : List ℕ → List ℕ → List ℕ → Lent
 roomy v w h = lent v w h (replicate 8192 0) (replicate 4096 0) (replicate 12312 0)
 
--- the text is that of an answer that document 01 allows, with no step limit
+-- the text is that of an answer that a run may give, with no step limit: RULES 14.5
 abbrev pub Texts : List ℕ → List ℕ → List ℕ → Query → List ℕ → Type 0
 Texts v w h Q text = (a : Answer) × Allowed (roomy v w h) Q none a × (text ≡ printed a)
 

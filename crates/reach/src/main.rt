@@ -1,5 +1,5 @@
 // The program `reach`: a job on standard input, its text on standard output, with room lent for all and no step limit.
-// Promises: the text is that of document 01, for every input (`Says`).
+// Promises: the text is that of RULES 14, for every input (`Says`).
 // Rests on: the job reader (`job`), the run (`search`), the printed text (`report`), and the contracts of the C library's read and write.
 use job::Job;
 use records::Query;

@@ -1,4 +1,4 @@
--- The definitions that give the numbers of document 01 for each case of an enum tell different answers apart. Assumes nothing.
+-- The definitions that give the rules' numbers for each case of an enum (RULES 18.6) tell different answers apart. Assumes nothing.
 use mathlib.Core.Path.{_≡_, ap}
 use Prim.Native.Nat.{ℕ}
 use lib.IntN.{ℤ, pos}

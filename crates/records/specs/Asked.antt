@@ -1,4 +1,4 @@
--- The query as it is asked, in the numbers of document 01. Assumes nothing.
+-- The query as it is asked, in the numbers of RULES 5.1. Assumes nothing.
 use Prim.Native.Nat.{ℕ}
 use lib.IntN.{ℤ}
 use Rattle.journeys.specs.Bytes.{clocked}

@@ -1,4 +1,4 @@
--- What reading a record answers, in the numbers of document 01. Assumes nothing.
+-- What reading a record answers, in the numbers of RULES 12. Assumes nothing.
 use mathlib.Core.Bool.{cond}
 use mathlib.Core.List.{List, [], _∷_}
 use Prim.Native.Nat.{ℕ}
@@ -31,7 +31,7 @@ unfoldable pub toldHop : HopRead → Reading
 toldHop (hop.Good h) = good (pos (h .from) ∷ pos (h .to) ∷ h .departure .0 ∷ h .arrival .0 ∷ [])
 toldHop (hop.Bad j) = refused (record { number = 3; place = j })
 
--- what document 01 answers
+-- what the rules answer: RULES 12.3, 12.4, 12.6
 module _ (N : tables.Tables) where
   unfoldable pub vertexReading : ℕ → Reading
   vertexReading v =

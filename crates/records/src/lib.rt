@@ -1,5 +1,5 @@
-// The records of document 01 in their bytes: readers and writers; and the query and the answer as the calls hand them on.
-// Promises: what is read is what `journeys` decodes, a record is refused exactly as document 01 says, and what is written reads back.
+// The records of RULES 3 in their bytes: readers and writers; and the query and the answer as the calls hand them on.
+// Promises: what is read is what `journeys` decodes, a record is refused exactly as RULES 12 says, and what is written reads back.
 // Rests on: the numbers of `words` and the definitions of `journeys`.
 use words::NONE;
 use words::Offset;

@@ -1,4 +1,4 @@
--- Document 01 read off the definitions: the whole text of the base job, and other lines. Assumes nothing.
+-- The rules read off the definitions: the whole text of the base job, and other lines. Assumes nothing.
 use mathlib.Core.Path.{_≡_, refl}
 use mathlib.Core.List.{List, [], _∷_, _++_, flatMap}
 use Prim.Native.Nat.{ℕ}

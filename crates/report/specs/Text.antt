@@ -1,4 +1,4 @@
--- The printed text of document 01, in bytes. Assumes nothing.
+-- The printed text of RULES 14.6, in bytes. Assumes nothing.
 use mathlib.Core.Bool.{Bool, cond, _&&_}
 use mathlib.Core.List.{List, [], _∷_, _++_, flatMap}
 use Prim.Native.Nat.{ℕ, zero, suc, _+_, _*_, _/_, _%_}

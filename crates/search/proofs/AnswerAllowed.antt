@@ -1,4 +1,4 @@
--- The answer at the end of a run is one that document 01 allows. Assumes nothing.
+-- The answer at the end of a run is one that the rules allow. Assumes nothing.
 use mathlib.Core.Path.{_≡_, subst, sym, ap, ap₂, _∙_}
 use mathlib.Core.Logic.{_≢_}
 use mathlib.Core.Bool.{true, false}

@@ -37,7 +37,7 @@ ReachedIs b Q l limit held settled parts (Refused number step) = Short b Q l lim
 unfoldable pub Reaches : Lent → query.Query → ℕ → List ℕ → List ℕ → List ℕ → Ended → Type 0
 Reaches b Q limit held settled parts r = (l : List Settled) → IsOrder (tables b) Q l → ReachedIs b Q l limit held settled parts r
 
--- the answer with what is left in the buffers, in the terms of document 01
+-- the answer with what is left in the buffers, in the terms of RULES 11
 abbrev pub answerOf : Answer → List ℕ → List ℕ → List ℕ → answers.Answer
 answerOf r held settled parts =
     record {

@@ -1,4 +1,4 @@
-// The run of document 01.
+// The run: RULES 8 to 12.
 // Promises: for any bytes, query and limit the answer that the definitions allow, and every byte of the three lent buffers.
 // Rests on: `intake` for refusals 1 to 7, `opening` for step 0, `steps` for those behind it, `ending` for what the buffers hold at last.
 // From step to step there are the held buffer, plain numbers and the lists written, which are not read back.
@@ -56,7 +56,7 @@ fn all_steps<'a>(
     }
 }
 
-// The run of document 01, for any bytes, query and limit.
+// The run of RULES 11 and 12, for any bytes, query and limit.
 pub fn run<'a>(
     vertices: &[u8],
     walks: &'a [u8],

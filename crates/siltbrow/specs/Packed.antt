@@ -1,4 +1,4 @@
--- A refusal as one number of 64 bits. Assumes nothing.
+-- A refusal as one number of 64 bits: RULES 13.2. Assumes nothing.
 use Prim.Native.Nat.{ℕ, _+_, _*_}
 use Rattle.journeys.specs.Refusals.{Refusal}
 

@@ -1,5 +1,5 @@
 // What the map server in C calls: include/siltbrow.h declares it.
-// Promises: the numbers that document 01 gives, for every byte string of every length; the tables are only read.
+// Promises: the numbers of RULES 13, for every byte string of every length; the tables are only read.
 // Rests on: `audit`, whose scratch it lends, and `search`, which has the run.
 use records::Answer;
 use records::Query;

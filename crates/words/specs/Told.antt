@@ -1,4 +1,4 @@
--- A refusal as the code has it, in the numbers of document 01. Assumes nothing.
+-- A refusal as the code has it, in the numbers of RULES 12. Assumes nothing.
 use Rattle.journeys.specs.Refusals as refusals
 use Rattle.words.specs.declared.Refusal.{Refusal}
 

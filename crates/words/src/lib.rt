@@ -1,4 +1,4 @@
-// Numbers in bytes, bytes written at a place, the three quantities of document 01, and refusals by number and place.
+// Numbers in bytes, bytes written at a place, the three quantities of RULES 5.2, and refusals by number and place.
 // Promises: what is read is what `journeys` decodes, what is written reads back, and seconds, ticks and offsets meet in the named conversions alone.
 // Rests on: the definitions of `journeys` alone.
 ghost use mathlib.Core.Path.{_≡_};

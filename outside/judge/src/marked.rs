@@ -1,4 +1,4 @@
-//! The marked cases M1 to M10 and the base job: what document 01 says of each,
+//! The marked cases M1 to M10 and the base job: what RULES 15 and 16 say of each,
 //! as one table. `fast`, `slow` and the library are held against it.
 
 use crate::network::{Network, Scene};
@@ -217,7 +217,7 @@ fn room(slots: [usize; 3]) -> Case {
 }
 
 impl Marked {
-    /// Whether this is an outcome that document 01 gives the case.
+    /// Whether this is an outcome that RULES 16 gives the case.
     pub fn fits(&self, case: &Case, after: &Outcome) -> bool {
         if case.call == Call::Check {
             let told = ((after.returned >> 32) as u32, after.returned as u32);

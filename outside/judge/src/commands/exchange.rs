@@ -29,7 +29,7 @@ impl Choice {
         }
     }
 
-    /// What document 01 says of the case of this number, if it is a marked one.
+    /// What RULES 16 says of the case of this number, if it is a marked one.
     fn marked(self, number: usize) -> Option<&'static Marked> {
         match self {
             Choice::Marked => marked::ALL.get(number),
@@ -172,12 +172,12 @@ pub fn judge_one(name: &str, case: &Case, reply: &Reply, ask_slow: bool, tally: 
     });
 }
 
-/// Document 01 decides here; what it leaves open is judged as in other cases.
+/// RULES 16 decides here; what it leaves open is judged as in other cases.
 fn judge_marked(marked: &Marked, case: &Case, reply: &Reply, tally: &mut Tally) {
     tally.count(marked.fits(case, &reply.outcome), || {
         let library = show::outcome(case, &reply.outcome);
         format!(
-            "{}: not what document 01 says\n{}library\n{library}",
+            "{}: not what RULES 16 says\n{}library\n{library}",
             marked.name,
             show::case(case)
         )
