@@ -9,6 +9,7 @@ pub mod Records
 pub mod Parts
 pub mod Refusals
 pub mod Valid
+pub mod Lists
 pub mod Answers
 pub mod Clock
 pub mod Marked
