@@ -1,0 +1,9 @@
+pub mod Stored
+pub mod Order
+pub mod Widening
+pub mod Fine
+pub mod Meaning
+pub mod SixWords
+pub mod Bits
+pub mod Determined
+pub mod Rows
