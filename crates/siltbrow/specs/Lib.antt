@@ -1,3 +1,4 @@
 pub mod Packed
 pub mod Ran
 pub mod Call
+pub mod FrameCall

@@ -1,6 +1,8 @@
 // What the map server in C calls: include/siltbrow.h declares it.
 // Promises: the numbers of RULES 13, for every byte string of every length; the tables are only read.
 // Rests on: `audit`, whose scratch it lends, and `search`, which has the run.
+mod framing;
+
 use records::Answer;
 use records::Query;
 use words::Offset;
