@@ -1,5 +1,6 @@
 //! The library, called as C calls it.
 
+use bench::frames::Framer;
 use bench::program::Program;
 use outside::records::{Lent, Query, Tables};
 
@@ -32,6 +33,17 @@ extern "C" {
         settled_len: usize,
         parts: *mut u8,
         parts_len: usize,
+        answer: *mut u8,
+        answer_len: usize,
+    ) -> u32;
+
+    fn siltbrow_frame(
+        vertices: *const u8,
+        vertices_len: usize,
+        list: *const u8,
+        list_len: usize,
+        coordinates: *const u8,
+        coordinates_len: usize,
         answer: *mut u8,
         answer_len: usize,
     ) -> u32;
@@ -84,6 +96,24 @@ impl Program for Linked {
                 settled.len(),
                 parts.as_mut_ptr(),
                 parts.len(),
+                answer.as_mut_ptr(),
+                answer.len(),
+            )
+        }
+    }
+}
+
+impl Framer for Linked {
+    fn frame(&self, v: &[u8], l: &[u8], c: &[u8], answer: &mut [u8]) -> u32 {
+        // SAFETY: each pair is a whole slice; the one written to is borrowed alone.
+        unsafe {
+            siltbrow_frame(
+                v.as_ptr(),
+                v.len(),
+                l.as_ptr(),
+                l.len(),
+                c.as_ptr(),
+                c.len(),
                 answer.as_mut_ptr(),
                 answer.len(),
             )

@@ -13,17 +13,17 @@ use crate::program::{buffers, call, Program, RUST};
 use crate::room::{least_room, run_in};
 
 /// The times of one kind of call: library and Rust, a pair for each round.
-type Times = Vec<(Duration, Duration)>;
+pub type Times = Vec<(Duration, Duration)>;
 
 /// The median and the least time of each.
 #[derive(Clone, Copy)]
-struct Spent {
+pub struct Spent {
     library: [Duration; 2],
     rust: [Duration; 2],
 }
 
 impl Spent {
-    fn of(times: &Times) -> Self {
+    pub fn of(times: &Times) -> Self {
         let both = |times: Vec<Duration>| {
             let least = times.iter().min().copied().unwrap_or_default();
             [middle(times), least]
@@ -46,7 +46,7 @@ impl Spent {
     }
 
     /// Library, Rust, the ratio of the medians, the ratio of the least times.
-    fn cells(&self) -> [String; 4] {
+    pub fn cells(&self) -> [String; 4] {
         let [median, least] = [0, 1].map(|index| ratio(self.library[index], self.rust[index]));
         [millis(self.library[0]), millis(self.rust[0]), median, least]
     }

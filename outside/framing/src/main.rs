@@ -1,11 +1,8 @@
 //! `framing self|mutants|make|judge SEED CASES`: the frame of document 02 judged from outside. `make` writes cases for the driver and `judge` reads what the
 //! library answered; both begin with the fixed cases. The last line is 'N passed, M failed'.
 
-mod cases;
-mod rules;
-mod wrong;
-
-use rules::{by_bits, by_floats, Case, Outcome};
+use framing::rules::{by_bits, by_floats, Case, Outcome};
+use framing::{cases, wrong};
 use std::io::{self, Read, Write};
 use std::process::exit;
 

@@ -1,4 +1,4 @@
-//! The frame by the written rules, in two ways that share the order of refusals
+//! The frame by the written rules, in two ways that share the lengths of refusal 1
 //! alone: `by_floats` lets the processor compare, `by_bits` orders the stored
 //! patterns by sign and magnitude and looks for the earliest that nothing beats.
 
@@ -31,58 +31,59 @@ fn refused(number: u32, place: usize) -> Numbers {
     [number, place as u32, 0, 0, 0, 0]
 }
 
-/// The vertices of the list and the points of the table, if the lengths are good.
-fn taken(case: &Case) -> Result<(Vec<u32>, Vec<[u32; 2]>), Numbers> {
-    let vertices = case.vertices.len() / 12;
-    if case.vertices.len() % 12 != 0 || vertices == 0 || vertices > 65_536 {
-        return Err(refused(1, 0));
+/// Refusal 1.
+fn bad_length(vertices: &[u8], list: &[u8], coordinates: &[u8]) -> Option<Numbers> {
+    let count = vertices.len() / 12;
+    if vertices.len() % 12 != 0 || count == 0 || count > 65_536 {
+        return Some(refused(1, 0));
     }
-    if case.list.len() % 8 != 0 {
-        return Err(refused(1, 4));
+    if list.len() % 8 != 0 {
+        return Some(refused(1, 4));
     }
-    if case.coordinates.len() != 8 * vertices {
-        return Err(refused(1, 6));
+    (coordinates.len() != 8 * count).then(|| refused(1, 6))
+}
+
+/// Refusal, place and the four patterns, without a copy of the tables: the rival for speed.
+pub fn frame(vertices: &[u8], list: &[u8], coordinates: &[u8]) -> [u32; 6] {
+    if let Some(numbers) = bad_length(vertices, list, coordinates) {
+        return numbers;
     }
-    let listed = case.list.chunks(8).map(|entry| word(entry, 0)).collect();
-    let points = case.coordinates.chunks(8).map(|point| [word(point, 0), word(point, 4)]).collect();
-    Ok((listed, points))
+    let count = vertices.len() / 12;
+    let mut seen = vec![false; count];
+    for (i, entry) in list.chunks_exact(8).enumerate() {
+        let v = word(entry, 0) as usize;
+        if v >= count || seen[v] {
+            return refused(21, i);
+        }
+        seen[v] = true;
+    }
+    for (v, point) in coordinates.chunks_exact(8).enumerate() {
+        if !(f32::from_bits(word(point, 0)).is_finite() && f32::from_bits(word(point, 4)).is_finite()) {
+            return refused(23, v);
+        }
+    }
+    let mut entries = list.chunks_exact(8).map(|entry| 8 * word(entry, 0) as usize);
+    let Some(first) = entries.next() else {
+        return refused(24, 0);
+    };
+    let (x, y) = (word(coordinates, first), word(coordinates, first + 4));
+    let mut frame = [x, x, y, y];
+    for at in entries {
+        for axis in 0..2 {
+            let bits = word(coordinates, at + 4 * axis);
+            if f32::from_bits(bits) < f32::from_bits(frame[2 * axis]) {
+                frame[2 * axis] = bits;
+            }
+            if f32::from_bits(bits) > f32::from_bits(frame[2 * axis + 1]) {
+                frame[2 * axis + 1] = bits;
+            }
+        }
+    }
+    [0, 0, frame[0], frame[1], frame[2], frame[3]]
 }
 
 pub fn by_floats(case: &Case) -> Outcome {
-    answered(case, |case| {
-        let (listed, points) = match taken(case) {
-            Ok(taken) => taken,
-            Err(numbers) => return numbers,
-        };
-        let mut seen = vec![false; points.len()];
-        for (i, &v) in listed.iter().enumerate() {
-            if v as usize >= points.len() || seen[v as usize] {
-                return refused(21, i);
-            }
-            seen[v as usize] = true;
-        }
-        for (v, point) in points.iter().enumerate() {
-            if !point.iter().all(|&bits| f32::from_bits(bits).is_finite()) {
-                return refused(23, v);
-            }
-        }
-        let Some(&first) = listed.first() else {
-            return refused(24, 0);
-        };
-        let [x, y] = points[first as usize];
-        let mut frame = [x, x, y, y];
-        for &v in &listed[1..] {
-            for (axis, &bits) in points[v as usize].iter().enumerate() {
-                if f32::from_bits(bits) < f32::from_bits(frame[2 * axis]) {
-                    frame[2 * axis] = bits;
-                }
-                if f32::from_bits(bits) > f32::from_bits(frame[2 * axis + 1]) {
-                    frame[2 * axis + 1] = bits;
-                }
-            }
-        }
-        [0, 0, frame[0], frame[1], frame[2], frame[3]]
-    })
+    answered(case, |case| frame(&case.vertices, &case.list, &case.coordinates))
 }
 
 /// A whole number that orders finite patterns as their values are ordered; both zeros are 0.
@@ -105,10 +106,11 @@ fn stays(patterns: &[u32], beats: impl Fn(i64, i64) -> bool) -> u32 {
 
 pub fn by_bits(case: &Case) -> Outcome {
     answered(case, |case| {
-        let (listed, points) = match taken(case) {
-            Ok(taken) => taken,
-            Err(numbers) => return numbers,
-        };
+        if let Some(numbers) = bad_length(&case.vertices, &case.list, &case.coordinates) {
+            return numbers;
+        }
+        let listed: Vec<u32> = case.list.chunks(8).map(|entry| word(entry, 0)).collect();
+        let points: Vec<[u32; 2]> = case.coordinates.chunks(8).map(|point| [word(point, 0), word(point, 4)]).collect();
         let bad_entry = (0..listed.len()).find(|&i| listed[i] as usize >= points.len() || listed[..i].contains(&listed[i]));
         if let Some(i) = bad_entry {
             return refused(21, i);
