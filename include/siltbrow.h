@@ -97,6 +97,35 @@
  * settled. Refusals 1 to 7 change no byte of the three lent buffers; 8 to 10
  * leave all three zero.
  *
+ * siltbrow_frame answers the frame of a settled list on the map: the smallest
+ * and the largest of each coordinate of the listed vertices. It reads the
+ * vertex table (its length alone), the list and a table of coordinates, and
+ * fills its answer. It looks at no walk, no hop and no query.
+ *
+ *   list,         8 bytes an entry: vertex, distance (not looked at). Pass the
+ *                 8 * settled bytes that a run has counted, not the whole
+ *                 buffer: its zero rest reads as entries of vertex 0.
+ *   coordinates,  8 bytes a vertex: x, y, the bits of a 32-bit float each,
+ *                 big-endian
+ *   answer,      24 bytes: refusal, place, least x, greatest x, least y,
+ *                 greatest y. Each coordinate is one of the stored patterns,
+ *                 bit for bit; between equals, -0.0 and 0.0 among them, that
+ *                 of the earliest entry stays.
+ *
+ * It returns 0, for a refusal too, with the four coordinates zero. Where the
+ * answer slice is not 24 bytes it returns 1 and writes nothing at all.
+ *
+ *   refusal 1:  a length is no whole number of records, or there are not 1 to
+ *               65,536 vertices (place: 0 vertex table, 4 list), or the
+ *               coordinate table has not one point for each vertex (6)
+ *   refusal 21: the entry's vertex does not exist, or an earlier entry has it
+ *               (place: the entry)
+ *   refusal 23: a coordinate in the table is not finite, whether its vertex is
+ *               listed or not (the vertex)
+ *   refusal 24: the list is empty (0)
+ *
+ * The lowest number is given, then the lowest place.
+ *
  * Until it returns, a call uses its buffers and its answer alone: they overlap
  * neither one another nor the tables.
  *
@@ -111,20 +140,24 @@
  *   that is larger than needed costs time at every call.
  * - One held record for each vertex keeps the search fast on any tables. With
  *   less room tables can be made on which a run takes over a second.
+ * - A frame of 65,536 entries takes about a millisecond.
  * - A call uses less than 8 KB of stack, 4,096 bytes of them for its arrays.
  * - The library is code for x86-64 Linux. It needs memset and nothing else.
+ *   siltbrow_frame compares floats: call it with denormal numbers as they are,
+ *   not taken for zero (the bit DAZ of MXCSR, which -ffast-math can set).
  */
 #ifndef SILTBROW_H
 #define SILTBROW_H
 
 #include <stddef.h>
 #include <stdint.h>
+#include <string.h>
 
 /* The second number moves where a call changes, the third where only the
  * inside does; the first becomes 1 when all calls are there. */
-#define SILTBROW_VERSION "0.1.0"
+#define SILTBROW_VERSION "0.2.0"
 #define SILTBROW_VERSION_MAJOR 0
-#define SILTBROW_VERSION_MINOR 1
+#define SILTBROW_VERSION_MINOR 2
 #define SILTBROW_VERSION_PATCH 0
 
 #ifdef __cplusplus
@@ -145,13 +178,20 @@ uint32_t siltbrow_run(const uint8_t *vertices, size_t vertices_len,
                       uint8_t *parts, size_t parts_len,
                       uint8_t *answer, size_t answer_len);
 
-/* The bytes of each record, and of the answer. */
+uint32_t siltbrow_frame(const uint8_t *vertices, size_t vertices_len,
+                        const uint8_t *list, size_t list_len,
+                        const uint8_t *coordinates, size_t coordinates_len,
+                        uint8_t *answer, size_t answer_len);
+
+/* The bytes of each record, of a point of the coordinate table, and of the
+ * answer of a run or a frame. */
 #define SILTBROW_VERTEX_SIZE 12u
 #define SILTBROW_WALK_SIZE 16u
 #define SILTBROW_HOP_SIZE 16u
 #define SILTBROW_HELD_SIZE 16u
 #define SILTBROW_SETTLED_SIZE 8u
 #define SILTBROW_PART_SIZE 12u
+#define SILTBROW_POINT_SIZE 8u
 #define SILTBROW_ANSWER_SIZE 24u
 
 /* "None" as a distance, and "no twin". */
@@ -170,7 +210,8 @@ uint32_t siltbrow_run(const uint8_t *vertices, size_t vertices_len,
 #define SILTBROW_MAX_DURATION 86400u
 #define SILTBROW_MAX_SPEED 100u
 
-/* The refusals. */
+/* The refusals: 1 to 10 of the check and of a run; 1, 21, 23 and 24 of a
+ * frame. */
 #define SILTBROW_ACCEPTED 0u
 #define SILTBROW_BAD_LENGTH 1u
 #define SILTBROW_BAD_WALK 2u
@@ -182,6 +223,9 @@ uint32_t siltbrow_run(const uint8_t *vertices, size_t vertices_len,
 #define SILTBROW_HELD_ROOM 8u
 #define SILTBROW_SETTLED_ROOM 9u
 #define SILTBROW_PART_ROOM 10u
+#define SILTBROW_BAD_ENTRY 21u
+#define SILTBROW_BAD_POINT 23u
+#define SILTBROW_EMPTY_LIST 24u
 
 /* Bytes that are always enough, from the bytes of a table: for buffers that
  * are arrays as well as for those that are allocated. */
@@ -198,6 +242,16 @@ typedef struct siltbrow_answer {
     uint32_t held;
     uint32_t finished;
 } siltbrow_answer;
+
+/* The answer of siltbrow_frame. */
+typedef struct siltbrow_frame_answer {
+    uint32_t refusal;
+    uint32_t place;
+    float least_x;
+    float greatest_x;
+    float least_y;
+    float greatest_y;
+} siltbrow_frame_answer;
 
 /* The number in the 4 bytes at "at". */
 static inline uint32_t siltbrow_get(const uint8_t *at)
@@ -221,6 +275,22 @@ static inline void siltbrow_put(uint8_t *at, uint32_t number)
     at[3] = (uint8_t)number;
 }
 
+/* A coordinate from the 4 bytes at "at", and into them, bit for bit. */
+static inline float siltbrow_get_float(const uint8_t *at)
+{
+    uint32_t bits = siltbrow_get(at);
+    float number;
+    memcpy(&number, &bits, sizeof number);
+    return number;
+}
+
+static inline void siltbrow_put_float(uint8_t *at, float number)
+{
+    uint32_t bits;
+    memcpy(&bits, &number, sizeof bits);
+    siltbrow_put(at, bits);
+}
+
 /* The answer in the 24 bytes that a run has filled. */
 static inline siltbrow_answer siltbrow_read_answer(const uint8_t *bytes)
 {
@@ -231,6 +301,19 @@ static inline siltbrow_answer siltbrow_read_answer(const uint8_t *bytes)
     answer.parts = siltbrow_get(bytes + 12);
     answer.held = siltbrow_get(bytes + 16);
     answer.finished = siltbrow_get(bytes + 20);
+    return answer;
+}
+
+/* The answer in the 24 bytes that siltbrow_frame has filled. */
+static inline siltbrow_frame_answer siltbrow_read_frame(const uint8_t *bytes)
+{
+    siltbrow_frame_answer answer;
+    answer.refusal = siltbrow_get(bytes);
+    answer.place = siltbrow_get(bytes + 4);
+    answer.least_x = siltbrow_get_float(bytes + 8);
+    answer.greatest_x = siltbrow_get_float(bytes + 12);
+    answer.least_y = siltbrow_get_float(bytes + 16);
+    answer.greatest_y = siltbrow_get_float(bytes + 20);
     return answer;
 }
 
@@ -260,6 +343,9 @@ static inline const char *siltbrow_refusal_text(uint32_t refusal)
     case SILTBROW_HELD_ROOM: return "there is too little room for held records";
     case SILTBROW_SETTLED_ROOM: return "there is too little room for settled records";
     case SILTBROW_PART_ROOM: return "there is too little room for parts";
+    case SILTBROW_BAD_ENTRY: return "an entry of the list names no vertex, or one that an earlier entry has";
+    case SILTBROW_BAD_POINT: return "a coordinate is not finite";
+    case SILTBROW_EMPTY_LIST: return "the list is empty";
     default: return "there is no such refusal";
     }
 }
@@ -268,7 +354,7 @@ static inline const char *siltbrow_refusal_text(uint32_t refusal)
 static inline const char *siltbrow_place_text(uint32_t refusal)
 {
     switch (refusal) {
-    case SILTBROW_BAD_LENGTH: return "slice: 0 vertices, 1 walks, 2 hops, 3 held, 4 settled, 5 parts";
+    case SILTBROW_BAD_LENGTH: return "slice: 0 vertices, 1 walks, 2 hops, 3 held, 4 settled or list, 5 parts, 6 coordinates";
     case SILTBROW_BAD_WALK:
     case SILTBROW_WALK_ORDER: return "walk record";
     case SILTBROW_BAD_HOP:
@@ -278,6 +364,8 @@ static inline const char *siltbrow_place_text(uint32_t refusal)
     case SILTBROW_HELD_ROOM:
     case SILTBROW_SETTLED_ROOM:
     case SILTBROW_PART_ROOM: return "step";
+    case SILTBROW_BAD_ENTRY: return "entry of the list";
+    case SILTBROW_BAD_POINT: return "vertex";
     default: return "nothing";
     }
 }

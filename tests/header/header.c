@@ -157,12 +157,57 @@ static void count_test(void)
     count(SILTBROW_MAX_WALKS == 4 * SILTBROW_MAX_VERTICES && SILTBROW_MAX_HOPS == SILTBROW_MAX_WALKS, "walks and hops");
 }
 
+/* The same bits: == takes -0.0 for 0.0. */
+static int same(float a, float b)
+{
+    return memcmp(&a, &b, sizeof a) == 0;
+}
+
+static siltbrow_frame_answer frame(const uint8_t *list, size_t list_len, const uint8_t *points, size_t points_len)
+{
+    uint8_t bytes[SILTBROW_ANSWER_SIZE];
+    (void)siltbrow_frame(vertices, sizeof vertices, list, list_len, points, points_len, bytes, sizeof bytes);
+    return siltbrow_read_frame(bytes);
+}
+
+static void framed(siltbrow_frame_answer answer, uint32_t refusal, uint32_t place, const char *what)
+{
+    count(answer.refusal == refusal && answer.place == place && same(answer.least_x, 0.0f) && same(answer.greatest_x, 0.0f)
+              && same(answer.least_y, 0.0f) && same(answer.greatest_y, 0.0f), what);
+}
+
+static void frame_test(void)
+{
+    uint8_t list[2 * SILTBROW_SETTLED_SIZE], points[2 * SILTBROW_POINT_SIZE], bytes[SILTBROW_ANSWER_SIZE] = {7};
+    size_t l = sizeof list, p = sizeof points;
+    put4(list, 1, 0, 0, 0);
+    siltbrow_put_float(points, -1.5f);
+    siltbrow_put_float(points + 4, 0.0f);
+    siltbrow_put_float(points + 8, 2.25f);
+    siltbrow_put_float(points + 12, -0.0f);
+    count(siltbrow_get(points) == 0xBFC00000u && same(siltbrow_get_float(points), -1.5f), "a float comes back from its bytes");
+    siltbrow_frame_answer both = frame(list, l, points, p);
+    count(both.refusal == SILTBROW_ACCEPTED && same(both.least_x, -1.5f) && same(both.greatest_x, 2.25f), "the frame of two points");
+    count(same(both.least_y, -0.0f) && same(both.greatest_y, -0.0f), "of two zeros that of the earlier entry stays");
+    framed(frame(list, l - 1, points, p), SILTBROW_BAD_LENGTH, 4, "a cut entry");
+    framed(frame(list, l, points, p - SILTBROW_POINT_SIZE), SILTBROW_BAD_LENGTH, 6, "a point is missing");
+    framed(frame(list, 0, points, p), SILTBROW_EMPTY_LIST, 0, "an empty list");
+    siltbrow_put(list + 8, 1);
+    framed(frame(list, l, points, p), SILTBROW_BAD_ENTRY, 1, "a vertex twice");
+    siltbrow_put(list + 8, 2);
+    framed(frame(list, l, points, p), SILTBROW_BAD_ENTRY, 1, "no such vertex");
+    siltbrow_put(points + 4, 0x7F800000u);
+    framed(frame(list, SILTBROW_SETTLED_SIZE, points, p), SILTBROW_BAD_POINT, 0, "an infinite coordinate, not listed");
+    count(siltbrow_frame(vertices, sizeof vertices, list, l, points, p, bytes, sizeof bytes - 1) == 1 && bytes[0] == 7, "an answer that is too short");
+}
+
 static void text_test(void)
 {
+    static const uint32_t refusals[] = {0, 1, 2, 3, 4, 5, 6, 7, 8, 9, 10, SILTBROW_BAD_ENTRY, SILTBROW_BAD_POINT, SILTBROW_EMPTY_LIST, 99};
     char version[32];
-    for (uint32_t a = 0; a <= SILTBROW_PART_ROOM; a++)
-        for (uint32_t b = 0; b < a; b++)
-            count(strcmp(siltbrow_refusal_text(a), siltbrow_refusal_text(b)) != 0, "each refusal has its own text");
+    for (size_t a = 0; a < sizeof refusals / sizeof *refusals; a++)
+        for (size_t b = 0; b < a; b++)
+            count(strcmp(siltbrow_refusal_text(refusals[a]), siltbrow_refusal_text(refusals[b])) != 0, "each refusal has its own text");
     count(strcmp(siltbrow_refusal_text(99), "there is no such refusal") == 0, "no other refusal has one");
     count(strcmp(siltbrow_place_text(SILTBROW_BAD_WALK), "walk record") == 0, "the place of a walk");
     (void)snprintf(version, sizeof version, "%d.%d.%d", SILTBROW_VERSION_MAJOR, SILTBROW_VERSION_MINOR, SILTBROW_VERSION_PATCH);
@@ -176,6 +221,7 @@ int main(void)
     table_test();
     query_test();
     count_test();
+    frame_test();
     text_test();
     printf("%u passed, %u failed\n", passed, failed);
     return failed != 0;

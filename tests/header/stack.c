@@ -16,6 +16,7 @@ static uint8_t walks[WALKS * SILTBROW_WALK_SIZE];
 static uint8_t held[SILTBROW_HELD_BYTES(sizeof vertices)];
 static uint8_t settled[SILTBROW_SETTLED_BYTES(sizeof vertices)];
 static uint8_t parts[SILTBROW_PART_BYTES(sizeof walks)];
+static uint8_t points[VERTICES * SILTBROW_POINT_SIZE];
 static uint8_t answer[SILTBROW_ANSWER_SIZE];
 
 static uint32_t limit;
@@ -62,6 +63,15 @@ static void *check(void *unused)
     return unused;
 }
 
+/* The frame of all vertices, which stand in the settled buffer. */
+static void *frame(void *unused)
+{
+    uint8_t here = 0;
+    top = &here;
+    (void)siltbrow_frame(vertices, sizeof vertices, settled, sizeof settled, points, sizeof points, answer, sizeof answer);
+    return unused;
+}
+
 /* The bytes below the caller's frame that a call has used. */
 static size_t used(void *(*call)(void *))
 {
@@ -98,8 +108,12 @@ int main(void)
             whole += siltbrow_read_answer(answer).settled == VERTICES;
         }
     size_t depth = used(check);
-    printf("a check uses %zu bytes of stack, a run at most %zu\n", depth, most);
-    int good = whole > 0 && depth > 1000 && most > 1000 && depth < MOST && most < MOST;
+    for (uint32_t v = 0; v < VERTICES; v++)
+        siltbrow_put(settled + 8 * v, v);
+    size_t framing = used(frame);
+    int framed = siltbrow_read_frame(answer).refusal == SILTBROW_ACCEPTED;
+    printf("a check uses %zu bytes of stack, a run at most %zu, a frame %zu\n", depth, most, framing);
+    int good = whole > 0 && framed && depth > 1000 && most > 1000 && framing > 1000 && depth < MOST && most < MOST && framing < MOST;
     printf("%d passed, %d failed\n", good, !good);
     return !good;
 }
