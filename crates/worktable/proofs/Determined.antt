@@ -72,7 +72,7 @@ least-one κs a z z′ e e′ o p q = nearest-same _ _ z z′ o p q
 pub start-one : {t r : Table} {b c : List ℕ} {n : ℕ} → Holds t b empty × (t .capacity ≡ n) → Holds r c empty × (r .capacity ≡ n) → (mapOf t b ≡ mapOf r c) × (t .capacity ≡ r .capacity)
 start-one p q = (p .0 .map ∙ sym (q .0 .map), p .1 ∙ sym (q .1))
 
--- `insert`, `lower`, `take_off`, `pass`, `settle`, `settle_at` and `drop`: the same
+-- `insert`, `pass`, `settle_at` and `drop`: the same
 pub gives-one : {t r r′ : Table} {b c c′ : List ℕ} {m : Map} → Gives t r b c m → Gives t r′ b c′ m → (mapOf r c ≡ mapOf r′ c′) × (r .capacity ≡ r′ .capacity)
 gives-one p q = (p .holds .map ∙ sym (q .holds .map), p .capacity ∙ sym (q .capacity))
 

@@ -1,4 +1,4 @@
-//! `framing self|mutants|make|judge SEED CASES`: the frame of document 02 judged from outside. `make` writes cases for the driver and `judge` reads what the
+//! `framing self|mutants|make|judge SEED CASES`: the frame of RULES 21 judged from outside. `make` writes cases for the driver and `judge` reads what the
 //! library answered; both begin with the fixed cases. The last line is 'N passed, M failed'.
 
 use framing::rules::{by_bits, by_floats, Case, Outcome};
@@ -13,7 +13,7 @@ fn all(seed: u64, count: u64) -> impl Iterator<Item = Case> {
     cases::fixed().into_iter().map(|(case, _)| case).chain((0..count).map(move |i| cases::made(seed, i)))
 }
 
-/// What document 02 says of the fixed cases, then the two programs on one another. At the limits one way alone: the other takes every pair.
+/// What RULES 21 says of the fixed cases, then the two programs on one another. At the limits one way alone: the other takes every pair.
 fn own(seed: u64, count: u64) -> (u64, u64) {
     let mut counts = (0, 0);
     for (case, numbers) in cases::fixed() {
