@@ -1,6 +1,6 @@
 // The frame of a settled list on the map: the smallest and the largest of each coordinate of the listed vertices.
 // Promises: the answer of the definition for every byte string of every length, each value a stored one bit for bit; the lent marks are zero afterwards.
-// Rests on: the words of `records`, the list's judge of `lists`, and the toolchain's comparison of floats. Floats are compared, never computed with.
+// Rests on: the numbers of `words`, the list's judge of `lists`, and the toolchain's comparison of floats. Floats are compared, never computed with.
 use lists::Judged;
 use words::Refusal;
 ghost use mathlib.Core.Path.{_≡_};

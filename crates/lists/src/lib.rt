@@ -1,6 +1,6 @@
 // A list of records that name vertices: the first word of each is a vertex, the second a distance. No vertex may stand twice.
 // Promises: the first bad entry is found as the definition says, in two passes over the list, and the lent marks are zero afterwards.
-// Rests on: the words of `records` and the set of `marks`, one half of the vertices at a time.
+// Rests on: the numbers of `words` and the set of `marks`, one half of the vertices at a time.
 ghost use mathlib.Core.Path.{_≡_};
 ghost use mathlib.Core.Bool.{true, _||_, _&&_, not};
 ghost use Prim.Native.Nat.{ℕ, _+_, _*_, _/_, _%_, _<_, _≤_};
