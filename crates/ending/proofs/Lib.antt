@@ -1,2 +1,2 @@
-pub mod RestCleared
+pub mod FewEntries
 pub mod Determined

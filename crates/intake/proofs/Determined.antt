@@ -16,5 +16,5 @@ one-query-fault κs a z z′ e e′ p q = told-injective z z′ (p [] [] ∙ sym
 pub one-input-fault : (κs : _) (a : _) (z z′ : _) (e e′ : _) → input-fault.Post κs a z e → input-fault.Post κs a z′ e′ → z ≡ z′
 one-input-fault κs a z z′ e e′ p q = told-injective z z′ (p .0 ∙ sym (q .0))
 
-pub one-scratch : (κs : _) (a : _) (z z′ : _) (e e′ : _) → input-fault.Post κs a z e → input-fault.Post κs a z′ e′ → now (e .1 .1 .1 .1 .1 .1 .1 .0) ≡ now (e′ .1 .1 .1 .1 .1 .1 .1 .0)
+pub one-scratch : (κs : _) (a : _) (z z′ : _) (e e′ : _) → input-fault.Post κs a z e → input-fault.Post κs a z′ e′ → now (e .1 .1 .1 .1 .1 .1 .0) ≡ now (e′ .1 .1 .1 .1 .1 .1 .0)
 one-scratch κs a z z′ e e′ p q = p .1 ∙ sym (q .1)

@@ -1,4 +1,4 @@
--- Refusals 1 (places 3 to 5) and 7: each return is the first test that fails. Assumes nothing.
+-- Refusals 1 (places 3 and 4) and 7: each return is the first test that fails. Assumes nothing.
 use mathlib.Core.Path.{_≡_, sym, ap, ap₂, _∙_}
 use mathlib.Core.Bool.{Bool, true, false, not, _&&_}
 use mathlib.Core.List.{List}
@@ -41,24 +41,18 @@ cut : (size : ℕ) (b : List ℕ) → (length b % size ≡ 0 → ⊥) → wholeO
 unfolding wholeOf
 cut size b n = ne-eqb (length b % size) 0 n
 
-module _ (held settled parts : List ℕ) where
-  pub held-cut : (length held % 16 ≡ 0 → ⊥) → record { number = 1; place = 3 } ≡ bufferLengths held settled parts
+module _ (held settled : List ℕ) where
+  pub held-cut : (length held % 16 ≡ 0 → ⊥) → record { number = 1; place = 3 } ≡ bufferLengths held settled
   unfolding bufferLengths
   held-cut n = sym (failed (wholeOf 16 held) 1 3 _ (omega arith) (cut 16 held n))
 
-  pub settled-cut : length held % 16 ≡ 0 → (length settled % 8 ≡ 0 → ⊥) → record { number = 1; place = 4 } ≡ bufferLengths held settled parts
+  pub settled-cut : length held % 16 ≡ 0 → (length settled % 8 ≡ 0 → ⊥) → record { number = 1; place = 4 } ≡ bufferLengths held settled
   unfolding bufferLengths
-  settled-cut h n = sym (passed (wholeOf 16 held) 1 3 _ (whole 16 held h) ∙ failed (wholeOf 8 settled) 1 4 _ (omega arith) (cut 8 settled n))
+  settled-cut h n = sym (passed (wholeOf 16 held) 1 3 _ (whole 16 held h) ∙ last-failed (wholeOf 8 settled) 1 4 (cut 8 settled n))
 
-  pub parts-cut : length held % 16 ≡ 0 → length settled % 8 ≡ 0 → (length parts % 12 ≡ 0 → ⊥) → record { number = 1; place = 5 } ≡ bufferLengths held settled parts
+  pub none-cut : length held % 16 ≡ 0 → length settled % 8 ≡ 0 → fine ≡ bufferLengths held settled
   unfolding bufferLengths
-  parts-cut h s n =
-      sym (passed (wholeOf 16 held) 1 3 _ (whole 16 held h) ∙ passed (wholeOf 8 settled) 1 4 _ (whole 8 settled s) ∙ last-failed (wholeOf 12 parts) 1 5 (cut 12 parts n))
-
-  pub none-cut : length held % 16 ≡ 0 → length settled % 8 ≡ 0 → length parts % 12 ≡ 0 → fine ≡ bufferLengths held settled parts
-  unfolding bufferLengths
-  none-cut h s p =
-      sym (passed (wholeOf 16 held) 1 3 _ (whole 16 held h) ∙ passed (wholeOf 8 settled) 1 4 _ (whole 8 settled s) ∙ last (wholeOf 12 parts) 1 5 (whole 12 parts p))
+  none-cut h s = sym (passed (wholeOf 16 held) 1 3 _ (whole 16 held h) ∙ last (wholeOf 8 settled) 1 4 (whole 8 settled s))
 
 -- the query: what its road and its fields have to be
 module _ (v w h : List ℕ) (Q : Query) where

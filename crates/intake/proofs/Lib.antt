@@ -1,3 +1,4 @@
 pub mod FirstFault
 pub mod RefusalOrder
 pub mod Determined
+pub mod Window

@@ -4,5 +4,5 @@ use Prim.Native.Nat.{ℕ}
 use Rattle.journeys.specs.Answers.{Lent}
 
 -- by its bytes
-abbrev pub lent : List ℕ → List ℕ → List ℕ → List ℕ → List ℕ → List ℕ → Lent
-lent v w h held settled parts = record { vertices = v; walks = w; hops = h; held = held; settled = settled; parts = parts }
+abbrev pub lent : List ℕ → List ℕ → List ℕ → List ℕ → List ℕ → Lent
+lent v w h held settled = record { vertices = v; walks = w; hops = h; held = held; settled = settled }

@@ -4,30 +4,29 @@
 use records::Query;
 use words::Refusal;
 use words::Seconds;
+use words::Ticks;
 use words::refused;
 ghost use mathlib.Core.Path.{_≡_};
 ghost use mathlib.Core.List.{List};
-ghost use Prim.Native.Nat.{ℕ};
+ghost use Prim.Native.Nat.{ℕ, _≤_};
 ghost use lib.ListN.{replicate};
 ghost use Rattle.journeys.specs.Tables.{tablesOf};
+ghost use Rattle.journeys.specs.Query as query;
 ghost use Rattle.journeys.specs.Refusals.{bufferLengths, queryRefusal};
 ghost use Rattle.journeys.specs.Answers.{early};
 ghost use Rattle.words.specs.Told.{told};
 ghost use Rattle.records.specs.Asked.{queryOf};
 ghost use Rattle.intake.specs.Lending.{lent};
 
-// Refusal 1, places 3 to 5: a lent buffer is a whole number of records.
-pub fn buffer_fault(held: &[u8], settled: &[u8], parts: &[u8]) -> Refusal
-    ensures { λ r. ⌜ told r ≡ bufferLengths (now (held .entry)) (now (settled .entry)) (now (parts .entry)) ⌝ }
+// Refusal 1, places 3 and 4: a lent buffer is a whole number of records.
+pub fn buffer_fault(held: &[u8], settled: &[u8]) -> Refusal
+    ensures { λ r. ⌜ told r ≡ bufferLengths (now (held .entry)) (now (settled .entry)) ⌝ }
 {
     if held.len() % 16 != 0 {
         return refused(1, 3);
     }
     if settled.len() % 8 != 0 {
         return refused(1, 4);
-    }
-    if parts.len() % 12 != 0 {
-        return refused(1, 5);
     }
     words::fine()
 }
@@ -57,6 +56,14 @@ pub fn query_fault(walks: &[u8], q: Query) -> Refusal
     words::fine()
 }
 
+// D: the duration of a good query in ticks.
+pub fn allowed(q: Query) -> Ticks
+    requires { ⌜ (q .duration ≤ 86400) × (q .speed ≤ 100) ⌝ }
+    ensures { λ r. ⌜ r .0 ≡ query.allowed (queryOf q) ⌝ }
+{
+    words::ticks_of(Seconds(q.duration as i32), q.speed)
+}
+
 // Refusals 1 to 7: lengths first, of tables and of buffers, then the contents of the tables, then the query. The scratch may hold anything at the call.
 pub fn input_fault(
     vertices: &[u8],
@@ -64,11 +71,10 @@ pub fn input_fault(
     hops: &[u8],
     held: &[u8],
     settled: &[u8],
-    parts: &[u8],
     q: Query,
     scratch: &mut [u16; 2048],
 ) -> Refusal
-    ensures { λ r. ⌜ told r ≡ early (lent (now (vertices .entry)) (now (walks .entry)) (now (hops .entry)) (now (held .entry)) (now (settled .entry)) (now (parts .entry))) (queryOf q) ⌝ }
+    ensures { λ r. ⌜ told r ≡ early (lent (now (vertices .entry)) (now (walks .entry)) (now (hops .entry)) (now (held .entry)) (now (settled .entry))) (queryOf q) ⌝ }
     ensures { λ _. ⌜ now (scratch .exit) ≡ replicate 2048 0 ⌝ }
 {
     let uneven = audit::lengths(vertices, walks, hops);
@@ -76,7 +82,7 @@ pub fn input_fault(
         departing::clear(scratch);
         return uneven;
     }
-    let cut = buffer_fault(held, settled, parts);
+    let cut = buffer_fault(held, settled);
     if cut.number != 0 {
         departing::clear(scratch);
         return cut;

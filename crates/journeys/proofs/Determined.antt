@@ -15,8 +15,7 @@ use Rattle.journeys.specs.Tables.{vertexCount}
 use Rattle.journeys.specs.Query.{Query, allowed}
 use Rattle.journeys.specs.Order.{Settled, IsOrder}
 use Rattle.journeys.specs.Records.{network}
-use Rattle.journeys.specs.Parts.{partList}
-use Rattle.journeys.specs.Answers.{Lent, Answer, tables, early, refusedEarly, refusedLate, settledBytes, partBytes, roomUpTo, acceptedAfter, answerOver, Allowed}
+use Rattle.journeys.specs.Answers.{Lent, Answer, tables, early, refusedEarly, refusedLate, settledBytes, roomUpTo, acceptedAfter, answerOver, Allowed}
 use Rattle.journeys.proofs.Tests.{split, cond-true, cond-false}
 use Rattle.journeys.proofs.Greedy.{run}
 use Rattle.journeys.proofs.Valid.{early-valid}
@@ -88,10 +87,9 @@ module _ (b : Lent) (Q : Query) (limit : ℕ) where
           let late = refusedLate b (roomUpTo b Q l (min limit (length l))) in
           absurd (eqb-false (roomUpTo b Q l (min limit (length l)) .number) 0 t (ap (λ (y : Answer). y .refusal) (sym (q ∙ cond-false (acceptedAfter b Q l (min limit (length l))) late t)) ∙ r))
 
-  -- An accepted run that is finished lists the whole order and all its parts.
+  -- An accepted run that is finished lists the whole order.
   pub finished-all : (a : Answer) (x : Accepted a) → a .finished ≡ 1
       → (a .settledCount ≡ length (x .order)) × (a .settled ≡ filled (b .settled) (flatMap settledBytes (x .order)))
-      × (a .partCount ≡ length (partList (tables b) Q (x .order))) × (a .parts ≡ filled (b .parts) (flatMap partBytes (partList (tables b) Q (x .order))))
   unfolding acceptedAfter
   finished-all a x f =
       ⊎-elim
@@ -99,8 +97,6 @@ module _ (b : Lent) (Q : Query) (limit : ℕ) where
       let q : take k (x .order) ≡ x .order = take-all k (x .order) (leb-true (length (x .order)) k t) in (
         ap (λ (y : Answer). y .settledCount) (x .is) ∙ ap length q,
         ap (λ (y : Answer). y .settled) (x .is) ∙ ap (λ (S : List Settled). filled (b .settled) (flatMap settledBytes S)) q,
-        ap (λ (y : Answer). y .partCount) (x .is) ∙ ap (λ (S : List Settled). length (partList (tables b) Q S)) q,
-        ap (λ (y : Answer). y .parts) (x .is) ∙ ap (λ (S : List Settled). filled (b .parts) (flatMap partBytes (partList (tables b) Q S))) q,
       ))
       (λ (t : leb (length (x .order)) k ≡ false).
       let z : cond (leb (length (x .order)) k) 1 0 ≡ 1 = sym (ap (λ (y : Answer). y .finished) (x .is)) ∙ f in
@@ -113,10 +109,10 @@ module _ (b : Lent) (Q : Query) (limit : ℕ) where
 -- An answer counts no more records than were lent.
 module _ (b : Lent) (Q : Query) (limit : ℕ) where
   abbrev pub Within : Answer → Type 0
-  Within a = (a .settledCount ≤ length (b .settled) / 8) × (a .partCount ≤ length (b .parts) / 12) × (a .heldCount ≤ length (b .held) / 16)
+  Within a = (a .settledCount ≤ length (b .settled) / 8) × (a .heldCount ≤ length (b .held) / 16)
 
-  none-counted : (a : Answer) → a .settledCount ≡ 0 → a .partCount ≡ 0 → a .heldCount ≡ 0 → Within a
-  none-counted a x y z = (omega arith, omega arith, omega arith)
+  none-counted : (a : Answer) → a .settledCount ≡ 0 → a .heldCount ≡ 0 → Within a
+  none-counted a x y = (omega arith, omega arith)
 
   over-within : (l : List Settled) → Within (answerOver b Q l limit)
   unfolding answerOver acceptedAfter refusedLate
@@ -129,13 +125,13 @@ module _ (b : Lent) (Q : Query) (limit : ℕ) where
           → Within (cond (eqb (roomUpTo b Q l k .number) 0) (acceptedAfter b Q l k) (refusedLate b (roomUpTo b Q l k)))
       go (inl t) =
           let R = room-exactly b Q l k .0 (eqb-true _ 0 t) k (let z : k ≤ k = omega arith in z) in
-          subst Within (sym (cond-true (acceptedAfter b Q l k) (refusedLate b (roomUpTo b Q l k)) t)) (R .1, R .2, R .0)
+          subst Within (sym (cond-true (acceptedAfter b Q l k) (refusedLate b (roomUpTo b Q l k)) t)) (R .1, R .0)
       go (inr t) =
-          subst Within (sym (cond-false (acceptedAfter b Q l k) (refusedLate b (roomUpTo b Q l k)) t)) (none-counted (refusedLate b (roomUpTo b Q l k)) refl refl refl)
+          subst Within (sym (cond-false (acceptedAfter b Q l k) (refusedLate b (roomUpTo b Q l k)) t)) (none-counted (refusedLate b (roomUpTo b Q l k)) refl refl)
 
   pub counts-within : (a : Answer) → Allowed b Q limit a → Within a
   unfolding refusedEarly
   counts-within a A =
       ⊎-elim (λ (t : eqb (early b Q .number) 0 ≡ true). let x = A .accepted (eqb-true _ 0 t) in subst Within (sym (x .2)) (over-within (x .0)))
       (λ (t : eqb (early b Q .number) 0 ≡ false).
-      subst Within (sym (A .refused (eqb-false _ 0 t))) (none-counted (refusedEarly b (early b Q)) refl refl refl)) (split (eqb (early b Q .number) 0))
+      subst Within (sym (A .refused (eqb-false _ 0 t))) (none-counted (refusedEarly b (early b Q)) refl refl)) (split (eqb (early b Q .number) 0))

@@ -20,9 +20,11 @@ pub mod Fits
 pub mod OrderLaws
 pub mod Demands
 pub mod Determined
+pub mod PartAnswers
 pub mod Cases
 pub mod Marked
 pub mod Limits
+pub mod PartLimits
 pub mod Clock
 pub mod ByStep
 pub mod Judged

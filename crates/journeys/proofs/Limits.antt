@@ -8,7 +8,9 @@ use lib.ListN.{length, take, drop, replicate}
 use Rattle.journeys.specs.Counting.{In}
 use Rattle.journeys.specs.Refusals.{Refusal, fine, unless, orElse, wholeOf, tableOf, tableLengths, bufferLengths}
 use Rattle.journeys.specs.Answers.{Answer, Allowed}
-use Rattle.journeys.specs.Marked.{Case}
+use Rattle.journeys.specs.PartAnswers.{partsAnswer, listLengths}
+use Rattle.journeys.specs.OneRun.{ownList}
+use Rattle.journeys.specs.Marked.{Case, partsOver}
 use Rattle.journeys.specs.Limits.{changed, lengthLimits, walkLimits, hopLimits, orderLimits, queryLimits, firstReasons, roomLimits, limits}
 use Rattle.journeys.proofs.Cases.{tested, cases-hold}
 
@@ -17,7 +19,8 @@ unfolding tested changed lengthLimits walkLimits hopLimits orderLimits queryLimi
 table = refl
 
 -- In each row, whatever answer the definitions allow shows what the row says.
-pub limit-cases : (c : Case) → In c limits → (a : Answer) → Allowed (c .lent) (c .query) (c .limit) a → c .view a ≡ c .want
+pub limit-cases : (c : Case) → In c limits → (a : Answer) → Allowed (c .lent) (c .query) (c .limit) a
+    → c .view a (partsAnswer (partsOver (c .lent) (ownList a) (c .parts)) (c .query)) ≡ c .want
 limit-cases = cases-hold limits table
 
 -- ---- the largest counts: 65,536 vertices, 262,144 walks and as many hops are good, and one more of any is refused
@@ -41,7 +44,11 @@ module _ (v w h : List ℕ) where
   unfolding tableLengths tableOf wholeOf unless orElse
   one-hop-more a b c = rw a (rw b (rw c refl))
 
--- The lent buffers have no limit of count: any whole number of records is good.
-pub any-room : (held settled parts : List ℕ) → length held % 16 ≡ 0 → length settled % 8 ≡ 0 → length parts % 12 ≡ 0 → bufferLengths held settled parts ≡ fine
+-- The lent buffers and the list have no limit of count: any whole number of records is good.
+pub any-room : (held settled : List ℕ) → length held % 16 ≡ 0 → length settled % 8 ≡ 0 → bufferLengths held settled ≡ fine
 unfolding bufferLengths wholeOf unless orElse
-any-room held settled parts a b c = rw a (rw b (rw c refl))
+any-room held settled a b = rw a (rw b refl)
+
+pub any-list : (list parts : List ℕ) → length list % 8 ≡ 0 → length parts % 12 ≡ 0 → listLengths list parts ≡ fine
+unfolding listLengths wholeOf unless orElse
+any-list list parts a b = rw a (rw b refl)

@@ -12,7 +12,7 @@ use Rattle.journeys.specs.Counting.{In}
 use Rattle.journeys.specs.Query.{Query}
 use Rattle.journeys.specs.Order.{Settled}
 use Rattle.journeys.specs.Refusals.{Refusal, fine, unless, orElse, chain, firstFrom, firstBad}
-use Rattle.journeys.specs.Answers.{Lent, heldAfter, partsAfter, roomAt, roomUpTo, Room}
+use Rattle.journeys.specs.Answers.{Lent, heldAfter, roomAt, roomUpTo, Room}
 use Rattle.journeys.proofs.Tests.{split, cond-true, cond-false, same-or-below}
 
 pub or-fine : (a b : Refusal) → orElse a b .number ≡ 0 → (a .number ≡ 0) × (b .number ≡ 0)
@@ -117,22 +117,16 @@ module _ (b : Lent) (Q : Query) (l : List Settled) where
       listed : Bool
       listed = leb (length (take k l)) (length (b .settled) / 8)
 
-      parted : Bool
-      parted = leb (length (partsAfter b Q l k)) (length (b .parts) / 12)
-
-      there : orElse (unless held 8 k) (orElse (unless listed 9 k) (unless parted 10 k)) .number ≡ 0 → Room b Q l k
+      there : orElse (unless held 8 k) (unless listed 9 k) .number ≡ 0 → Room b Q l k
       there e =
           let x = or-fine (unless held 8 k) _ e in
-          let y = or-fine (unless listed 9 k) _ (x .1) in
-          (leb-true _ _ (unless-fine held 8 k (omega arith) (x .0)), leb-true _ _ (unless-fine listed 9 k (omega arith) (y .0)), leb-true _ _ (unless-fine parted 10 k (omega arith) (y .1)))
+          (leb-true _ _ (unless-fine held 8 k (omega arith) (x .0)), leb-true _ _ (unless-fine listed 9 k (omega arith) (x .1)))
 
-      back : Room b Q l k → orElse (unless held 8 k) (orElse (unless listed 9 k) (unless parted 10 k)) .number ≡ 0
+      back : Room b Q l k → orElse (unless held 8 k) (unless listed 9 k) .number ≡ 0
       back r =
           let p = unless-good held 8 k (le-leb _ _ (r .0)) in
           let q = unless-good listed 9 k (le-leb _ _ (r .1)) in
-          let s = unless-good parted 10 k (le-leb _ _ (r .2)) in
-          ap (λ (z : Refusal). z .number)
-          (or-next (unless held 8 k) _ (ap (λ (z : Refusal). z .number) p) ∙ or-next (unless listed 9 k) _ (ap (λ (z : Refusal). z .number) q) ∙ s)
+          ap (λ (z : Refusal). z .number) (or-next (unless held 8 k) _ (ap (λ (z : Refusal). z .number) p) ∙ q)
 
   -- Room is refused exactly when a table or list would be larger than lent after one of the steps made.
   pub room-exactly : (k : ℕ) → (roomUpTo b Q l k .number ≡ 0) ↔ ((j : ℕ) → j ≤ k → Room b Q l j)

@@ -86,7 +86,7 @@ pub early-valid : (b : Lent) (Q : Query) → early b Q .number ≡ 0 → Valid (
 unfolding early
 early-valid b Q e =
     let x = or-fine (tableLengths (b .vertices) (b .walks) (b .hops)) _ e in
-    let y = or-fine (bufferLengths (b .held) (b .settled) (b .parts)) _ (x .1) in
+    let y = or-fine (bufferLengths (b .held) (b .settled)) _ (x .1) in
     let z = or-fine (contents (tables b)) _ (y .1) in
     record { tables = lengths-valid (b .vertices) (b .walks) (b .hops) (x .0) (z .0); query = query-valid (tables b) Q (z .1) }
 

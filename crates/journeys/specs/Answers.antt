@@ -12,29 +12,25 @@ use Rattle.journeys.specs.Query.{Query}
 use Rattle.journeys.specs.Order.{Settled, IsOrder}
 use Rattle.journeys.specs.Network.{Held, distanceIn, heldList}
 use Rattle.journeys.specs.Records.{network}
-use Rattle.journeys.specs.Parts.{Part, partList}
 use Rattle.journeys.specs.Refusals.{Refusal, unless, orElse, chain, firstFrom, tableLengths, bufferLengths, contents, queryRefusal}
 
--- the bytes lent: three tables, and three buffers as they are at the call
+-- the bytes lent: three tables, and two buffers as they are at the call
 pub record Lent : Type 0 where
   pub vertices : List ℕ
   pub walks : List ℕ
   pub hops : List ℕ
   pub held : List ℕ
   pub settled : List ℕ
-  pub parts : List ℕ
 
--- the six answers, and the three buffers afterwards
+-- the answers, and the two buffers afterwards
 pub record Answer : Type 0 where
   pub refusal : ℕ
   pub place : ℕ
   pub settledCount : ℕ
-  pub partCount : ℕ
   pub heldCount : ℕ
   pub finished : ℕ
   pub held : List ℕ
   pub settled : List ℕ
-  pub parts : List ℕ
 
 abbrev pub tables : Lent → Tables
 tables b = tablesOf (b .vertices) (b .walks) (b .hops)
@@ -44,7 +40,7 @@ unfoldable pub early : Lent → Query → Refusal
 early b Q =
     chain
     (tableLengths (b .vertices) (b .walks) (b .hops)
-    ∷ bufferLengths (b .held) (b .settled) (b .parts)
+    ∷ bufferLengths (b .held) (b .settled)
     ∷ contents (tables b)
     ∷ queryRefusal (tables b) Q
     ∷ [])
@@ -55,27 +51,23 @@ refusedEarly b r =
       refusal = r .number;
       place = r .place;
       settledCount = 0;
-      partCount = 0;
       heldCount = 0;
       finished = 0;
       held = b .held;
       settled = b .settled;
-      parts = b .parts;
     }
 
--- refusals 8 to 10, which leave all three buffers zero
+-- refusals 8 and 9, which leave both buffers zero
 unfoldable pub refusedLate : Lent → Refusal → Answer
 refusedLate b r =
     record {
       refusal = r .number;
       place = r .place;
       settledCount = 0;
-      partCount = 0;
       heldCount = 0;
       finished = 0;
       held = cleared (b .held);
       settled = cleared (b .settled);
-      parts = cleared (b .parts);
     }
 
 abbrev pub heldBytes : Held → List ℕ
@@ -84,27 +76,20 @@ heldBytes x = word (x .vertex) ++ word (x .distance) ++ word (x .state) ++ word 
 abbrev pub settledBytes : Settled → List ℕ
 settledBytes x = word (x .vertex) ++ word (x .distance)
 
-abbrev pub partBytes : Part → List ℕ
-partBytes x = word (x .walk) ++ word (x .start) ++ word (x .end)
-
 -- l is the whole order of settling
 module _ (b : Lent) (Q : Query) (l : List Settled) where
-  -- the working table and the parts after k steps
+  -- the working table after k steps
   abbrev pub heldAfter : ℕ → List Held
   heldAfter k = heldList (network (tables b) Q) (distanceIn (take k l))
 
-  abbrev pub partsAfter : ℕ → List Part
-  partsAfter k = partList (tables b) Q (take k l)
-
-  -- after the whole step k the table and both lists are no larger than lent
+  -- after the whole step k the table and the list are no larger than lent
   abbrev pub Room : ℕ → Type 0
-  Room k = (length (heldAfter k) ≤ length (b .held) / 16) × (length (take k l) ≤ length (b .settled) / 8) × (length (partsAfter k) ≤ length (b .parts) / 12)
+  Room k = (length (heldAfter k) ≤ length (b .held) / 16) × (length (take k l) ≤ length (b .settled) / 8)
 
   -- and if not, which of them is larger
   unfoldable pub roomAt : ℕ → Refusal
   roomAt k =
-      orElse (unless (leb (length (heldAfter k)) (length (b .held) / 16)) 8 k)
-      (orElse (unless (leb (length (take k l)) (length (b .settled) / 8)) 9 k) (unless (leb (length (partsAfter k)) (length (b .parts) / 12)) 10 k))
+      orElse (unless (leb (length (heldAfter k)) (length (b .held) / 16)) 8 k) (unless (leb (length (take k l)) (length (b .settled) / 8)) 9 k)
 
   -- the earliest of the steps 0 to k that lacks room
   unfoldable pub roomUpTo : ℕ → Refusal
@@ -117,12 +102,10 @@ module _ (b : Lent) (Q : Query) (l : List Settled) where
         refusal = 0;
         place = 0;
         settledCount = length (take k l);
-        partCount = length (partsAfter k);
         heldCount = length (heldAfter k);
         finished = cond (leb (length l) k) 1 0;
         held = filled (b .held) (flatMap heldBytes (heldAfter k));
         settled = filled (b .settled) (flatMap settledBytes (take k l));
-        parts = filled (b .parts) (flatMap partBytes (partsAfter k));
       }
 
   -- one step settles one vertex: the run makes as many steps as its limit and the order allow

@@ -11,6 +11,9 @@ pub mod Refusals
 pub mod Valid
 pub mod Lists
 pub mod Answers
+pub mod PartAnswers
+pub mod OneRun
 pub mod Clock
 pub mod Marked
 pub mod Limits
+pub mod PartLimits

@@ -15,18 +15,17 @@ unfoldable pub changed : List ℕ → ℕ → ℕ → List ℕ
 changed b at x = take at b ++ word x ++ drop (at + 4) b
 
 abbrev pub vertexBytesOf : Lent → List ℕ → Lent
-vertexBytesOf b v = record { vertices = v; walks = b .walks; hops = b .hops; held = b .held; settled = b .settled; parts = b .parts }
+vertexBytesOf b v = record { vertices = v; walks = b .walks; hops = b .hops; held = b .held; settled = b .settled }
 
 abbrev pub walkBytesOf : Lent → List ℕ → Lent
-walkBytesOf b w = record { vertices = b .vertices; walks = w; hops = b .hops; held = b .held; settled = b .settled; parts = b .parts }
+walkBytesOf b w = record { vertices = b .vertices; walks = w; hops = b .hops; held = b .held; settled = b .settled }
 
 abbrev pub hopBytesOf : Lent → List ℕ → Lent
-hopBytesOf b h = record { vertices = b .vertices; walks = b .walks; hops = h; held = b .held; settled = b .settled; parts = b .parts }
+hopBytesOf b h = record { vertices = b .vertices; walks = b .walks; hops = h; held = b .held; settled = b .settled }
 
 -- so many bytes in each of the lent buffers
-abbrev pub buffers : Lent → ℕ → ℕ → ℕ → Lent
-buffers b held settled parts =
-    record { vertices = b .vertices; walks = b .walks; hops = b .hops; held = replicate held 7; settled = replicate settled 7; parts = replicate parts 7 }
+abbrev pub buffers : Lent → ℕ → ℕ → Lent
+buffers b held settled = record { vertices = b .vertices; walks = b .walks; hops = b .hops; held = replicate held 7; settled = replicate settled 7 }
 
 -- field k of record i: of a walk (0 from, 1 to, 2 length, 3 twin), of a hop (0 from, 1 to, 2 departure, 3 arrival), of a vertex (0 first walk, 1 first hop,
 -- 2 departing and zero)
@@ -55,12 +54,12 @@ twoHops to =
 abbrev pub querying : ℕ → ℕ → ℕ → ℕ → ℕ → Query
 querying walk offset arrival duration speed = record { walk = walk; offset = offset; arrival = arrival; duration = duration; speed = speed }
 
--- ---- what a row looks at: number and place; or the six numbers and every byte of the three buffers
+-- ---- what a row looks at: number and place; or the numbers and every byte of both buffers
 abbrev pub verdict : Answer → List ℕ
 verdict a = a .refusal ∷ a .place ∷ []
 
 abbrev pub whole : Answer → List ℕ
-whole a = numbers a ++ a .held ++ a .settled ++ a .parts
+whole a = numbers a ++ a .held ++ a .settled
 
 abbrev pub good : List ℕ
 good = 0 ∷ 0 ∷ []
@@ -70,7 +69,7 @@ bad number place = number ∷ place ∷ []
 
 -- a refusal that leaves so many bytes in the buffers, all of them x
 abbrev pub leaves : ℕ → ℕ → ℕ → ℕ → List ℕ
-leaves number place bytes x = number ∷ place ∷ 0 ∷ 0 ∷ 0 ∷ 0 ∷ replicate bytes x
+leaves number place bytes x = number ∷ place ∷ 0 ∷ 0 ∷ 0 ∷ replicate bytes x
 
 abbrev pub tried : Lent → List ℕ → Case
 tried b want = when b baseQuery none verdict want
@@ -78,10 +77,10 @@ tried b want = when b baseQuery none verdict want
 abbrev pub queried : Query → List ℕ → Case
 queried Q want = when base Q none verdict want
 
-abbrev pub roomed : ℕ → ℕ → ℕ → ℕ → List ℕ → Case
-roomed held settled parts limit want = when (rooms held settled parts) baseQuery limit whole want
+abbrev pub roomed : ℕ → ℕ → ℕ → List ℕ → Case
+roomed held settled limit want = when (rooms held settled) baseQuery limit whole want
 
--- ---- 1: lengths, places 0 to 5. (The largest counts are laws: proofs/Limits.)
+-- ---- 1: lengths, places 0 to 4. (The largest counts are laws: proofs/Limits.)
 unfoldable pub lengthLimits : List Case
 lengthLimits =
     tried (vertexBytesOf base []) (bad 1 0)
@@ -92,13 +91,11 @@ lengthLimits =
     ∷ tried (walkBytesOf base (0 ∷ base .walks)) (bad 1 1)
     ∷ tried (hopBytesOf base (take 15 (base .hops))) (bad 1 2)
     ∷ tried (hopBytesOf base (0 ∷ base .hops)) (bad 1 2)
-    ∷ tried (buffers base 79 40 240) (bad 1 3)
-    ∷ tried (buffers base 81 40 240) (bad 1 3)
-    ∷ tried (buffers base 80 39 240) (bad 1 4)
-    ∷ tried (buffers base 80 41 240) (bad 1 4)
-    ∷ tried (buffers base 80 40 239) (bad 1 5)
-    ∷ tried (buffers base 80 40 241) (bad 1 5)
-    ∷ tried (buffers base 80 40 240) good
+    ∷ tried (buffers base 79 40) (bad 1 3)
+    ∷ tried (buffers base 81 40) (bad 1 3)
+    ∷ tried (buffers base 80 39) (bad 1 4)
+    ∷ tried (buffers base 80 41) (bad 1 4)
+    ∷ tried (buffers base 80 40) good
     ∷ []
 
 -- ---- 2: ends, length, twin
@@ -182,9 +179,9 @@ queryLimits =
 unfoldable pub firstReasons : List Case
 firstReasons =
     tried (walkBytesOf (vertexBytesOf base []) (take 95 (base .walks))) (bad 1 0)
-    ∷ tried (buffers (hopBytesOf base (take 15 (base .hops))) 79 40 240) (bad 1 2)
-    ∷ tried (buffers base 79 39 239) (bad 1 3)
-    ∷ tried (buffers (walkField base 0 2 0) 80 40 239) (bad 1 5)
+    ∷ tried (buffers (hopBytesOf base (take 15 (base .hops))) 79 40) (bad 1 2)
+    ∷ tried (buffers base 79 39) (bad 1 3)
+    ∷ tried (buffers (walkField base 0 2 0) 80 39) (bad 1 4)
     ∷ tried (hopField (walkField oneWay 5 2 0) 0 2 35880) (bad 2 5)
     ∷ tried (hopField (walkField oneWay 5 1 2) 0 2 35880) (bad 3 0)
     ∷ tried (walkField (walkField (walkField (twoHops 0) 4 3 none) 5 3 none) 5 1 2) (bad 4 5)
@@ -195,30 +192,24 @@ firstReasons =
     ∷ queried (querying 1 2000 midnight 0 0) (bad 7 3)
     ∷ []
 
--- ---- room exact, and one record less: 8 to 10 at their step with every byte of the buffers zero; 1 to 7 with every byte as it was
+-- ---- room exact, and one record less: 8 and 9 at their step with every byte of both buffers zero; 1 to 7 with every byte as it was
 unfoldable pub roomLimits : List Case
 roomLimits =
-    roomed 4 4 6 none
-    (0 ∷ 0 ∷ 4 ∷ 6 ∷ 2 ∷ 1 ∷ []
+    roomed 4 4 none
+    (0 ∷ 0 ∷ 4 ∷ 2 ∷ 1 ∷ []
     ++ word 3 ++ word 2400 ++ word 1 ++ word 1 ++ word 4 ++ word 3300 ++ word 0 ++ word 0 ++ replicate 32 0
-    ++ word 1 ++ word 500 ++ word 0 ++ word 1500 ++ word 3 ++ word 2400 ++ word 2 ++ word 3000
-    ++ word 1 ++ word 0 ++ word 1500 ++ word 0 ++ word 0 ++ word 500 ++ word 1 ++ word 1500 ++ word 2000
-    ++ word 2 ++ word 0 ++ word 2500 ++ word 0 ++ word 500 ++ word 2000 ++ word 4 ++ word 300 ++ word 900)
-    ∷ roomed 3 4 6 none (leaves 8 1 152 0)
-    ∷ roomed 4 3 6 none (leaves 9 4 160 0)
-    ∷ roomed 4 4 5 none (leaves 10 3 156 0)
-    ∷ roomed 4 3 5 none (leaves 10 3 148 0)
-    ∷ roomed 3 0 3 none (leaves 8 1 84 0)
-    ∷ roomed 4 0 3 none (leaves 9 1 100 0)
-    ∷ roomed 4 0 3 0 (0 ∷ 0 ∷ 0 ∷ 2 ∷ 2 ∷ 0 ∷ []
-    ++ word 0 ++ word 1500 ++ word 0 ++ word 1 ++ word 1 ++ word 500 ++ word 0 ++ word 2 ++ replicate 32 0
-    ++ word 1 ++ word 0 ++ word 1500 ++ word 0 ++ word 0 ++ word 500 ++ replicate 12 0)
-    ∷ roomed 1 0 1 0 (leaves 8 0 28 0)
-    ∷ roomed 2 0 1 0 (leaves 10 0 44 0)
-    ∷ roomed 0 0 0 none (leaves 8 0 0 0)
-    ∷ when (rooms 2 1 1) (querying 6 0 (midnight + 36000) 300 10) none whole (leaves 7 0 52 7)
-    ∷ when (buffers base 17 8 12) baseQuery none whole (leaves 1 3 37 7)
-    ∷ when (walkField (rooms 2 1 1) 0 2 0) baseQuery none whole (leaves 2 0 52 7)
+    ++ word 1 ++ word 500 ++ word 0 ++ word 1500 ++ word 3 ++ word 2400 ++ word 2 ++ word 3000)
+    ∷ roomed 3 4 none (leaves 8 1 80 0)
+    ∷ roomed 4 3 none (leaves 9 4 88 0)
+    ∷ roomed 3 0 none (leaves 8 1 48 0)
+    ∷ roomed 4 0 none (leaves 9 1 64 0)
+    ∷ roomed 4 0 0 (0 ∷ 0 ∷ 0 ∷ 2 ∷ 0 ∷ [] ++ word 0 ++ word 1500 ++ word 0 ++ word 1 ++ word 1 ++ word 500 ++ word 0 ++ word 2 ++ replicate 32 0)
+    ∷ roomed 2 0 0 (0 ∷ 0 ∷ 0 ∷ 2 ∷ 0 ∷ [] ++ word 0 ++ word 1500 ++ word 0 ++ word 1 ++ word 1 ++ word 500 ++ word 0 ++ word 2)
+    ∷ roomed 1 0 0 (leaves 8 0 16 0)
+    ∷ roomed 0 0 none (leaves 8 0 0 0)
+    ∷ when (rooms 2 1) (querying 6 0 (midnight + 36000) 300 10) none whole (leaves 7 0 40 7)
+    ∷ when (buffers base 17 8) baseQuery none whole (leaves 1 3 25 7)
+    ∷ when (walkField (rooms 2 1) 0 2 0) baseQuery none whole (leaves 2 0 40 7)
     ∷ []
 
 unfoldable pub limits : List Case

@@ -4,6 +4,7 @@ use mathlib.Core.List.{List, [], _∷_, _++_, flatMap}
 use Prim.Native.Nat.{ℕ, _-_, max, _≤_}
 use lib.Dec.{eqb}
 use Rattle.journeys.specs.Counting.{none, joined, In}
+use Rattle.journeys.specs.Bytes.{word}
 use Rattle.journeys.specs.Tables.{Tables, walk, walkCount}
 use Rattle.journeys.specs.Query.{Query, allowed, asked}
 use Rattle.journeys.specs.Order.{Settled}
@@ -13,6 +14,9 @@ pub record Part : Type 0 where
   pub walk : ℕ
   pub start : ℕ
   pub end : ℕ
+
+abbrev pub partBytes : Part → List ℕ
+partBytes x = word (x .walk) ++ word (x .start) ++ word (x .end)
 
 -- a part with start equal to end is left out
 unfoldable pub part : ℕ → ℕ → ℕ → List Part

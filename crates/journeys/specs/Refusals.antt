@@ -51,8 +51,9 @@ unfoldable pub tableLengths : List ℕ → List ℕ → List ℕ → Refusal
 tableLengths v w h =
     chain (unless (tableOf 12 1 65536 v) 1 0 ∷ unless (tableOf 16 0 262144 w) 1 1 ∷ unless (tableOf 16 0 262144 h) 1 2 ∷ [])
 
-unfoldable pub bufferLengths : List ℕ → List ℕ → List ℕ → Refusal
-bufferLengths held settled parts = chain (unless (wholeOf 16 held) 1 3 ∷ unless (wholeOf 8 settled) 1 4 ∷ unless (wholeOf 12 parts) 1 5 ∷ [])
+-- of the run's two buffers
+unfoldable pub bufferLengths : List ℕ → List ℕ → Refusal
+bufferLengths held settled = chain (unless (wholeOf 16 held) 1 3 ∷ unless (wholeOf 8 settled) 1 4 ∷ [])
 
 -- two different vertices of n
 unfoldable pub endsOk : ℕ → ℕ → ℕ → Bool

@@ -1,19 +1,14 @@
--- What `begin` has from its callees: the seeds and the parts, or no room for one of them. Assumes nothing.
+-- What `begin` has from its callees: the seeds, or no room for them. Assumes nothing.
 use mathlib.Core.Path.{_≡_, refl, sym, subst}
-use mathlib.Core.Logic.{inl, inr, _≢_}
+use mathlib.Core.Logic.{_≢_}
 use mathlib.Core.Bool.{Bool, cond}
 use mathlib.Core.List.{List}
 use Prim.Native.Nat.{ℕ, _<_}
-use native.Mathlib.Omega.{arith}
 use Rattle.journeys.specs.Tables.{vertexAt, walkAt}
-use Rattle.journeys.specs.Parts.{Part}
 use Rattle.records.specs.Meaning.{walkOf}
 use Rattle.records.specs.declared.Walk as read
 use Rattle.worktable.specs.Map.{known, Map}
 use Rattle.worktable.specs.declared.Table.{Table}
-use Rattle.parts.specs.Listing.{ListedIs}
-use Rattle.parts.specs.declared.Listed.{Listed}
-use Rattle.parts.specs.declared.Listed.the-variants.{Fits, NoRoom as NoMore}
 use Rattle.parts.specs.declared.Road.{Road}
 use Rattle.stepping.specs.declared.Stepped.the-variants.{Next, Full}
 use Rattle.opening.specs.Seeds.{seedMap, fromTicksOf, toTicksOf, toIsSeed, firstMap, SeededIs, OpenIs}
@@ -36,18 +31,13 @@ pub ends-as : (w : List ℕ) (i n : ℕ) (x : read.Walk) → x ≡ walkOf (walkA
     → (x .from < n) × (x .to < n) × (x .from ≢ x .to)
 ends-as w i n x same h = subst (λ (y : read.Walk). (y .from < n) × (y .to < n) × (y .from ≢ y .to)) (sym same) h
 
-module _ (capacity : ℕ) (m : Map) (seeds : ℕ) (ps : List Part) (held′ parts parts′ : List ℕ) (r : Seeded) (s : SeededIs held′ capacity m seeds r) where
-  pub no-seeds : r ≡ NoRoom → OpenIs capacity m seeds ps held′ parts parts′ (Full 8)
+module _ (capacity : ℕ) (m : Map) (seeds : ℕ) (held′ : List ℕ) (r : Seeded) (s : SeededIs held′ capacity m seeds r) where
+  pub no-seeds : r ≡ NoRoom → OpenIs capacity m seeds held′ (Full 8)
   unfolding SeededIs OpenIs
-  no-seeds e = inl (refl, subst (SeededIs held′ capacity m seeds) e s)
+  no-seeds e = (refl, subst (SeededIs held′ capacity m seeds) e s)
 
-  module _ (t : Table) (e : r ≡ At t) (y : Listed) (k : ListedIs 0 ps parts parts′ y) where
-    pub no-parts : y ≡ NoMore → OpenIs capacity m seeds ps held′ parts parts′ (Full 10)
-    unfolding SeededIs OpenIs ListedIs
-    no-parts f = inr (refl, subst (SeededIs held′ capacity m seeds) e s .2, omega (arith, subst (ListedIs 0 ps parts parts′) f k .over))
-
-    pub opened : (c : ℕ) → y ≡ Fits c → OpenIs capacity m seeds ps held′ parts parts′ (Next (record { table = t; settled = 0; parts = c }))
-    unfolding SeededIs OpenIs ListedIs
-    opened c f =
-        let h = subst (SeededIs held′ capacity m seeds) e s in
-        record { table = h .0; slots = h .1; fits = h .2; count = refl; parted = subst (ListedIs 0 ps parts parts′) f k }
+  pub opened : (t : Table) → r ≡ At t → OpenIs capacity m seeds held′ (Next (record { table = t; settled = 0 }))
+  unfolding SeededIs OpenIs
+  opened t e =
+      let h = subst (SeededIs held′ capacity m seeds) e s in
+      record { table = h .0; slots = h .1; fits = h .2; count = refl }

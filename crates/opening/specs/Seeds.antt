@@ -1,17 +1,13 @@
 -- The seeds in the working table, and step 0. Assumes nothing.
 use mathlib.Core.Path.{_≡_}
-use mathlib.Core.Logic.{_⊎_}
 use mathlib.Core.Bool.{Bool, not, cond, _||_}
 use mathlib.Core.List.{List}
-use Prim.Native.Nat.{ℕ, _/_, _<_, _≤_}
+use Prim.Native.Nat.{ℕ, _<_, _≤_}
 use lib.Dec.{eqb}
-use lib.ListN.{length}
 use Rattle.journeys.specs.Counting.{none}
 use Rattle.journeys.specs.Tables.{vertexAt, walkAt}
-use Rattle.journeys.specs.Parts.{Part}
 use Rattle.worktable.specs.Map.{Entry, known, Map, empty, put}
 use Rattle.worktable.specs.Table.{Holds}
-use Rattle.parts.specs.Listing.{Behind}
 use Rattle.parts.specs.declared.Road.{Road}
 use Rattle.stepping.specs.declared.Progress.{Progress}
 use Rattle.stepping.specs.declared.Stepped.{Stepped}
@@ -50,18 +46,17 @@ unfoldable pub SeededIs : List ℕ → ℕ → Map → ℕ → Seeded → Type 0
 SeededIs b capacity m seeds (At t) = Holds t b m × (t .capacity ≡ capacity) × (seeds ≤ capacity)
 SeededIs b capacity m seeds NoRoom = capacity < seeds
 
--- Step 0 lists the parts ps; m is the map of the seeds, of which there are so many.
-pub record Opens (capacity : ℕ) (m : Map) (seeds : ℕ) (ps : List Part) (held′ parts parts′ : List ℕ) (p : Progress) : Type 0 where
+-- Step 0: m is the map of the seeds, of which there are so many.
+pub record Opens (capacity : ℕ) (m : Map) (seeds : ℕ) (held′ : List ℕ) (p : Progress) : Type 0 where
   pub table : Holds (p .table) held′ m
   pub slots : p .table .capacity ≡ capacity
   pub fits : seeds ≤ capacity
   pub count : p .settled ≡ 0
-  pub parted : Behind 0 ps parts parts′ (p .parts)
 
--- or which of the two has no room: the lower number
-abbrev pub Shut : ℕ → ℕ → List Part → List ℕ → ℕ → Type 0
-Shut capacity seeds ps parts n = ((n ≡ 8) × (capacity < seeds)) ⊎ ((n ≡ 10) × (seeds ≤ capacity) × (length parts / 12 < length ps))
+-- or there is no room for them
+abbrev pub Shut : ℕ → ℕ → ℕ → Type 0
+Shut capacity seeds n = (n ≡ 8) × (capacity < seeds)
 
-unfoldable pub OpenIs : ℕ → Map → ℕ → List Part → List ℕ → List ℕ → List ℕ → Stepped → Type 0
-OpenIs capacity m seeds ps held′ parts parts′ (Next p) = Opens capacity m seeds ps held′ parts parts′ p
-OpenIs capacity m seeds ps held′ parts parts′ (Full n) = Shut capacity seeds ps parts n
+unfoldable pub OpenIs : ℕ → Map → ℕ → List ℕ → Stepped → Type 0
+OpenIs capacity m seeds held′ (Next p) = Opens capacity m seeds held′ p
+OpenIs capacity m seeds held′ (Full n) = Shut capacity seeds n

@@ -1,7 +1,6 @@
-// Step 0 of the run: the seeds are entered into the working table, and the parts up to the query place are listed.
-// Promises: the map of the seeds and the parts listed, or the lowest number that lacks room.
-// Rests on: the working table (`worktable`), `parts`, the readers of `records`.
-use parts::Listed;
+// Step 0 of the run: the seeds are entered into the working table.
+// Promises: the map of the seeds, or that there is no room for them.
+// Rests on: the working table (`worktable`), the query's road (`parts`), the readers of `records`.
 use parts::Road;
 use stepping::Progress;
 use stepping::Stepped;
@@ -15,7 +14,6 @@ ghost use Prim.Native.Nat.{_/_, _%_, _<_, _≤_, min};
 ghost use lib.ListN.{length};
 ghost use Rattle.journeys.specs.Tables.{vertexAt, walkAt};
 ghost use Rattle.worktable.specs.Map.{known};
-ghost use Rattle.parts.specs.Listing.{firstOn};
 ghost use Rattle.opening.specs.Seeds.{seedMap, fromTicksOf, toTicksOf, atEnd, toIsSeed, firstMap, SeededIs, OpenIs};
 
 // The table with the seeds in it, or that it has too few slots.
@@ -95,18 +93,11 @@ fn to_is_seed(e: Road) -> bool
     (e.twin != words::NONE) | at_end(e)
 }
 
-// Step 0: the seeds in the table, the parts up to the query place; or which of the two has no room.
-pub fn begin(
-    vertices: &[u8],
-    walks: &[u8],
-    held: &mut [u8],
-    parts: &mut [u8],
-    road: Road,
-    allowed: Ticks,
-) -> Stepped
+// Step 0: the seeds in the table, or that it has no room for them.
+pub fn begin(vertices: &[u8], walks: &[u8], held: &mut [u8], road: Road) -> Stepped
     requires { ⌜ (length (now held) % 16 ≡ 0) × (length (now vertices) / 12 ≤ 65536) × (road .walk < length (now walks) / 16) × (road .near .0 ≤ 100000) × (road .back .0 ≤ 100000) ⌝ }
     requires { ⌜ (walkAt (now walks) (road .walk) .from < length (now vertices) / 12) × (walkAt (now walks) (road .walk) .to < length (now vertices) / 12) × (walkAt (now walks) (road .walk) .from ≢ walkAt (now walks) (road .walk) .to) ⌝ }
-    ensures { λ r. ⌜ OpenIs (min (length (now (held .entry)) / 16) (min (length (now (vertices .entry)) / 12) 65536)) (firstMap (now (vertices .entry)) (now (walks .entry)) road) (cond (toIsSeed road) 2 1) (firstOn road (allowed .0)) (now (held .exit)) (now (parts .entry)) (now (parts .exit)) r ⌝ }
+    ensures { λ r. ⌜ OpenIs (min (length (now (held .entry)) / 16) (min (length (now (vertices .entry)) / 12) 65536)) (firstMap (now (vertices .entry)) (now (walks .entry)) road) (cond (toIsSeed road) 2 1) (now (held .exit)) r ⌝ }
 {
     let w = records::walk_at(walks, road.walk as usize);
     let Seeded::At(table) = seeds(
@@ -120,12 +111,8 @@ pub fn begin(
     ) else {
         return Stepped::Full(8);
     };
-    let Listed::Fits(first) = parts::list_first(parts, road, allowed) else {
-        return Stepped::Full(10);
-    };
     Stepped::Next(Progress {
         table: table,
         settled: 0,
-        parts: first,
     })
 }

@@ -11,8 +11,7 @@ use Rattle.journeys.specs.Counting.{none, joined}
 use Rattle.journeys.specs.Bytes.{be32}
 use Rattle.journeys.specs.Tables as tables
 use Rattle.journeys.specs.Tables.{walkAt}
-use Rattle.journeys.specs.Parts.{Part, part}
-use Rattle.journeys.specs.Answers.{partBytes}
+use Rattle.journeys.specs.Parts.{Part, part, partBytes}
 use Rattle.journeys.proofs.Counting.{flat-append, flat-length}
 use Rattle.words.specs.Written.{written}
 use Rattle.records.specs.Fields.{partOf}

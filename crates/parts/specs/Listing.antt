@@ -1,4 +1,4 @@
--- The parts that a step lists, by the numbers of the query's road. Assumes nothing.
+-- The parts of step 0 and of a vertex, by the numbers of the query's road. Assumes nothing.
 use mathlib.Core.Path.{_≡_}
 use mathlib.Core.Bool.{cond}
 use mathlib.Core.List.{List, [], _++_, flatMap}
@@ -7,8 +7,7 @@ use lib.Dec.{eqb}
 use lib.ListN.{length}
 use Rattle.journeys.specs.Counting.{none, joined}
 use Rattle.journeys.specs.Tables.{Walk, walkAt}
-use Rattle.journeys.specs.Parts.{Part, part}
-use Rattle.journeys.specs.Answers.{partBytes}
+use Rattle.journeys.specs.Parts.{Part, part, partBytes}
 use Rattle.words.specs.Written.{written}
 use Rattle.parts.specs.declared.Listed.{Listed}
 use Rattle.parts.specs.declared.Listed.the-variants.{Fits, NoRoom}

@@ -1,5 +1,5 @@
-// The covered parts of walk records, listed in the part buffer as the steps go on.
-// Promises: the parts of step 0, and those at a settled vertex, stand behind the ones already there, or the buffer has no room for all of them.
+// The covered parts of walk records, listed in the part buffer vertex by vertex.
+// Promises: the parts of step 0, and those at a listed vertex, stand behind the ones already there, or the buffer has no room for all of them.
 // Rests on: the readers and the part writer of `records`, which is lent the unfilled rest of the buffer.
 use words::Offset;
 use words::Ticks;
@@ -111,7 +111,7 @@ fn list_walk(parts: &mut [u8], count: usize, walks: &[u8], i: u32, e: Road, left
     )
 }
 
-// At a settled vertex: its arriving walks, ascending.
+// At a listed vertex: its arriving walks, ascending.
 pub fn list_arriving(
     parts: &mut [u8],
     count: usize,

@@ -8,17 +8,18 @@ use lib.Seq.{take-all}
 use denote.Ref.{now}
 use Rattle.journeys.specs.Counting.{none}
 use Rattle.journeys.specs.Query.{Query}
+use Rattle.journeys.specs.Answers.{Answer}
 use Rattle.journeys.proofs.Determined.{answer-unique}
 use Rattle.job.specs.Job.{Read, job, faulty, jobOf}
 use Rattle.report.specs.Text.{printed}
 use Rattle.copying.specs.Write.{over}
-use Rattle.reach.specs.Says.{Texts, SaysOf, Says, InFront, RunTold, Answered}
+use Rattle.reach.specs.Says.{both, Texts, SaysOf, Says, InFront, RunTold, Answered}
 use Rattle.reach.proofs.run_text.Reads as run-text
 use Rattle.reach.proofs.answer.Reads as answer
 use Rattle.reach.proofs.answer_read.Reads as answer-read
 
 texts-one : (v w h : List ℕ) (Q : Query) (t t′ : List ℕ) → Texts v w h Q t → Texts v w h Q t′ → t ≡ t′
-texts-one v w h Q t t′ x y = x .2 ∙ ap printed (answer-unique _ Q none (x .0) (y .0) (x .1) (y .1)) ∙ sym (y .2)
+texts-one v w h Q t t′ x y = x .2 ∙ ap (λ (a : Answer). printed (both v w h Q a)) (answer-unique _ Q none (x .0) (y .0) (x .1) (y .1)) ∙ sym (y .2)
 
 of-one : (s : List ℕ) (j : Read) (t t′ : List ℕ) → SaysOf s j t → SaysOf s j t′ → t ≡ t′
 unfolding SaysOf

@@ -1,57 +1,87 @@
 -- The program's text: room for all lines, and the tables of the job in the run's hands. Assumes nothing.
 use mathlib.Core.Path.{_≡_, refl, sym, ap, ap₂, subst, _∙_}
 use mathlib.Core.Logic.{_⊎_, inl, inr}
-use mathlib.Core.Bool.{true, cond}
+use mathlib.Core.Bool.{true, false, cond}
 use mathlib.Core.List.{List, []}
 use Prim.Native.Nat.{ℕ, zero, suc, _+_, _*_, _/_, _≤_, _<_}
 use native.Mathlib.Omega.{arith}
-use lib.Dec.{leb}
+use lib.Dec.{eqb, leb}
 use lib.ListN.{length, take, drop, length-append, length-replicate}
 use lib.Seq.{take-at, take-all}
-use borrow.Author.Tests.{le-leb}
+use borrow.Author.Tests.{le-leb, leb-true, eqb-true}
 use Rattle.journeys.proofs.Determined.{counts-within}
 use Rattle.journeys.specs.Counting.{none}
 use Rattle.journeys.specs.Query.{Query}
 use Rattle.journeys.specs.Answers.{Answer, Allowed}
-use Rattle.journeys.proofs.Tests.{cond-true, and-true, le-or-lt}
+use Rattle.journeys.specs.Lists.{settledIn}
+use Rattle.journeys.specs.PartAnswers.{PartsLent, PartsAnswer, partsEarly, partsTo, partsRoomAt, partsRoom, partsRefused, partsAccepted, partsAnswer}
+use Rattle.journeys.specs.OneRun.{ownList, OneAnswer, together}
+use Rattle.journeys.proofs.Tests.{split, cond-true, and-true, le-or-lt}
+use Rattle.journeys.proofs.Refusals.{unless-fine, from-fine}
 use Rattle.records.specs.Asked.{queryOf}
 use Rattle.records.specs.declared.Query as asked
-use Rattle.search.specs.Progress.{answerOf}
+use Rattle.search.specs.Outcome.{answerOf}
 use Rattle.records.specs.declared.Answer as search
+use Rattle.covering.specs.Lending.{partsLent, partsAnswerOf}
+use Rattle.covering.specs.declared.PartsAnswer as covering
 use Rattle.job.specs.Job.{Read, job, faulty, Question, body, tableOf, jobOf, taken, question, told}
 use Rattle.job.specs.Steps.{bodies, Laid, LaidOut}
-use Rattle.report.specs.Text.{printed, fault, fits, report, faultIn}
+use Rattle.report.specs.Text.{given, printed, fault, fits, report, faultIn}
 use Rattle.copying.specs.Write.{over}
 use Rattle.job.specs.declared.Job.{Job}
 use Rattle.job.specs.declared.Job.the-variants.{Good, Faulty}
 use Rattle.job.proofs.Long.{long-job}
 use Rattle.job.proofs.Bodies.{length-body, bodies-next, no-bodies, laid-of}
-use Rattle.reach.specs.Says.{roomy, Texts, SaysOf, Says, RunTold, Answered}
+use Rattle.reach.specs.Says.{roomy, partRoom, partsOf, both, Texts, SaysOf, Says, RunTold, Answered}
 
--- ---- the text of a run
-module _ (v w h : List ℕ) (Q : Query) (out held settled parts : List ℕ) (x : search.Answer) (room : 100548 ≤ length out)
-    (eh : length held ≡ 8192) (es : length settled ≡ 4096) (ep : length parts ≡ 12312) (A : Allowed (roomy v w h) Q none (answerOf x held settled parts)) where
+-- ---- the text of a run and of its parts
+-- an answer counts no more parts than there is room for
+parts-within : (b : PartsLent) (Q : Query) → partsAnswer b Q .partCount ≤ length (b .parts) / 12
+unfolding partsAnswer partsRoom partsRoomAt partsRefused partsAccepted
+parts-within b Q = go (split (eqb (partsEarly b Q .number) 0)) (split (eqb (partsRoom b Q .number) 0))
+  where
+    n : ℕ
+    n = length (settledIn (b .list))
+
+    go : (eqb (partsEarly b Q .number) 0 ≡ true) ⊎ (eqb (partsEarly b Q .number) 0 ≡ false) → (eqb (partsRoom b Q .number) 0 ≡ true) ⊎ (eqb (partsRoom b Q .number) 0 ≡ false)
+        → partsAnswer b Q .partCount ≤ length (b .parts) / 12
+    go (inl t) (inl u) =
+        let last : length (partsTo b Q n) ≤ length (b .parts) / 12 = leb-true _ _ (unless-fine _ 10 n (omega arith) (from-fine (partsRoomAt b Q) (n + 1) 0 (eqb-true _ 0 u) n (omega arith) (omega arith))) in
+        rw (t, u) (rw (take-all n (settledIn (b .list)) (omega arith)) at last)
+    go (inl t) (inr u) = rw (t, u) (omega arith)
+    go (inr t) u = rw t (omega arith)
+
+-- and no more vertices
+pub few : (v w h : List ℕ) (Q : Query) (limit : ℕ) (a : Answer) → Allowed (roomy v w h) Q limit a → (a .settledCount ≤ 512) × (a .heldCount ≤ 512)
+few v w h Q limit a A =
+    let c = counts-within (roomy v w h) Q limit a A in
+    (omega (arith, c .0, length-replicate {A = ℕ} 4096 0), omega (arith, c .1, length-replicate {A = ℕ} 8192 0))
+
+module _ (v w h : List ℕ) (Q : Query) (held settled parts : List ℕ) (x : search.Answer) (p : covering.PartsAnswer) (A : Allowed (roomy v w h) Q none (answerOf x held settled))
+    (P : partsAnswerOf p parts ≡ partsOf v w h Q (answerOf x held settled)) (out : List ℕ) (room : 100548 ≤ length out) (eh : length held ≡ 8192) (es : length settled ≡ 4096) (ep : length parts ≡ 12312) where
   abbrev a : Answer
-  a = answerOf x held settled parts
+  a = answerOf x held settled
 
-  few : (x .settled ≤ 512) × (x .parts ≤ 1026) × (x .held ≤ 512)
-  few =
-      let c = counts-within (roomy v w h) Q none a A in
-      (omega (arith, c .0, length-replicate {A = ℕ} 4096 0), omega (arith, c .1, length-replicate {A = ℕ} 12312 0), omega (arith, c .2, length-replicate {A = ℕ} 8192 0))
+  abbrev o : OneAnswer
+  o = given (record { refusal = x .refusal; place = x .place; settled = x .settled; parts = p .parts; held = x .held; finished = x .finished }) settled parts held
 
-  all-fits : fits a (length out) ≡ true
+  few-parts : p .parts ≤ 1026
+  few-parts = omega (arith, parts-within (partsLent v w h (ownList a) partRoom) Q, ap (λ (y : PartsAnswer). y .partCount) P, length-replicate {A = ℕ} 12312 0)
+
+  all-fits : fits o (length out) ≡ true
   unfolding fits
   all-fits =
-      and-true (and-true (and-true (le-leb (x .settled) (length settled / 8) (omega (arith, few))) (le-leb (x .parts) (length parts / 12) (omega (arith, few)))) (le-leb (x .held) (length held / 16) (omega (arith, few))))
-      (le-leb (49 * (x .settled + x .parts + x .held + 2)) (length out) (omega (arith, few)))
+      let n = few v w h Q none a A in
+      and-true (and-true (and-true (le-leb (x .settled) (length settled / 8) (omega (arith, n))) (le-leb (p .parts) (length parts / 12) (omega (arith, few-parts)))) (le-leb (x .held) (length held / 16) (omega (arith, n))))
+      (le-leb (49 * (x .settled + p .parts + x .held + 2)) (length out) (omega (arith, n, few-parts)))
 
-  whole-text : report a (length out) ≡ printed a
-  unfolding report
-  whole-text = cond-true (printed a) [] all-fits
+  whole-text : report o (length out) ≡ printed (both v w h Q a)
+  unfolding report together
+  whole-text = cond-true (printed o) [] all-fits ∙ ap (λ (y : PartsAnswer). printed (together a y)) P
 
-  pub ran-text : (out′ : List ℕ) (r : ℕ) → out′ ≡ over (report a (length out)) out → r ≡ length (report a (length out)) → RunTold v w h Q out out′ r
+  pub ran-text : (out′ : List ℕ) (r : ℕ) → out′ ≡ over (report o (length out)) out → r ≡ length (report o (length out)) → RunTold v w h Q out out′ r
   unfolding RunTold
-  ran-text out′ r e f = (printed a, (a, A, refl), record { bytes = e ∙ ap (λ (t : List ℕ). over t out) whole-text; count = f ∙ ap length whole-text })
+  ran-text out′ r e f = (printed (both v w h Q a), (a, A, refl), record { bytes = e ∙ ap (λ (t : List ℕ). over t out) whole-text; count = f ∙ ap length whole-text })
 
 -- ---- a faulty job
 pub fault-text : (s out out′ : List ℕ) (n r : ℕ) (j : Job) → j ≡ Faulty n → told j ≡ jobOf s → 100548 ≤ length out

@@ -6,23 +6,39 @@ use lib.ListN.{length, replicate}
 use Rattle.journeys.specs.Counting.{none}
 use Rattle.journeys.specs.Query.{Query}
 use Rattle.journeys.specs.Answers.{Lent, Answer, Allowed}
+use Rattle.journeys.specs.PartAnswers.{PartsAnswer, partsAnswer}
+use Rattle.journeys.specs.OneRun.{ownList, OneAnswer, together}
 use Rattle.records.specs.Asked.{queryBy}
 use Rattle.intake.specs.Lending.{lent}
+use Rattle.covering.specs.Lending.{partsLent}
 use Rattle.job.specs.Job.{Read, job, faulty, Question, tableOf, jobOf}
 use Rattle.report.specs.Text.{printed, fault}
 use Rattle.copying.specs.Write.{over}
 
--- the tables of a job, with room for all that its 512 vertices and 1,024 walks can need
+-- the tables of a job, with room for all that its 512 vertices can need; for the parts, all that its 1,024 walks can need
 abbrev pub roomy : List ℕ → List ℕ → List ℕ → Lent
-roomy v w h = lent v w h (replicate 8192 0) (replicate 4096 0) (replicate 12312 0)
+roomy v w h = lent v w h (replicate 8192 0) (replicate 4096 0)
 
--- the text is that of an answer that a run may give, with no step limit: RULES 14.5
+abbrev pub partRoom : List ℕ
+partRoom = replicate 12312 0
+
+-- the parts of the list of a run, and both answers together
+abbrev pub partsOf : List ℕ → List ℕ → List ℕ → Query → Answer → PartsAnswer
+partsOf v w h Q a = partsAnswer (partsLent v w h (ownList a) partRoom) Q
+
+abbrev pub both : List ℕ → List ℕ → List ℕ → Query → Answer → OneAnswer
+both v w h Q a = together a (partsOf v w h Q a)
+
+-- the text is that of an answer that a run may give, with no step limit, and of its parts: RULES 14.5
 abbrev pub Texts : List ℕ → List ℕ → List ℕ → Query → List ℕ → Type 0
-Texts v w h Q text = (a : Answer) × Allowed (roomy v w h) Q none a × (text ≡ printed a)
+Texts v w h Q text = (a : Answer) × Allowed (roomy v w h) Q none a × (text ≡ printed (both v w h Q a))
+
+abbrev pub asks : Question → Query
+asks q = queryBy (q .walk) (q .offset) (q .arrival) (q .duration) (q .speed)
 
 -- of a faulty job its line, of a job the text of its run
 unfoldable pub SaysOf : List ℕ → Read → List ℕ → Type 0
-SaysOf s (job v w h q) text = Texts (tableOf s 1 12) (tableOf s 2 16) (tableOf s 3 16) (queryBy (q .walk) (q .offset) (q .arrival) (q .duration) (q .speed)) text
+SaysOf s (job v w h q) text = Texts (tableOf s 1 12) (tableOf s 2 16) (tableOf s 3 16) (asks q) text
 SaysOf s (faulty n) text = text ≡ fault n
 
 unfoldable pub Says : List ℕ → List ℕ → Type 0

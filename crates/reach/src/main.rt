@@ -1,6 +1,6 @@
 // The program `reach`: a job on standard input, its text on standard output, with room lent for all and no step limit.
 // Promises: the text is that of RULES 14, for every input (`Says`).
-// Rests on: the job reader (`job`), the run (`search`), the printed text (`report`), and the contracts of the C library's read and write.
+// Rests on: the job reader (`job`), the run (`search`), the parts of its list (`covering`), the printed text (`report`), and the contracts of the C library's read and write.
 use job::Job;
 use records::Query;
 ghost use mathlib.Core.Path.{_≡_};
@@ -11,7 +11,8 @@ ghost use Rattle.io.specs.Counts.{Counts};
 ghost use Rattle.records.specs.Asked.{queryOf};
 ghost use Rattle.reach.specs.Says.{RunTold, Answered};
 
-// The run over the tables of a job, and its text.
+// The run over the tables of a job, the parts of its list, and the text of both. The list is what the run counts: the zero rest of its buffer would read as
+// entries. That of a refused run is empty, and no parts of it are printed.
 fn run_text<'a>(vertices: &[u8], walks: &'a [u8], hops: &'a [u8], q: Query, out: &mut [u8]) -> usize
     requires { ⌜ 100548 ≤ length (now out) ⌝ }
     ensures { λ r. ⌜ RunTold (now (vertices .entry)) (now (walks .entry)) (now (hops .entry)) (queryOf q) (now (out .entry)) (now (out .exit)) r ⌝ }
@@ -20,16 +21,18 @@ fn run_text<'a>(vertices: &[u8], walks: &'a [u8], hops: &'a [u8], q: Query, out:
     let mut held = [0u8; 8192];
     let mut settled = [0u8; 4096];
     let mut parts = [0u8; 12312];
-    let a = search::run(
+    let mut a = search::run(
         vertices,
         walks,
         hops,
         &mut held,
         &mut settled,
-        &mut parts,
         q,
         4294967295,
     );
+    let end = 8 * a.settled as usize;
+    let p = covering::parts(vertices, walks, hops, &settled[..end], &mut parts, q);
+    a.parts = p.parts;
     report::report(a, &settled, &parts, &held, out)
 }
 

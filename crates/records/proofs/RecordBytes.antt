@@ -6,8 +6,8 @@ use lib.ListN.{length}
 use Rattle.journeys.specs.Bytes.{be32, word}
 use Rattle.journeys.specs.Network.{Held}
 use Rattle.journeys.specs.Order.{Settled}
-use Rattle.journeys.specs.Parts.{Part}
-use Rattle.journeys.specs.Answers.{heldBytes, settledBytes, partBytes}
+use Rattle.journeys.specs.Parts.{Part, partBytes}
+use Rattle.journeys.specs.Answers.{heldBytes, settledBytes}
 use Rattle.words.proofs.Written.{word-back}
 
 pub length-held : (x : Held) → length (heldBytes x) ≡ 16

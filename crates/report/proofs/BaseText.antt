@@ -4,10 +4,10 @@ use mathlib.Core.List.{List, [], _∷_, _++_, flatMap}
 use Prim.Native.Nat.{ℕ}
 use Rattle.journeys.specs.Counting.{none, joined}
 use Rattle.journeys.specs.Bytes.{be32, word}
-use Rattle.journeys.specs.Answers.{Answer}
+use Rattle.journeys.specs.OneRun.{OneAnswer}
 use Rattle.report.specs.Text.{decimalIn, decimal, field, line, fieldsAt, lines, lists, given, printed, fault}
 
-text : Answer → List ℕ
+text : OneAnswer → List ℕ
 unfolding word flatMap printed lists lines fieldsAt joined be32 line field decimal decimalIn
 text a = printed a
 

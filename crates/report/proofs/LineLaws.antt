@@ -9,7 +9,7 @@ use lib.ListN.{length}
 use borrow.Author.Tests.{le-leb, lt-leb, leb-true, eq-eqb, ne-eqb}
 use Rattle.journeys.specs.Counting.{joined}
 use Rattle.journeys.specs.Bytes.{be32}
-use Rattle.journeys.specs.Answers.{Answer}
+use Rattle.journeys.specs.OneRun.{OneAnswer}
 use Rattle.journeys.proofs.Tests.{and-both}
 use Rattle.copying.specs.Write.{Wrote}
 use Rattle.report.specs.Text.{decimal, field, fields, line, fieldsAt, lines, lists, vertexWord, partWord, heldWord, answerWord, endWord, printed, fits, report, fault, faultIn}
@@ -64,13 +64,13 @@ unfolding faultIn
 fault-lacks n room l = rw (lt-leb 25 room l)
 
 -- ---- the whole text
-pub record Room (a : Answer) (room : ℕ) : Type 0 where
+pub record Room (a : OneAnswer) (room : ℕ) : Type 0 where
   pub settled : 8 * a .settledCount ≤ length (a .settled)
   pub parts : 12 * a .partCount ≤ length (a .parts)
   pub held : 16 * a .heldCount ≤ length (a .held)
   pub out : 49 * (a .settledCount + a .partCount + a .heldCount + 2) ≤ room
 
-pub has-room : (a : Answer) (room : ℕ) → fits a room ≡ true → Room a room
+pub has-room : (a : OneAnswer) (room : ℕ) → fits a room ≡ true → Room a room
 unfolding fits
 has-room a room e =
     let p = and-both _ _ e in
@@ -81,7 +81,7 @@ has-room a room e =
     let h : a .heldCount ≤ length (a .held) / 16 = leb-true _ _ (q .1) in
     record { settled = omega arith; parts = omega arith; held = omega arith; out = leb-true _ _ (p .1) }
 
-module _ (a : Answer) where
+module _ (a : OneAnswer) where
   abbrev first : List ℕ
   first = line answerWord (fields (a .refusal ∷ a .place ∷ []))
 

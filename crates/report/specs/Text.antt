@@ -6,7 +6,7 @@ use lib.Dec.{eqb, leb, ltb}
 use lib.ListN.{length}
 use Rattle.journeys.specs.Counting.{joined}
 use Rattle.journeys.specs.Bytes.{be32}
-use Rattle.journeys.specs.Answers.{Answer}
+use Rattle.journeys.specs.OneRun.{OneAnswer}
 use Rattle.records.specs.declared.Answer as read
 
 -- a number in decimal, in at most so many digits; 20 digits hold every number of 64 bits
@@ -60,11 +60,11 @@ endWord = 101 ∷ 110 ∷ 100 ∷ []
 abbrev pub jobWord : List ℕ
 jobWord = 106 ∷ 111 ∷ 98 ∷ []
 
--- ---- the whole text of a run's answer: of a refusal its first line only
+-- ---- the whole text of a run's answer and of the parts of its list: of a refusal its first line only
 unfoldable pub lists : ℕ → ℕ → ℕ → List ℕ → List ℕ → List ℕ → List ℕ
 lists s p h settled parts held = lines vertexWord settled 2 s ++ lines partWord parts 3 p ++ lines heldWord held 4 h
 
-unfoldable pub printed : Answer → List ℕ
+unfoldable pub printed : OneAnswer → List ℕ
 printed a =
     line answerWord (fields (a .refusal ∷ a .place ∷ []))
     ++ cond (eqb (a .refusal) 0)
@@ -77,7 +77,7 @@ unfoldable pub fault : ℕ → List ℕ
 fault n = line jobWord (fields (n ∷ []))
 
 -- the answer as the code has it, and the bytes of the three buffers
-abbrev pub given : read.Answer → List ℕ → List ℕ → List ℕ → Answer
+abbrev pub given : read.Answer → List ℕ → List ℕ → List ℕ → OneAnswer
 given a settled parts held =
     record {
       refusal = a .refusal;
@@ -93,7 +93,7 @@ given a settled parts held =
 
 -- ---- room: no line is longer than 49 bytes, and that of a faulty job not longer than 25
 -- the buffers hold the records that the answer counts, and there is room for so many lines
-unfoldable pub fits : Answer → ℕ → Bool
+unfoldable pub fits : OneAnswer → ℕ → Bool
 fits a room =
     leb (a .settledCount) (length (a .settled) / 8)
     && leb (a .partCount) (length (a .parts) / 12)
@@ -101,7 +101,7 @@ fits a room =
     && leb (49 * (a .settledCount + a .partCount + a .heldCount + 2)) room
 
 -- what a function writes that has so much room: the text, or nothing
-unfoldable pub report : Answer → ℕ → List ℕ
+unfoldable pub report : OneAnswer → ℕ → List ℕ
 report a room = cond (fits a room) (printed a) []
 
 unfoldable pub faultIn : ℕ → ℕ → List ℕ

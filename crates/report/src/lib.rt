@@ -152,7 +152,7 @@ fn whole(out: &mut [u8], answer: Answer, settled: &[u8], parts: &[u8], held: &[u
     )
 }
 
-// The text of a run's answer, into the front of a buffer; answers its length. Where the buffers hold fewer records than the answer counts, or the
+// The text of a run's answer and of the parts of its list, into the front of a buffer; answers its length. Where the buffers hold fewer records than the answer counts, or the
 // room is below 49 bytes for each line and two more, it writes nothing and answers 0.
 pub fn report(answer: Answer, settled: &[u8], parts: &[u8], held: &[u8], out: &mut [u8]) -> usize
     ensures { λ r. ⌜ now (out .exit) ≡ over (Text·report (given answer (now (settled .entry)) (now (parts .entry)) (now (held .entry))) (length (now (out .entry)))) (now (out .entry)) ⌝ }

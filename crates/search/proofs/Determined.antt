@@ -1,5 +1,5 @@
--- Any two results that the run's contract allows are equal: the six numbers and every byte of the three buffers. Assumes nothing.
-use mathlib.Core.Path.{_≡_, ap}
+-- Any two results that the run's contract allows are equal: the six numbers and every byte of both buffers. Assumes nothing.
+use mathlib.Core.Path.{_≡_, sym, ap, ap₂, _∙_}
 use mathlib.Core.List.{List}
 use Prim.Native.Nat.{ℕ}
 use denote.Ref.{now}
@@ -7,21 +7,21 @@ use Rattle.journeys.specs.Query.{Query}
 use Rattle.journeys.specs.Answers as answers
 use Rattle.journeys.specs.Answers.{Lent, Allowed}
 use Rattle.journeys.proofs.Determined.{answer-unique}
-use Rattle.search.specs.Progress.{answerOf}
+use Rattle.search.specs.Outcome.{answerOf}
 use Rattle.records.specs.declared.Answer.{Answer}
 use Rattle.search.proofs.run.Reads as run
 
 -- the six numbers again
-numbers : answers.Answer → Answer
-numbers a = record { refusal = a .refusal; place = a .place; settled = a .settledCount; parts = a .partCount; held = a .heldCount; finished = a .finished }
+numbers : answers.Answer → ℕ → Answer
+numbers a parts = record { refusal = a .refusal; place = a .place; settled = a .settledCount; parts = parts; held = a .heldCount; finished = a .finished }
 
-allowed-one : (b : Lent) (Q : Query) (limit : ℕ) (r r′ : Answer) (h s p h′ s′ p′ : List ℕ) → Allowed b Q limit (answerOf r h s p) → Allowed b Q limit (answerOf r′ h′ s′ p′)
-    → (r ≡ r′) × (h ≡ h′) × (s ≡ s′) × (p ≡ p′)
+allowed-one : (b : Lent) (Q : Query) (limit : ℕ) (r r′ : Answer) (h s h′ s′ : List ℕ) → Allowed b Q limit (answerOf r h s) × (r .parts ≡ 0) → Allowed b Q limit (answerOf r′ h′ s′) × (r′ .parts ≡ 0)
+    → (r ≡ r′) × (h ≡ h′) × (s ≡ s′)
 unfolding numbers
-allowed-one b Q limit r r′ h s p h′ s′ p′ x y =
-    let e = answer-unique b Q limit (answerOf r h s p) (answerOf r′ h′ s′ p′) x y in
-    (ap numbers e, ap (λ (a : answers.Answer). a .held) e, ap (λ (a : answers.Answer). a .settled) e, ap (λ (a : answers.Answer). a .parts) e)
+allowed-one b Q limit r r′ h s h′ s′ x y =
+    let e = answer-unique b Q limit (answerOf r h s) (answerOf r′ h′ s′) (x .0) (y .0) in
+    (ap₂ numbers e (x .1 ∙ sym (y .1)), ap (λ (a : answers.Answer). a .held) e, ap (λ (a : answers.Answer). a .settled) e)
 
 pub one-run : (κs : _) (a : _) (z z′ : _) (e e′ : _) → run.Post κs a z e → run.Post κs a z′ e′
-    → (z ≡ z′) × (now (e .1 .1 .1 .0) ≡ now (e′ .1 .1 .1 .0)) × (now (e .1 .1 .1 .1 .0) ≡ now (e′ .1 .1 .1 .1 .0)) × (now (e .1 .1 .1 .1 .1 .0) ≡ now (e′ .1 .1 .1 .1 .1 .0))
-one-run κs a z z′ e e′ p q = allowed-one _ _ _ z z′ _ _ _ _ _ _ p q
+    → (z ≡ z′) × (now (e .1 .1 .1 .0) ≡ now (e′ .1 .1 .1 .0)) × (now (e .1 .1 .1 .1 .0) ≡ now (e′ .1 .1 .1 .1 .0))
+one-run κs a z z′ e e′ p q = allowed-one _ _ _ z z′ _ _ _ _ p q

@@ -1,4 +1,3 @@
 pub mod RunningFirst
-pub mod FromStepZero
 pub mod AnswerAllowed
 pub mod Determined

@@ -16,9 +16,8 @@ use Rattle.journeys.specs.Query.{Query}
 use Rattle.journeys.specs.Order.{Settled}
 use Rattle.journeys.specs.Network.{distanceIn, heldList}
 use Rattle.journeys.specs.Records.{network}
-use Rattle.journeys.specs.Parts.{partList}
 use Rattle.journeys.specs.Refusals as refusals
-use Rattle.journeys.specs.Answers.{Lent, Answer, early, refusedEarly, refusedLate, heldBytes, settledBytes, partBytes, roomAt, roomUpTo, acceptedAfter, answerOver, Allowed, Room}
+use Rattle.journeys.specs.Answers.{Lent, Answer, early, refusedEarly, refusedLate, heldBytes, settledBytes, roomAt, roomUpTo, acceptedAfter, answerOver, Allowed, Room}
 use Rattle.journeys.proofs.Tests.{split, cond-true, cond-false}
 use Rattle.journeys.proofs.Valid.{early-valid}
 use Rattle.journeys.specs.Valid.{Valid}
@@ -30,7 +29,7 @@ use Rattle.siltbrow.specs.Ran.{answerBytes}
 use Rattle.siltbrow.specs.Call.{Call, Completed, refusal, place, settledCount, partCount, heldCount, finished, read, Orders, steps, S}
 
 -- the six numbers as they stand in the answer slice
-refusal-read : (a : Answer) → be32 (answerBytes a) 0 ≡ a .refusal
+pub refusal-read : (a : Answer) → be32 (answerBytes a) 0 ≡ a .refusal
 unfolding be32 word
 refusal-read a = word-back (a .refusal)
 
@@ -38,13 +37,13 @@ place-read : (a : Answer) → be32 (answerBytes a) 4 ≡ a .place
 unfolding be32 word
 place-read a = word-back (a .place)
 
-settled-read : (a : Answer) → be32 (answerBytes a) 8 ≡ a .settledCount
+pub settled-read : (a : Answer) → be32 (answerBytes a) 8 ≡ a .settledCount
 unfolding be32 word
 settled-read a = word-back (a .settledCount)
 
-parts-read : (a : Answer) → be32 (answerBytes a) 12 ≡ a .partCount
+parts-read : (a : Answer) → be32 (answerBytes a) 12 ≡ 0
 unfolding be32 word
-parts-read a = word-back (a .partCount)
+parts-read a = word-back 0
 
 held-read : (a : Answer) → be32 (answerBytes a) 16 ≡ a .heldCount
 unfolding be32 word
@@ -56,7 +55,7 @@ finished-read a = word-back (a .finished)
 
 -- an answer that refuses counts nothing
 abbrev NoneCounted : Answer → Type 0
-NoneCounted a = (a .settledCount ≡ 0) × (a .partCount ≡ 0) × (a .heldCount ≡ 0) × (a .finished ≡ 0)
+NoneCounted a = (a .settledCount ≡ 0) × (a .heldCount ≡ 0) × (a .finished ≡ 0)
 
 over-counts : (b : Lent) (Q : Query) (limit : ℕ) (l : List Settled) → answerOver b Q l limit .refusal ≢ 0 → NoneCounted (answerOver b Q l limit)
 unfolding answerOver acceptedAfter refusedLate
@@ -64,7 +63,7 @@ over-counts b Q limit l n =
     let k = min limit (length l) in
     let late = refusedLate b (roomUpTo b Q l k) in
     ⊎-elim (λ (t : eqb (roomUpTo b Q l k .number) 0 ≡ true). absurd (n (ap (λ (a : Answer). a .refusal) (cond-true (acceptedAfter b Q l k) late t))))
-    (λ (t : eqb (roomUpTo b Q l k .number) 0 ≡ false). subst NoneCounted (sym (cond-false (acceptedAfter b Q l k) late t)) (refl, refl, refl, refl))
+    (λ (t : eqb (roomUpTo b Q l k .number) 0 ≡ false). subst NoneCounted (sym (cond-false (acceptedAfter b Q l k) late t)) (refl, refl, refl))
     (split (eqb (roomUpTo b Q l k .number) 0))
 
 none-counted : (b : Lent) (Q : Query) (limit : ℕ) (a : Answer) → Allowed b Q limit a → a .refusal ≢ 0 → NoneCounted a
@@ -74,7 +73,7 @@ none-counted b Q limit a A n =
     (λ (t : eqb (early b Q .number) 0 ≡ true).
     let x = A .accepted (eqb-true (early b Q .number) 0 t) in
     subst NoneCounted (sym (x .2)) (over-counts b Q limit (x .0) (λ z. n (ap (λ (y : Answer). y .refusal) (x .2) ∙ z))))
-    (λ (t : eqb (early b Q .number) 0 ≡ false). subst NoneCounted (sym (A .refused (eqb-false (early b Q .number) 0 t))) (refl, refl, refl, refl))
+    (λ (t : eqb (early b Q .number) 0 ≡ false). subst NoneCounted (sym (A .refused (eqb-false (early b Q .number) 0 t))) (refl, refl, refl))
     (split (eqb (early b Q .number) 0))
 
 module _ (c : Call) (E : Completed c) where
@@ -96,20 +95,17 @@ module _ (c : Call) (E : Completed c) where
   settled-bytes : c .settled ≡ a .settled
   settled-bytes = E .0 .answered (E .1) .1 .3
 
-  part-bytes : c .parts ≡ a .parts
-  part-bytes = E .0 .answered (E .1) .1 .4
-
   number : (i : ℕ) (field : Answer → ℕ) → ((x : Answer) → be32 (answerBytes x) i ≡ field x) → be32 (c .answer) i ≡ field a
-  number i field h = ap (λ (l : List ℕ). be32 l i) (E .0 .answered (E .1) .1 .5) ∙ h a
+  number i field h = ap (λ (l : List ℕ). be32 l i) (E .0 .answered (E .1) .1 .4) ∙ h a
 
   -- ---- demand 1
   -- Every call with an answer slice of 24 bytes is answered.
   pub answered-always : c .returned ≡ 0
   answered-always = E .0 .answered (E .1) .0
 
-  -- Bad input is refused by number and place, for the first reason in the fixed order, and no byte of the three buffers is changed.
+  -- Bad input is refused by number and place, for the first reason in the fixed order, and no byte of the two buffers is changed.
   pub refused-first : early b Q .number ≢ 0
-      → (refusal c ≡ early b Q .number) × (place c ≡ early b Q .place) × (c .held ≡ b .held) × (c .settled ≡ b .settled) × (c .parts ≡ b .parts)
+      → (refusal c ≡ early b Q .number) × (place c ≡ early b Q .place) × (c .held ≡ b .held) × (c .settled ≡ b .settled)
   unfolding refusedEarly
   refused-first n =
       let e = allowed-answer .refused n in (
@@ -117,7 +113,6 @@ module _ (c : Call) (E : Completed c) where
         number 4 (λ x. x .place) place-read ∙ ap (λ (x : Answer). x .place) e,
         held-bytes ∙ ap (λ (x : Answer). x .held) e,
         settled-bytes ∙ ap (λ (x : Answer). x .settled) e,
-        part-bytes ∙ ap (λ (x : Answer). x .parts) e,
       )
 
   -- the answer by the one order of settling
@@ -126,10 +121,10 @@ module _ (c : Call) (E : Completed c) where
       let x = allowed-answer .accepted sound in
       x .2 ∙ ap (λ (m : List Settled). answerOver b Q m (c .limit)) (order-unique (read c) Q (early-valid b Q sound) (x .1) O)
 
-  -- Sound input that lacks room is refused at the earliest step after which a table or list would be larger than lent, with the lowest number there, and all three
+  -- Sound input that lacks room is refused at the earliest step after which a table or list would be larger than lent, with the lowest number there, and both
   -- buffers are zero.
   pub room-refused : early b Q .number ≡ 0 → (l : List Settled) → Orders c l → (j : ℕ) → j ≤ steps c l → ¬ Room b Q l j → ((i : ℕ) → i < j → Room b Q l i)
-      → (refusal c ≡ roomAt b Q l j .number) × (place c ≡ roomAt b Q l j .place) × (c .held ≡ cleared (b .held)) × (c .settled ≡ cleared (b .settled)) × (c .parts ≡ cleared (b .parts))
+      → (refusal c ≡ roomAt b Q l j .number) × (place c ≡ roomAt b Q l j .place) × (c .held ≡ cleared (b .held)) × (c .settled ≡ cleared (b .settled))
   unfolding answerOver refusedLate
   room-refused sound l O j h lacks before =
       let k = steps c l in
@@ -142,7 +137,6 @@ module _ (c : Call) (E : Completed c) where
         number 4 (λ x. x .place) place-read ∙ ap (λ (x : Answer). x .place) e,
         held-bytes ∙ ap (λ (x : Answer). x .held) e,
         settled-bytes ∙ ap (λ (x : Answer). x .settled) e,
-        part-bytes ∙ ap (λ (x : Answer). x .parts) e,
       )
 
   -- Sound input with room after every step made is accepted.
@@ -154,14 +148,18 @@ module _ (c : Call) (E : Completed c) where
       number 0 (λ x. x .refusal) refusal-read
       ∙ ap (λ (x : Answer). x .refusal) (over sound l O ∙ cond-true (acceptedAfter b Q l k) (refusedLate b (roomUpTo b Q l k)) enough)
 
-  -- In every refusal, 1 to 10, nothing is counted: the settled, part and held counts are 0, and finished is 0.
+  -- A run counts no parts.
+  pub parts-none : partCount c ≡ 0
+  parts-none = number 12 (λ x. 0) parts-read
+
+  -- In every refusal, 1 to 9, nothing is counted: the settled, part and held counts are 0, and finished is 0.
   pub refused-counts : refusal c ≢ 0 → (settledCount c ≡ 0) × (partCount c ≡ 0) × (heldCount c ≡ 0) × (finished c ≡ 0)
   refused-counts n =
       let z = none-counted b Q (c .limit) a allowed-answer (λ e. n (number 0 (λ x. x .refusal) refusal-read ∙ e)) in (
         number 8 (λ x. x .settledCount) settled-read ∙ z .0,
-        number 12 (λ x. x .partCount) parts-read ∙ z .1,
-        number 16 (λ x. x .heldCount) held-read ∙ z .2,
-        number 20 (λ x. x .finished) finished-read ∙ z .3,
+        parts-none,
+        number 16 (λ x. x .heldCount) held-read ∙ z .1,
+        number 20 (λ x. x .finished) finished-read ∙ z .2,
       )
 
   run : refusal c ≡ 0 → Accepted b Q (c .limit) a
@@ -206,11 +204,6 @@ module _ (c : Call) (E : Completed c) where
       pub settled-are : (settledCount c ≡ length (S c l)) × (c .settled ≡ filled (b .settled) (flatMap settledBytes (S c l)))
       unfolding acceptedAfter
       settled-are = (number 8 (λ x. x .settledCount) settled-read ∙ ap (λ (x : Answer). x .settledCount) is, settled-bytes ∙ ap (λ (x : Answer). x .settled) is)
-
-      -- The part bytes are the parts of step 0 and of S in their order, with zero behind them.
-      pub parts-are : (partCount c ≡ length (partList (read c) Q (S c l))) × (c .parts ≡ filled (b .parts) (flatMap partBytes (partList (read c) Q (S c l))))
-      unfolding acceptedAfter
-      parts-are = (number 12 (λ x. x .partCount) parts-read ∙ ap (λ (x : Answer). x .partCount) is, part-bytes ∙ ap (λ (x : Answer). x .parts) is)
 
       -- The held bytes are the working table ascending by vertex, with zero behind it.
       pub held-are :

@@ -24,19 +24,18 @@ use Rattle.siltbrow.proofs.siltbrow_run.Reads as siltbrow-run
 pub one-siltbrow-check : (κs : _) (a : _) (z z′ : _) (e e′ : _) → siltbrow-check.Post κs a z e → siltbrow-check.Post κs a z′ e′ → z ≡ z′
 one-siltbrow-check κs a z z′ e e′ p q = p ∙ sym q
 
--- the call that the contract of `siltbrow_run` speaks of: its thirteen arguments, what it returns, and its slices at the exit, in the order of its signature
-module _ (κs : Lfts 6) (args : ArgsD siltbrow_run.signature κs) (returned : ℕ) (exit : AtExit (endedOf 6 kinds.ps kinds.r) κs) where
+-- the call that the contract of `siltbrow_run` speaks of: its twelve arguments, what it returns, and its slices at the exit, in the order of its signature
+module _ (κs : Lfts 5) (args : ArgsD siltbrow_run.signature κs) (returned : ℕ) (exit : AtExit (endedOf 5 kinds.ps kinds.r) κs) where
   abbrev pub called : Call
   called =
       record {
-        lent = lent (now (args .0)) (now (args .1 .0)) (now (args .1 .1 .0)) (now (args .1 .1 .1 .1 .1 .1 .1 .1 .1 .0)) (now (args .1 .1 .1 .1 .1 .1 .1 .1 .1 .1 .0)) (now (args .1 .1 .1 .1 .1 .1 .1 .1 .1 .1 .1 .0));
+        lent = lent (now (args .0)) (now (args .1 .0)) (now (args .1 .1 .0)) (now (args .1 .1 .1 .1 .1 .1 .1 .1 .1 .0)) (now (args .1 .1 .1 .1 .1 .1 .1 .1 .1 .1 .0));
         query = queryBy (args .1 .1 .1 .0) (args .1 .1 .1 .1 .0) (args .1 .1 .1 .1 .1 .0) (args .1 .1 .1 .1 .1 .1 .0) (args .1 .1 .1 .1 .1 .1 .1 .0);
         limit = args .1 .1 .1 .1 .1 .1 .1 .1 .0;
-        slice = now (args .1 .1 .1 .1 .1 .1 .1 .1 .1 .1 .1 .1 .0);
+        slice = now (args .1 .1 .1 .1 .1 .1 .1 .1 .1 .1 .1 .0);
         held = now (exit .1 .1 .1 .1 .1 .1 .1 .1 .1 .0);
         settled = now (exit .1 .1 .1 .1 .1 .1 .1 .1 .1 .1 .0);
-        parts = now (exit .1 .1 .1 .1 .1 .1 .1 .1 .1 .1 .1 .0);
-        answer = now (exit .1 .1 .1 .1 .1 .1 .1 .1 .1 .1 .1 .1 .0);
+        answer = now (exit .1 .1 .1 .1 .1 .1 .1 .1 .1 .1 .1 .0);
         returned = returned;
       }
 
@@ -45,11 +44,11 @@ pub call-completed : (κs : _) (a : _) (z : _) (e : _) → siltbrow-run.Post κs
 call-completed κs a z e p whole = (p, whole)
 
 -- the answers for one slice of any length
-ran-one : (b : Lent) (Q : Query) (limit : ℕ) (slice h s p a h′ s′ p′ a′ : List ℕ) (r r′ : ℕ) → Ran b Q limit slice h s p a r → Ran b Q limit slice h′ s′ p′ a′ r′
-    → (r ≡ r′) × (h ≡ h′) × (s ≡ s′) × (p ≡ p′) × (a ≡ a′)
-ran-one b Q limit slice h s p a h′ s′ p′ a′ r r′ x y = go (ℕ-discrete (length slice) 24)
+ran-one : (b : Lent) (Q : Query) (limit : ℕ) (slice h s a h′ s′ a′ : List ℕ) (r r′ : ℕ) → Ran b Q limit slice h s a r → Ran b Q limit slice h′ s′ a′ r′
+    → (r ≡ r′) × (h ≡ h′) × (s ≡ s′) × (a ≡ a′)
+ran-one b Q limit slice h s a h′ s′ a′ r r′ x y = go (ℕ-discrete (length slice) 24)
   where
-    go : Dec (length slice ≡ 24) → (r ≡ r′) × (h ≡ h′) × (s ≡ s′) × (p ≡ p′) × (a ≡ a′)
+    go : Dec (length slice ≡ 24) → (r ≡ r′) × (h ≡ h′) × (s ≡ s′) × (a ≡ a′)
     go (yes e) =
         let f = x .answered e in
         let g = y .answered e in
@@ -57,16 +56,15 @@ ran-one b Q limit slice h s p a h′ s′ p′ a′ r r′ x y = go (ℕ-discret
           f .0 ∙ sym (g .0),
           f .1 .2 ∙ ap (λ (z : Answer). z .held) same ∙ sym (g .1 .2),
           f .1 .3 ∙ ap (λ (z : Answer). z .settled) same ∙ sym (g .1 .3),
-          f .1 .4 ∙ ap (λ (z : Answer). z .parts) same ∙ sym (g .1 .4),
-          f .1 .5 ∙ ap answerBytes same ∙ sym (g .1 .5),
+          f .1 .4 ∙ ap answerBytes same ∙ sym (g .1 .4),
         )
     go (no n) =
         let f = x .untouched n in
         let g = y .untouched n in
-        (f .0 ∙ sym (g .0), f .1 ∙ sym (g .1), f .2 ∙ sym (g .2), f .3 ∙ sym (g .3), f .4 ∙ sym (g .4))
+        (f .0 ∙ sym (g .0), f .1 ∙ sym (g .1), f .2 ∙ sym (g .2), f .3 ∙ sym (g .3))
 
--- Two calls with the same arguments return the same and leave the same bytes in all four slices.
+-- Two calls with the same arguments return the same and leave the same bytes in all three slices.
 pub one-siltbrow-run : (κs : _) (a : _) (z z′ : _) (e e′ : _) → siltbrow-run.Post κs a z e → siltbrow-run.Post κs a z′ e′
     → let c = called κs a z e in let c′ = called κs a z′ e′ in
-    (z ≡ z′) × (c .held ≡ c′ .held) × (c .settled ≡ c′ .settled) × (c .parts ≡ c′ .parts) × (c .answer ≡ c′ .answer)
-one-siltbrow-run κs a z z′ e e′ p q = ran-one _ _ _ _ _ _ _ _ _ _ _ _ z z′ p q
+    (z ≡ z′) × (c .held ≡ c′ .held) × (c .settled ≡ c′ .settled) × (c .answer ≡ c′ .answer)
+one-siltbrow-run κs a z z′ e e′ p q = ran-one _ _ _ _ _ _ _ _ _ _ z z′ p q

@@ -1,52 +1,32 @@
--- Six numbers written one behind the other fill 24 bytes. Assumes nothing.
+-- What a run answers stands in the answer slice. Assumes nothing.
 use mathlib.Core.Path.{_≡_, refl, ap, subst, _∙_}
-use mathlib.Core.List.{List, _++_, append-nil}
+use mathlib.Core.List.{List, _++_}
 use Prim.Native.Nat.{ℕ}
-use native.Mathlib.Omega.{arith}
 use lib.IntN.{ℤ}
-use lib.ListN.{length, drop-of-length-le}
+use lib.ListN.{length}
 use Rattle.journeys.specs.Bytes.{word}
 use Rattle.journeys.specs.Answers.{Lent, Allowed}
-use Rattle.words.specs.Written.{written}
-use Rattle.words.proofs.Written.{front, written-next, four-words}
 use Rattle.records.specs.Asked.{queryBy}
-use Rattle.search.specs.Progress.{answerOf}
+use Rattle.search.specs.Outcome.{answerOf}
 use Rattle.records.specs.declared.Answer as search
 use Rattle.siltbrow.specs.Ran.{Ran}
 
-module _ (d : List ℕ) (a b c e f g : ℕ) (long : length d ≡ 24) where
-  six-written : written (written (written (written (written (written d 0 (word a)) 4 (word b)) 8 (word c)) 12 (word e)) 16 (word f)) 20 (word g)
-      ≡ written d 0 (word a ++ word b ++ word c ++ word e ++ word f ++ word g)
-  unfolding word
-  six-written =
-      ap (λ (l : List ℕ). written (written l 16 (word f)) 20 (word g)) (four-words d a b c e (omega arith))
-      ∙ ap (λ (l : List ℕ). written l 20 (word g)) (written-next d 0 (word a ++ word b ++ word c ++ word e) (omega arith) (word f))
-      ∙ written-next d 0 (word a ++ word b ++ word c ++ word e ++ word f) (omega arith) (word g)
-
-  six-fill : written d 0 (word a ++ word b ++ word c ++ word e ++ word f ++ word g) ≡ word a ++ word b ++ word c ++ word e ++ word f ++ word g
-  unfolding word
-  six-fill =
-      let all = word a ++ word b ++ word c ++ word e ++ word f ++ word g in
-      front d all ∙ ap (λ (l : List ℕ). all ++ l) (drop-of-length-le d {i = 24} (omega arith)) ∙ append-nil all
-
-  -- as the code writes them
-  pub six-words : (l1 l2 l3 l4 l5 l6 : List ℕ) → l1 ≡ written d 0 (word a) → l2 ≡ written l1 4 (word b) → l3 ≡ written l2 8 (word c) → l4 ≡ written l3 12 (word e) → l5 ≡ written l4 16 (word f) → l6 ≡ written l5 20 (word g)
-      → l6 ≡ word a ++ word b ++ word c ++ word e ++ word f ++ word g
-  six-words l1 l2 l3 l4 l5 l6 e1 e2 e3 e4 e5 e6 =
-      e6
-      ∙ ap (λ (l : List ℕ). written l 20 (word g)) (e5
-      ∙ ap (λ (l : List ℕ). written l 16 (word f)) (e4
-      ∙ ap (λ (l : List ℕ). written l 12 (word e)) (e3 ∙ ap (λ (l : List ℕ). written l 8 (word c)) (e2 ∙ ap (λ (l : List ℕ). written l 4 (word b)) e1))))
-      ∙ six-written
-      ∙ six-fill
-
--- the run's answer in the answer slice; z is the arrival as it stands in the query
-pub ran : (b : Lent) (walk offset : ℕ) (arrival z : ℤ) (duration speed limit : ℕ) (slice held settled parts slice′ : List ℕ) (x : search.Answer) → z ≡ arrival → length slice ≡ 24
-    → Allowed b (queryBy walk offset z duration speed) limit (answerOf x held settled parts)
+-- z is the arrival as it stands in the query
+pub ran : (b : Lent) (walk offset : ℕ) (arrival z : ℤ) (duration speed limit : ℕ) (slice held settled slice′ : List ℕ) (x : search.Answer) → z ≡ arrival → length slice ≡ 24
+    → Allowed b (queryBy walk offset z duration speed) limit (answerOf x held settled) × (x .parts ≡ 0)
     → slice′ ≡ word (x .refusal) ++ word (x .place) ++ word (x .settled) ++ word (x .parts) ++ word (x .held) ++ word (x .finished)
-    → Ran b (queryBy walk offset arrival duration speed) limit slice held settled parts slice′ 0
-ran b walk offset arrival z duration speed limit slice held settled parts slice′ x q long A e =
+    → Ran b (queryBy walk offset arrival duration speed) limit slice held settled slice′ 0
+ran b walk offset arrival z duration speed limit slice held settled slice′ x q long A e =
     record {
       untouched = λ n. absurd (n long);
-      answered = λ _. (refl, (answerOf x held settled parts, subst (λ (y : ℤ). Allowed b (queryBy walk offset y duration speed) limit (answerOf x held settled parts)) q A, refl, refl, refl, e));
+      answered = λ _. (
+        refl,
+        (
+          answerOf x held settled,
+          subst (λ (y : ℤ). Allowed b (queryBy walk offset y duration speed) limit (answerOf x held settled)) q (A .0),
+          refl,
+          refl,
+          e ∙ ap (λ (n : ℕ). word (x .refusal) ++ word (x .place) ++ word (x .settled) ++ word n ++ word (x .held) ++ word (x .finished)) (A .1),
+        ),
+      );
     }

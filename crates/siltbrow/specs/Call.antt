@@ -12,21 +12,20 @@ use Rattle.journeys.specs.Answers.{Lent, tables}
 use Rattle.siltbrow.specs.Ran.{Ran}
 
 pub record Call : Type 0 where
-  -- before the call: the tables and the three buffers, the query, the step limit, the answer slice
+  -- before the call: the tables and the two buffers, the query, the step limit, the answer slice
   pub lent : Lent
   pub query : Query
   pub limit : ℕ
   pub slice : List ℕ
-  -- after the call: the bytes of the three buffers and of the answer slice, and the number that the call returns
+  -- after the call: the bytes of the two buffers and of the answer slice, and the number that the call returns
   pub held : List ℕ
   pub settled : List ℕ
-  pub parts : List ℕ
   pub answer : List ℕ
   pub returned : ℕ
 
 -- The call has completed as its contract says, and its answer slice has 24 bytes.
 abbrev pub Completed : Call → Type 0
-Completed c = Ran (c .lent) (c .query) (c .limit) (c .slice) (c .held) (c .settled) (c .parts) (c .answer) (c .returned) × (length (c .slice) ≡ 24)
+Completed c = Ran (c .lent) (c .query) (c .limit) (c .slice) (c .held) (c .settled) (c .answer) (c .returned) × (length (c .slice) ≡ 24)
 
 -- the six numbers as they stand in the answer slice
 abbrev pub refusal : Call → ℕ

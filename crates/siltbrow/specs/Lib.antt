@@ -2,3 +2,5 @@ pub mod Packed
 pub mod Ran
 pub mod Call
 pub mod FrameCall
+pub mod PartsRan
+pub mod PartsCall

@@ -8,12 +8,12 @@ use Rattle.journeys.specs.Bytes.{word}
 use Rattle.journeys.specs.Query.{Query}
 use Rattle.journeys.specs.Answers.{Lent, Answer, Allowed}
 
--- the 24 bytes of an answer
+-- the 24 bytes of an answer: a run counts no parts
 abbrev pub answerBytes : Answer → List ℕ
-answerBytes a = word (a .refusal) ++ word (a .place) ++ word (a .settledCount) ++ word (a .partCount) ++ word (a .heldCount) ++ word (a .finished)
+answerBytes a = word (a .refusal) ++ word (a .place) ++ word (a .settledCount) ++ word 0 ++ word (a .heldCount) ++ word (a .finished)
 
--- `slice` is the answer slice as it was lent, and behind it stand the four written slices after the call. A slice that is not 24 bytes gets nothing,
+-- `slice` is the answer slice as it was lent, and behind it stand the three written slices after the call. A slice that is not 24 bytes gets nothing,
 -- and then nothing else is written either; in 24 bytes stands an answer that a run may give (RULES 13.5), and in the buffers what goes with it.
-pub record Ran (b : Lent) (Q : Query) (limit : ℕ) (slice held settled parts slice′ : List ℕ) (r : ℕ) : Type 0 where
-  pub untouched : length slice ≢ 24 → (r ≡ 1) × (held ≡ b .held) × (settled ≡ b .settled) × (parts ≡ b .parts) × (slice′ ≡ slice)
-  pub answered : length slice ≡ 24 → (r ≡ 0) × ((a : Answer) × Allowed b Q limit a × (held ≡ a .held) × (settled ≡ a .settled) × (parts ≡ a .parts) × (slice′ ≡ answerBytes a))
+pub record Ran (b : Lent) (Q : Query) (limit : ℕ) (slice held settled slice′ : List ℕ) (r : ℕ) : Type 0 where
+  pub untouched : length slice ≢ 24 → (r ≡ 1) × (held ≡ b .held) × (settled ≡ b .settled) × (slice′ ≡ slice)
+  pub answered : length slice ≡ 24 → (r ≡ 0) × ((a : Answer) × Allowed b Q limit a × (held ≡ a .held) × (settled ≡ a .settled) × (slice′ ≡ answerBytes a))

@@ -1,7 +1,8 @@
 // What the map server in C calls: include/siltbrow.h declares it.
 // Promises: the numbers of RULES 13, for every byte string of every length; the tables are only read.
-// Rests on: `audit`, whose scratch it lends, and `search`, which has the run.
+// Rests on: `audit`, whose scratch it lends, `search`, which has the run, `covering`, which has the parts, and `frame`.
 mod framing;
+mod streets;
 
 use records::Answer;
 use records::Query;
@@ -41,7 +42,7 @@ fn put_answer(out: &mut [u8], a: Answer)
     put_word(out, 20, a.finished);
 }
 
-// The run. The answer slice gets its six numbers; 1 where it is not 24 bytes, and then nothing is written.
+// The run. The answer slice gets its six numbers, the count of parts being 0; 1 where it is not 24 bytes, and then nothing is written.
 #[no_mangle]
 pub extern "C" fn siltbrow_run<'a>(
     vertices: &[u8],
@@ -55,10 +56,9 @@ pub extern "C" fn siltbrow_run<'a>(
     limit: u32,
     held: &mut [u8],
     settled: &mut [u8],
-    parts: &mut [u8],
     answer: &mut [u8],
 ) -> u32
-    ensures { λ r. ⌜ Ran (lent (now (vertices .entry)) (now (walks .entry)) (now (hops .entry)) (now (held .entry)) (now (settled .entry)) (now (parts .entry))) (queryBy «record_number» offset arrival duration speed) limit (now (answer .entry)) (now (held .exit)) (now (settled .exit)) (now (parts .exit)) (now (answer .exit)) r ⌝ }
+    ensures { λ r. ⌜ Ran (lent (now (vertices .entry)) (now (walks .entry)) (now (hops .entry)) (now (held .entry)) (now (settled .entry))) (queryBy «record_number» offset arrival duration speed) limit (now (answer .entry)) (now (held .exit)) (now (settled .exit)) (now (answer .exit)) r ⌝ }
 {
     if answer.len() != 24 {
         return 1;
@@ -70,7 +70,7 @@ pub extern "C" fn siltbrow_run<'a>(
         duration: duration,
         speed: speed,
     };
-    let a = search::run(vertices, walks, hops, held, settled, parts, q, limit);
+    let a = search::run(vertices, walks, hops, held, settled, q, limit);
     put_answer(answer, a);
     0
 }

@@ -1,11 +1,10 @@
 -- One step in the code's terms. Assumes nothing.
-use mathlib.Core.Path.{_≡_, refl, sym, ap, subst, _∙_}
+use mathlib.Core.Path.{_≡_, refl, sym, ap, subst}
 use mathlib.Core.Logic.{inl, inr}
 use mathlib.Core.List.{List}
-use Prim.Native.Nat.{ℕ, _+_, _-_, _*_, _/_, _≤_, _<_}
+use Prim.Native.Nat.{ℕ, _+_, _*_, _/_, _≤_, _<_}
 use native.Mathlib.Omega.{arith}
 use lib.ListN.{length}
-use Rattle.journeys.specs.Parts.{Part}
 use Rattle.journeys.specs.Answers.{settledBytes}
 use Rattle.words.specs.Written.{written}
 use Rattle.records.specs.Fields.{settledOf}
@@ -19,10 +18,6 @@ use Rattle.meeting.specs.Answer.{Leads, ArrivedIs, Passed}
 use Rattle.meeting.specs.declared.Arrived.{Arrived}
 use Rattle.halves.proofs.NextRecord.{ends-at}
 use Rattle.heldmap.specs.Model.{walksAt, hopsAt, rowAt, settledNow}
-use Rattle.parts.specs.Listing.{Behind, Overfull, ListedIs, partsOn}
-use Rattle.parts.specs.declared.Listed.{Listed}
-use Rattle.parts.specs.declared.Listed.the-variants as listed
-use Rattle.parts.specs.declared.Road.{Road}
 use Rattle.stepping.specs.Taken.{StepIs, Begins}
 use Rattle.stepping.specs.declared.Progress.{Progress}
 use Rattle.stepping.specs.declared.Stepped.the-variants.{Next, Full}
@@ -54,35 +49,16 @@ module _ (v w h : List ℕ) (x slot : ℕ) (a : Arriving) (t t1 : Table) (h1 : L
   pub all-passed : (h2 : List ℕ) (r : Arrived) → Passed v w1 r1 a t1 h1 h2 r → ArrivedIs t h2 (passed R n m) r
   all-passed h2 r p = ends-at t t1 h2 (L .capacity) r (ap (passed R n) (L .holds .map)) (over-parts h2 r p)
 
-module _ (p : Progress) (m : Map) (x d : ℕ) (w : List ℕ) (road : Road) (left first n : ℕ) (held′ settled settled′ parts parts′ : List ℕ) where
-  abbrev ps : List Part
-  ps = partsOn w road left first n
-
-  -- the parts as the code asks for them: from the first walk as it is read, and up to the end
-  parts-as : (f : ℕ) → f ≡ first → (r : Listed) → ListedIs (p .parts) (partsOn w road left f ((f + n) - f)) parts parts′ r → ListedIs (p .parts) ps parts parts′ r
-  parts-as f e r x =
-      subst (λ (g : ℕ). ListedIs (p .parts) (partsOn w road left g n) parts parts′ r) e
-      (subst (λ (k : ℕ). ListedIs (p .parts) (partsOn w road left f k) parts parts′ r) (let q : (f + n) - f ≡ n = omega arith in q) x)
-
-  pub full-held : p .table .capacity < size m → StepIs p m x d ps held′ settled settled′ parts parts′ (Full 8)
+module _ (p : Progress) (m : Map) (x d : ℕ) (held′ settled settled′ : List ℕ) where
+  pub full-held : p .table .capacity < size m → StepIs p m x d held′ settled settled′ (Full 8)
   unfolding StepIs
   full-held h = inl (refl, h)
 
-  pub full-settled : size m ≤ p .table .capacity → p .settled ≡ length settled / 8 → StepIs p m x d ps held′ settled settled′ parts parts′ (Full 9)
+  pub full-settled : size m ≤ p .table .capacity → p .settled ≡ length settled / 8 → StepIs p m x d held′ settled settled′ (Full 9)
   unfolding StepIs
-  full-settled h e = inr (inl (refl, h, omega arith))
+  full-settled h e = inr (refl, h, omega arith)
 
-  pub full-parts : (f : ℕ) → f ≡ first → size m ≤ p .table .capacity → p .settled ≤ length settled / 8 → (p .settled ≡ length settled / 8 → ⊥) → (r : Listed)
-      → ListedIs (p .parts) (partsOn w road left f ((f + n) - f)) parts parts′ r → r ≡ listed.NoRoom → StepIs p m x d ps held′ settled settled′ parts parts′ (Full 10)
-  unfolding StepIs ListedIs
-  full-parts f i h l ne r a e =
-      let y : Overfull (p .parts) ps parts parts′ = subst (ListedIs (p .parts) ps parts parts′) e (parts-as f i r a) in
-      inr (inr (refl, h, omega arith, y .over))
-
-  pub one-more : (f : ℕ) → f ≡ first → (t2 : Table) (c : ℕ) → Leads (p .table) t2 held′ m → size m ≤ p .table .capacity → p .settled ≤ length settled / 8 → (p .settled ≡ length settled / 8 → ⊥)
-      → settled′ ≡ written settled (8 * p .settled) (settledBytes (settledOf x d)) → (r : Listed) → ListedIs (p .parts) (partsOn w road left f ((f + n) - f)) parts parts′ r
-      → r ≡ listed.Fits c → StepIs p m x d ps held′ settled settled′ parts parts′ (Next (record { table = t2; settled = p .settled + 1; parts = c }))
-  unfolding StepIs ListedIs
-  one-more f i t2 c L h l ne s r a e =
-      let y : Behind (p .parts) ps parts parts′ c = subst (ListedIs (p .parts) ps parts parts′) e (parts-as f i r a) in
-      record { table = L; fits = h; count = refl; room = omega arith; listed = s; parted = y }
+  pub one-more : (t2 : Table) → Leads (p .table) t2 held′ m → size m ≤ p .table .capacity → p .settled ≤ length settled / 8 → (p .settled ≡ length settled / 8 → ⊥)
+      → settled′ ≡ written settled (8 * p .settled) (settledBytes (settledOf x d)) → StepIs p m x d held′ settled settled′ (Next (record { table = t2; settled = p .settled + 1 }))
+  unfolding StepIs
+  one-more t2 L h l ne s = record { table = L; fits = h; count = refl; room = omega arith; listed = s }

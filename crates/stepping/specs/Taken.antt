@@ -1,10 +1,9 @@
--- The next vertex, and what one step makes of the table and of the two lists. Assumes nothing.
+-- The next vertex, and what one step makes of the table and of the settled list. Assumes nothing.
 use mathlib.Core.Path.{_≡_}
 use mathlib.Core.Logic.{_⊎_}
 use mathlib.Core.List.{List}
 use Prim.Native.Nat.{ℕ, _+_, _*_, _/_, _<_, _≤_}
 use lib.ListN.{length}
-use Rattle.journeys.specs.Parts.{Part}
 use Rattle.journeys.specs.Answers.{settledBytes}
 use Rattle.words.specs.Written.{written}
 use Rattle.records.specs.Fields.{settledOf}
@@ -13,16 +12,11 @@ use Rattle.worktable.specs.Table.{mapOf, InOrder, Place}
 use Rattle.worktable.specs.declared.Nearest.{Nearest}
 use Rattle.worktable.specs.declared.Table.{Table}
 use Rattle.journeys.specs.Counting.{none}
-use Rattle.journeys.specs.Tables.{vertexAt}
-use Rattle.records.specs.Arriving.{firstOf}
-use Rattle.records.specs.declared.Kind.the-variants.{Walks}
 use Rattle.passing.specs.Row.{passes, Sound, Leaves}
 use Rattle.passing.specs.declared.Arriving.{Arriving}
 use Rattle.meeting.specs.Passing.{passed, Enough}
 use Rattle.meeting.specs.Answer.{Leads}
 use Rattle.heldmap.specs.Model.{Standing, walksAt, hopsAt, rowAt, settledNow}
-use Rattle.parts.specs.Listing.{Behind, partsOn}
-use Rattle.parts.specs.declared.Road.{Road}
 use Rattle.stepping.specs.declared.Progress.{Progress}
 use Rattle.stepping.specs.declared.Stepped.{Stepped}
 use Rattle.stepping.specs.declared.Stepped.the-variants.{Next, Full}
@@ -32,25 +26,21 @@ unfoldable pub NextIs : Table → List ℕ → ℕ → Nearest → Type 0
 NextIs t b D (Nearest.At s v d) = Place t b v s × Foremost (mapOf t b) v d × (d ≤ D)
 NextIs t b D Nearest.Nothing = (u e : ℕ) → Waits (mapOf t b) u e → D < e
 
--- One step from p, which settles v at d and lists the parts ps: m is the map after it. The bytes are those of the buffers before and after.
-pub record Steps (p : Progress) (m : Map) (v d : ℕ) (ps : List Part) (held′ settled settled′ parts parts′ : List ℕ) (q : Progress) : Type 0 where
+-- One step from p, which settles v at d: m is the map after it. The bytes are those of the buffers before and after.
+pub record Steps (p : Progress) (m : Map) (v d : ℕ) (held′ settled settled′ : List ℕ) (q : Progress) : Type 0 where
   pub table : Leads (p .table) (q .table) held′ m
   pub fits : size m ≤ p .table .capacity
   pub count : q .settled ≡ p .settled + 1
   pub room : p .settled < length settled / 8
   pub listed : settled′ ≡ written settled (8 * p .settled) (settledBytes (settledOf v d))
-  pub parted : Behind (p .parts) ps parts parts′ (q .parts)
 
--- or which of the three has no room: the lowest number
-abbrev pub Lacks : Progress → Map → List Part → List ℕ → List ℕ → ℕ → Type 0
-Lacks p m ps settled parts n =
-    ((n ≡ 8) × (p .table .capacity < size m))
-    ⊎ (((n ≡ 9) × (size m ≤ p .table .capacity) × (length settled / 8 ≤ p .settled))
-    ⊎ ((n ≡ 10) × (size m ≤ p .table .capacity) × (p .settled < length settled / 8) × (length parts / 12 < p .parts + length ps)))
+-- or which of the two has no room: the lower number
+abbrev pub Lacks : Progress → Map → List ℕ → ℕ → Type 0
+Lacks p m settled n = ((n ≡ 8) × (p .table .capacity < size m)) ⊎ ((n ≡ 9) × (size m ≤ p .table .capacity) × (length settled / 8 ≤ p .settled))
 
-unfoldable pub StepIs : Progress → Map → ℕ → ℕ → List Part → List ℕ → List ℕ → List ℕ → List ℕ → List ℕ → Stepped → Type 0
-StepIs p m v d ps held′ settled settled′ parts parts′ (Next q) = Steps p m v d ps held′ settled settled′ parts parts′ q
-StepIs p m v d ps held′ settled settled′ parts parts′ (Full n) = Lacks p m ps settled parts n
+unfoldable pub StepIs : Progress → Map → ℕ → ℕ → List ℕ → List ℕ → List ℕ → Stepped → Type 0
+StepIs p m v d held′ settled settled′ (Next q) = Steps p m v d held′ settled settled′ q
+StepIs p m v d held′ settled settled′ (Full n) = Lacks p m settled n
 
 -- What a step at x starts from: x waits at its slot, and the row of the records that arrive at it may be passed when it is settled.
 pub record Begins (v w h : List ℕ) (x slot : ℕ) (a : Arriving) (t : Table) (held : List ℕ) : Type 0 where
@@ -61,14 +51,12 @@ pub record Begins (v w h : List ℕ) (x slot : ℕ) (a : Arriving) (t : Table) (
   pub standing : Standing v w h x
   pub sound : Sound (walksAt v w x) (hopsAt v h x) a
   pub leaves : Leaves v (walksAt v w x) (hopsAt v h x) a
-  pub walks : firstOf Walks (vertexAt v x) + a .walks ≤ length w / 16
   pub enough : Enough (rowAt v w h x a) (passes a) (settledNow (mapOf t held) x)
 
 -- the map after it
 abbrev pub mapAfter : List ℕ → List ℕ → List ℕ → ℕ → Arriving → Map → Map
 mapAfter v w h x a m = passed (rowAt v w h x a) (passes a) (settledNow m x)
 
--- the step from p with that row, and with the parts of its walks
-abbrev pub StepMade : List ℕ → List ℕ → List ℕ → ℕ → Arriving → Road → ℕ → Progress → List ℕ → List ℕ → List ℕ → List ℕ → List ℕ → List ℕ → Stepped → Type 0
-StepMade v w h x a road left p held held′ settled settled′ parts parts′ r =
-    StepIs p (mapAfter v w h x a (mapOf (p .table) held)) x (a .distance .0) (partsOn w road left (firstOf Walks (vertexAt v x)) (a .walks)) held′ settled settled′ parts parts′ r
+-- the step from p with that row
+abbrev pub StepMade : List ℕ → List ℕ → List ℕ → ℕ → Arriving → Progress → List ℕ → List ℕ → List ℕ → List ℕ → Stepped → Type 0
+StepMade v w h x a p held held′ settled settled′ r = StepIs p (mapAfter v w h x a (mapOf (p .table) held)) x (a .distance .0) held′ settled settled′ r

@@ -1,9 +1,7 @@
-// One step of the run: the foremost vertex of the working table is settled, its arriving records are passed and their parts listed.
-// Promises: the map after the step, the record and the parts that it lists, or the lowest number that lacks room.
-// Rests on: the working table (`worktable`), `arrivals` and `parts`, the readers and writers of `records`.
+// One step of the run: the foremost vertex of the working table is settled, and its arriving records are passed.
+// Promises: the map after the step and the record that it lists, or the lowest number that lacks room.
+// Rests on: the working table (`worktable`), `arrivals`, the readers and writers of `records`.
 use meeting::Arrived;
-use parts::Listed;
-use parts::Road;
 use passing::Arriving;
 use records::Kind;
 use words::Seconds;
@@ -14,18 +12,16 @@ ghost use mathlib.Core.Path.{_≡_};
 ghost use Prim.Native.Nat.{_/_, _<_, _≤_};
 ghost use lib.ListN.{length, replicate};
 ghost use Rattle.journeys.specs.Counting.{none};
-ghost use Rattle.journeys.specs.Tables.{vertexAt};
 ghost use Rattle.worktable.specs.Map.{stateOf, distanceOf};
 ghost use Rattle.worktable.specs.Table.{mapOf, InOrder, Place};
 ghost use Rattle.meeting.specs.Answer.{Leads, ArrivedIs};
 ghost use Rattle.heldmap.specs.Model.{Standing, walksAt, hopsAt, arrivingAt, settledNow};
 ghost use Rattle.stepping.specs.Taken.{NextIs, Begins, mapAfter, StepMade};
 
-// Where the run stands: the table, and how many vertices and parts are listed.
+// Where the run stands: the table, and how many vertices are listed.
 pub struct Progress {
     pub table: Table,
     pub settled: usize,
-    pub parts: usize,
 }
 
 // One step further, or the number of the refusal.
@@ -93,18 +89,15 @@ pub fn step<'a>(
     hops: &'a [u8],
     held: &mut [u8],
     settled: &mut [u8],
-    parts: &mut [u8],
     scratch: &mut [u16],
     p: Progress,
     x: usize,
     slot: usize,
     arriving: Arriving,
-    road: Road,
-    left: Ticks,
 ) -> Stepped
     requires { ⌜ Begins (now vertices) (now walks) (now hops) x slot arriving (p .table) (now held) × (now scratch ≡ replicate 2048 0) ⌝ }
-    requires { ⌜ (p .settled ≤ length (now settled) / 8) × (p .parts ≤ length (now parts) / 12) × (length (now walks) / 16 ≤ 262144) × (p .settled < 4294967295) ⌝ }
-    ensures { λ r. ⌜ StepMade (now (vertices .entry)) (now (walks .entry)) (now (hops .entry)) x arriving road (left .0) p (now (held .entry)) (now (held .exit)) (now (settled .entry)) (now (settled .exit)) (now (parts .entry)) (now (parts .exit)) r ⌝ }
+    requires { ⌜ (p .settled ≤ length (now settled) / 8) × (p .settled < 4294967295) ⌝ }
+    ensures { λ r. ⌜ StepMade (now (vertices .entry)) (now (walks .entry)) (now (hops .entry)) x arriving p (now (held .entry)) (now (held .exit)) (now (settled .entry)) (now (settled .exit)) r ⌝ }
     ensures { λ _. ⌜ now (scratch .exit) ≡ replicate 2048 0 ⌝ }
 {
     let table = p.table;
@@ -126,23 +119,9 @@ pub fn step<'a>(
     }
     records::add_settled(settled, p.settled, x as u32, arriving.distance);
     let count = p.settled + 1;
-    let first = records::first_arriving(vertices, Kind::Walks, x);
-    let end = first + arriving.walks;
-    let Listed::Fits(listed) = parts::list_arriving(
-        parts,
-        p.parts,
-        walks,
-        first as u32,
-        end as u32,
-        road,
-        left,
-    ) else {
-        return Stepped::Full(10);
-    };
     Stepped::Next(Progress {
         table: passed,
         settled: count,
-        parts: listed,
     })
 }
 

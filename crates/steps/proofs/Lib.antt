@@ -1,3 +1,2 @@
-pub mod PartsAsDefined
 pub mod RunningNext
 pub mod LoopEnds

@@ -1,7 +1,6 @@
 // The steps of a run behind step 0, up to its limit.
 // Promises: as many steps as the limit and the order of settling allow, and whether that is all; or the first step that lacks room.
 // Rests on: one step (`stepping`), what it means for the held map (`heldmap`).
-use parts::Road;
 use records::Query;
 use stepping::Progress;
 use stepping::Stepped;
@@ -9,13 +8,11 @@ use words::Ticks;
 use worktable::Nearest;
 use worktable::Table;
 ghost use mathlib.Core.Path.{_≡_};
-ghost use lib.ListN.{replicate};
-ghost use Rattle.journeys.specs.Tables.{tablesOf, walkAt};
+ghost use lib.ListN.{length, replicate};
+ghost use Rattle.journeys.specs.Tables.{tablesOf};
 ghost use Rattle.journeys.specs.Query as query;
 ghost use Rattle.worktable.specs.Table.{InOrder};
-ghost use Rattle.parts.specs.Listing.{roadOf};
 ghost use Rattle.records.specs.Asked.{queryOf};
-ghost use Rattle.intake.specs.Lending.{lent};
 ghost use Rattle.steps.specs.Running.{WaitsIs, Stands, Ends};
 ghost use Rattle.journeys.specs.Valid.{Valid};
 
@@ -43,17 +40,15 @@ pub fn steps<'a>(
     hops: &'a [u8],
     held: &mut [u8],
     settled: &mut [u8],
-    parts: &mut [u8],
     scratch: &mut [u16],
     start: Progress,
     q: Query,
-    road: Road,
     allowed: Ticks,
     limit: u32,
 ) -> Ended
-    requires { ⌜ Valid (tablesOf (now vertices) (now walks) (now hops)) (queryOf q) × (allowed .0 ≡ query.allowed (queryOf q)) × (road ≡ roadOf (q .walk) (walkAt (now walks) (q .walk)) (q .offset .0)) × (now scratch ≡ replicate 2048 0) × (start .settled ≡ 0) ⌝ }
-    requires { ⌜ Stands (lent (now vertices) (now walks) (now hops) (now held) (now settled) (now parts)) (queryOf q) (start .parts) start (now held) (now settled) (now parts) ⌝ }
-    ensures { λ r. ⌜ Ends (lent (now (vertices .entry)) (now (walks .entry)) (now (hops .entry)) (now (held .entry)) (now (settled .entry)) (now (parts .entry))) (queryOf q) limit (start .parts) (now (held .exit)) (now (settled .exit)) (now (parts .exit)) r ⌝ }
+    requires { ⌜ Valid (tablesOf (now vertices) (now walks) (now hops)) (queryOf q) × (allowed .0 ≡ query.allowed (queryOf q)) × (now scratch ≡ replicate 2048 0) × (start .settled ≡ 0) ⌝ }
+    requires { ⌜ Stands (now vertices) (now walks) (now hops) (length (now held)) (length (now settled)) (queryOf q) start (now held) (now settled) ⌝ }
+    ensures { λ r. ⌜ Ends (now (vertices .entry)) (now (walks .entry)) (now (hops .entry)) (length (now (held .entry))) (length (now (settled .entry))) (queryOf q) limit (now (held .exit)) (now (settled .exit)) r ⌝ }
     ensures { λ _. ⌜ now (scratch .exit) ≡ replicate 2048 0 ⌝ }
 {
     let mut p = start;
@@ -69,14 +64,11 @@ pub fn steps<'a>(
             hops,
             held,
             settled,
-            parts,
             scratch,
             p,
             x,
             slot,
             arriving,
-            road,
-            Ticks(allowed.0 - d),
         ) {
             Stepped::Next(more) => p = more,
             Stepped::Full(n) => return Ended::Refused(n, p.settled + 1),

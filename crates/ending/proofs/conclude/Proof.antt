@@ -3,22 +3,22 @@ use Prim.Native.Nat.{ℕ}
 use native.Mathlib.Omega.{arith}
 use denote.Ref.{now}
 use Rattle.worktable.specs.Table.{mapOf}
-use Rattle.ending.proofs.RestCleared.{rest-cleared, size-low}
+use Rattle.words.proofs.Rest.{rest-cleared}
+use Rattle.ending.proofs.FewEntries.{size-low}
 use borrow.Author.Needs.{needs}
 use Rattle.ending.proofs.conclude.Statement.{statement}
 use Rattle.ending.proofs.conclude.Tie as tie
 
-cast-t22 : tie.Need-cast-t22
-cast-t22 c = let a = c .before .before .before .before .before .before .before .before .before .before .before .before .before .before .before .before .before .before .before .before in omega (arith, c .before .before .before .before .before .before .before .before .before .before .before .before .before .before .finish .ensures .0, size-low (mapOf (a .args .p .table) (now (a .args .held))))
+cast-t16 : tie.Need-cast-t16
+cast-t16 c = let a = c .before .before .before .before .before .before .before .before .before .before .before .before .before in omega (arith, c .before .before .before .before .before .before .before .before .finish .ensures .0, size-low (mapOf (a .args .p .table) (now (a .args .held))))
 
 returns : tie.Need-returns
 returns c =
-    let a = c .before .before .before .before .before .before .before .before .before .before .before .before .before .before .before .before .before .before .before .before in
+    let a = c .before .before .before .before .before .before .before .before .before .before .before .before .before in
     record {
-      answer = ap (λ (n : ℕ). record { refusal = 0; place = 0; settled = a .args .p .settled; parts = a .args .p .parts; held = n; finished = a .args .finished }) (c .before .before .before .before .before .before .before .before .before .before .before .before .before .before .finish .ensures .0);
-      held-is = c .before .before .before .before .before .before .before .before .before .before .before .before .before .before .finish .ensures .1;
-      settled-is = rest-cleared _ _ _ _ (a .pre .1) refl (c .before .before .before .before .before .before .before .before .before .zero .ensures);
-      parts-is = rest-cleared _ _ _ _ (a .pre .2) refl (c .before .before .before .before .zero2 .ensures);
+      answer = ap (λ (n : ℕ). record { refusal = 0; place = 0; settled = a .args .p .settled; parts = 0; held = n; finished = a .args .finished }) (c .before .before .before .before .before .before .before .before .finish .ensures .0);
+      held-is = c .before .before .before .before .before .before .before .before .finish .ensures .1;
+      settled-is = rest-cleared _ _ _ _ (a .pre .1) refl (c .before .before .before .zero .ensures);
     }
 
 pub conclude-spec : {M : Type 1} → statement M
@@ -32,14 +32,7 @@ conclude-spec =
     (λ c. search needs)
     (λ c κs. search needs)
     (λ c. search needs)
-    (λ c. search needs)
-    (λ c. search needs)
-    (λ c. search needs)
-    (λ c κs. search needs)
-    (λ c. search needs)
-    (λ c. search needs)
-    cast-t22
-    (λ c. search needs)
+    cast-t16
     (λ c. search needs)
     (λ c. search needs)
     returns)

@@ -8,9 +8,8 @@ unfolding cleared
 returns c =
     record {
       answer = c .refusal .ensures;
-      held-is = c .before .before .before .before .before .before .before .before .before .before .before .zero .ensures;
-      settled-is = c .before .before .before .before .before .before .before .zero2 .ensures;
-      parts-is = c .before .before .before .zero3 .ensures;
+      held-is = c .before .before .before .before .before .before .before .zero .ensures;
+      settled-is = c .before .before .before .zero2 .ensures;
     }
 
 pub give-up-spec : {M : Type 1} → statement M
@@ -20,8 +19,6 @@ give-up-spec =
     (λ c κs. search needs)
     (λ c κs. search needs)
     (λ c κs. search needs)
-    (λ c κs. search needs)
-    (λ c. search needs)
     (λ c. search needs)
     (λ c. search needs)
     returns)

@@ -1,29 +1,22 @@
 use native.Mathlib.Omega.{arith}
-use Rattle.opening.proofs.OpenEnds.{as-first, ends-as, no-seeds, no-parts, opened}
+use Rattle.opening.proofs.OpenEnds.{as-first, ends-as, no-seeds, opened}
 use borrow.Author.Needs.{needs}
 use Rattle.opening.proofs.begin.Statement.{statement}
 use Rattle.opening.proofs.begin.Tie as tie
 
 seeds-requires : tie.Need-seeds-requires
 seeds-requires c κs =
-    let a = c .before .before .before .before .before .before .before .before .before .before .pre in
+    let a = c .before .before .before .before .before .before .before .before .before .pre in
     let e = ends-as _ _ _ _ (c .before .before .before .before .walk-at .ensures) (a .1) in
     ((a .0 .0, a .0 .1), (e .0, e .1, e .2, omega (arith, a .0 .3, c .before .before .from-ticks .ensures), omega (arith, a .0 .4, c .before .to-ticks .ensures)))
 
 returns : tie.Need-returns
 returns c =
-    let s = c .before .before .before .before in
-    no-seeds _ _ _ _ _ _ _ _ (as-first _ _ _ _ _ (s .before .before .before .before .before .walk-at .ensures) _ _ _ (s .before .before .before .from-ticks .ensures) (s .before .before .to-ticks .ensures) _ (s .before .to-is-seed .ensures) _ (s .seeds .ensures)) (c .enum-told .given .1)
+    no-seeds _ _ _ _ _ (as-first _ _ _ _ _ (c .before .before .before .before .before .before .before .before .before .walk-at .ensures) _ _ _ (c .before .before .before .before .before .before .before .from-ticks .ensures) (c .before .before .before .before .before .before .to-ticks .ensures) _ (c .before .before .before .before .before .to-is-seed .ensures) _ (c .before .before .before .before .seeds .ensures)) (c .enum-told .given .1)
 
 returns-2 : tie.Need-returns-2
 returns-2 c =
-    let s = c .before .before .before .before .before .before .before .before .before .before .before in
-    no-parts _ _ _ _ _ _ _ _ (as-first _ _ _ _ _ (s .before .before .before .before .before .walk-at .ensures) _ _ _ (s .before .before .before .from-ticks .ensures) (s .before .before .to-ticks .ensures) _ (s .before .to-is-seed .ensures) _ (s .seeds .ensures)) _ (c .before .before .before .before .before .before .before .table .given .1) _ (c .before .before .before .before .list-first .ensures) (c .enum-told2 .given .1)
-
-returns-3 : tie.Need-returns-3
-returns-3 c =
-    let s = c .before .before .before .before .before .before .before .before .before .before .before .before in
-    opened _ _ _ _ _ _ _ _ (as-first _ _ _ _ _ (s .before .before .before .before .before .walk-at .ensures) _ _ _ (s .before .before .before .from-ticks .ensures) (s .before .before .to-ticks .ensures) _ (s .before .to-is-seed .ensures) _ (s .seeds .ensures)) _ (c .before .before .before .before .before .before .before .before .table .given .1) _ (c .before .before .before .before .before .list-first .ensures) _ (c .before .first .given .1)
+    opened _ _ _ _ _ (as-first _ _ _ _ _ (c .before .before .before .before .before .before .before .before .before .before .walk-at .ensures) _ _ _ (c .before .before .before .before .before .before .before .before .from-ticks .ensures) (c .before .before .before .before .before .before .before .to-ticks .ensures) _ (c .before .before .before .before .before .before .to-is-seed .ensures) _ (c .before .before .before .before .before .seeds .ensures)) _ (c .before .table .given .1)
 
 pub begin-spec : {M : Type 1} → statement M
 begin-spec =
@@ -39,12 +32,5 @@ begin-spec =
     (λ c. search needs)
     (λ c. search needs)
     returns
-    (λ c κs. search needs)
     (λ c. search needs)
-    (λ c. search needs)
-    (λ c. search needs)
-    (λ c. search needs)
-    returns-2
-    (λ c. search needs)
-    (λ c. search needs)
-    returns-3)
+    returns-2)

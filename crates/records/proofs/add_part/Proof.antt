@@ -4,7 +4,7 @@ use native.Mathlib.Omega.{arith}
 use denote.Ref.{now}
 use Prim.Native.Nat.{_*_}
 use Rattle.journeys.specs.Bytes.{word}
-use Rattle.journeys.specs.Answers.{partBytes}
+use Rattle.journeys.specs.Parts.{partBytes}
 use Rattle.records.specs.Fields.{partOf}
 use Rattle.words.proofs.Written.{rest-written}
 use borrow.Author.Needs.{needs}

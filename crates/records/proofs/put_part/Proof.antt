@@ -2,7 +2,7 @@
 use mathlib.Core.Path.{_∙_}
 use denote.Ref.{now}
 use Rattle.journeys.specs.Bytes.{word}
-use Rattle.journeys.specs.Answers.{partBytes}
+use Rattle.journeys.specs.Parts.{partBytes}
 use Rattle.records.specs.Fields.{partOf}
 use Rattle.words.proofs.Written.{front, three-words}
 use borrow.Author.Needs.{needs}

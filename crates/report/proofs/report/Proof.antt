@@ -1,7 +1,7 @@
 -- `report` meets its contract: with room the whole text, else nothing. Assumes nothing.
 use lib.ListN.{length}
 use denote.Ref.{now}
-use Rattle.journeys.specs.Answers.{Answer}
+use Rattle.journeys.specs.OneRun.{OneAnswer}
 use Rattle.report.specs.Text.{given, fits, report}
 use Rattle.report.proofs.Shown.{text-shown, none-shown}
 use Rattle.report.proofs.LineLaws.{text-fits, text-lacks}
@@ -9,7 +9,7 @@ use borrow.Author.Needs.{needs}
 use Rattle.report.proofs.report.Statement.{statement}
 use Rattle.report.proofs.report.Tie as tie
 
-abbrev asked : tie.Start → Answer
+abbrev asked : tie.Start → OneAnswer
 asked c = given (c .args .answer) (now (c .args .settled)) (now (c .args .parts)) (now (c .args .held))
 
 whole-requires : tie.Need-whole-requires

@@ -2,7 +2,7 @@
 use native.Mathlib.Omega.{arith}
 use lib.ListN.{length}
 use denote.Ref.{now}
-use Rattle.journeys.specs.Answers.{Answer}
+use Rattle.journeys.specs.OneRun.{OneAnswer}
 use Rattle.report.specs.Text.{given}
 use Rattle.copying.proofs.Copied.{both}
 use Rattle.report.proofs.LineLaws.{Room, has-room, as-text, refusal-text, answer-text}
@@ -10,7 +10,7 @@ use borrow.Author.Needs.{needs}
 use Rattle.report.proofs.whole.Statement.{statement}
 use Rattle.report.proofs.whole.Tie as tie
 
-abbrev asked : tie.Start → Answer
+abbrev asked : tie.Start → OneAnswer
 asked c = given (c .args .answer) (now (c .args .settled)) (now (c .args .parts)) (now (c .args .held))
 
 room : (c : tie.Start) → Room (asked c) (length (now (c .args .out)))

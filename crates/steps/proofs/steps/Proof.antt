@@ -4,27 +4,26 @@ use native.Mathlib.Omega.{arith}
 use borrow.Author.Needs.{needs}
 use lib.ListN.{length, replicate}
 use Rattle.records.specs.Asked.{queryOf}
-use Rattle.intake.specs.Lending.{lent}
 use Rattle.stepping.specs.Taken.{StepIs}
 use Rattle.steps.specs.Running.{Stands}
 use Rattle.stepping.proofs.NextEntry.{next-nothing, next-found}
-use Rattle.steps.proofs.LoopEnds.{table-order, counts-fit, whole, near, some-wait, none-wait, run-fits, begins-as, step-as, one-counted, stands-on, stops}
+use Rattle.steps.proofs.LoopEnds.{table-order, counts-fit, whole, some-wait, none-wait, run-fits, begins-as, step-as, one-counted, stands-on, stops}
 use Rattle.steps.proofs.steps.Statement.{statement}
 use Rattle.steps.proofs.steps.Tie as tie
 
 abbrev Inv-loop : tie.InvT-loop
-Inv-loop vertices walks hops held₀ settled₀ parts₀ scratch₀ q road allowed limit p₀ held settled parts scratch p =
-    Stands (lent vertices walks hops held₀ settled₀ parts₀) (queryOf q) (p₀ .parts) p held settled parts × (p .settled ≤ limit) × (scratch ≡ replicate 2048 0)
-    × (length held ≡ length held₀) × (length settled ≡ length settled₀) × (length parts ≡ length parts₀) × (length scratch ≡ length scratch₀)
+Inv-loop vertices walks hops held₀ settled₀ scratch₀ q allowed limit p₀ held settled scratch p =
+    Stands vertices walks hops (length held₀) (length settled₀) (queryOf q) p held settled × (p .settled ≤ limit) × (scratch ≡ replicate 2048 0)
+    × (length held ≡ length held₀) × (length settled ≡ length settled₀) × (length scratch ≡ length scratch₀)
 
 abbrev μ-loop : tie.MeasureT-loop
-μ-loop vertices walks hops held₀ settled₀ parts₀ scratch₀ q road allowed limit p₀ held settled parts scratch p = limit - p .settled
+μ-loop vertices walks hops held₀ settled₀ scratch₀ q allowed limit p₀ held settled scratch p = limit - p .settled
 
 loop-holds : tie.Need-loop-holds Inv-loop μ-loop
-loop-holds c = (c .before .before .before .before .before .before .before .pre .1, omega (arith, c .before .before .before .before .before .before .before .pre .0 .4), c .before .before .before .before .before .before .before .pre .0 .3, refl, refl, refl, refl)
+loop-holds c = let a = c .before .before .before .before .before .before .pre in (a .1, omega (arith, a .0 .3), a .0 .2, refl, refl, refl)
 
 next-requires : tie.Need-next-requires Inv-loop μ-loop
-next-requires c κs = table-order _ _ (c .before .before .before .before .before .before .before .before .before .before .before .before .pre .0 .0) _ _ _ _ _ (c .before .before .before .before .loop .inv .0)
+next-requires c κs = table-order _ _ _ _ _ _ (c .before .before .before .before .before .before .before .before .before .before .before .pre .0 .0) _ _ _ (c .before .before .before .before .loop .inv .0)
 
 same-length : tie.Need-same-length Inv-loop μ-loop
 same-length c = c .before .before .before .before .before .before .before .loop .inv .3
@@ -35,96 +34,98 @@ same-length-2 c = c .before .before .before .before .before .before .before .loo
 same-length-3 : tie.Need-same-length-3 Inv-loop μ-loop
 same-length-3 c = c .before .before .before .before .before .before .before .loop .inv .5
 
-same-length-4 : tie.Need-same-length-4 Inv-loop μ-loop
-same-length-4 c = c .before .before .before .before .before .before .before .loop .inv .6
-
 returns : tie.Need-returns Inv-loop μ-loop
-returns c = (whole _ _ (c .before .before .before .before .before .before .before .before .before .before .before .before .before .before .before .pre .0 .0) _ _ _ _ _ (c .before .before .before .before .before .before .before .loop .inv .0) _ (c .before .before .before .before .before .before .before .loop .inv .1) (next-nothing _ _ _ _ (c .before .before .before .before .before .before .before .before .before .before .before .before .before .before .before .pre .0 .1) _ (c .before .before .next .ensures) (c .enum-told .given .1)), c .before .before .before .before .before .before .before .loop .inv .2)
+returns c =
+    let a = c .before .before .before .before .before .before .before .before .before .before .before .before .before .before .pre .0 in
+    let i = c .before .before .before .before .before .before .before .loop .inv in
+    (whole _ _ _ _ _ _ (a .0) _ _ _ (i .0) _ (i .1) (next-nothing _ _ _ _ (a .1) _ (c .before .before .next .ensures) (c .enum-told .given .1)), i .2)
 
 arriving-at-requires : tie.Need-arriving-at-requires Inv-loop μ-loop
-arriving-at-requires c κs = run-fits _ _ (c .before .before .before .before .before .before .before .before .before .before .before .before .before .before .before .before .pre .0 .0) _ _ _ _ _ (c .before .before .before .before .before .before .before .before .loop .inv .0) _ _ _ (next-found _ _ _ _ (c .before .before .before .before .before .before .before .before .before .before .before .before .before .before .before .before .pre .0 .1) _ (c .before .before .before .next .ensures) (c .before .slot .given .1))
-
-sub-t36 : tie.Need-sub-t36 Inv-loop μ-loop
-sub-t36 c = omega (arith, near _ _ (c .before .before .before .before .before .before .before .before .before .before .before .before .before .before .before .before .before .before .before .before .before .before .pre .0 .0) _ _ _ _ _ (c .before .before .before .before .before .before .before .before .before .before .before .before .before .before .loop .inv .0) _ _ _ (next-found _ _ _ _ (c .before .before .before .before .before .before .before .before .before .before .before .before .before .before .before .before .before .before .before .before .before .before .pre .0 .1) _ (c .before .before .before .before .before .before .before .before .before .next .ensures) (c .before .before .before .before .before .before .before .slot .given .1)), c .before .before .before .before .before .before .before .before .before .before .before .before .before .before .before .before .before .before .before .before .before .before .pre .0 .1)
+arriving-at-requires c κs =
+    let a = c .before .before .before .before .before .before .before .before .before .before .before .before .before .before .before .pre .0 in
+    run-fits _ _ _ _ _ _ (a .0) _ _ _ (c .before .before .before .before .before .before .before .before .loop .inv .0) _ _ _ (next-found _ _ _ _ (a .1) _ (c .before .before .before .next .ensures) (c .before .slot .given .1))
 
 step-requires : tie.Need-step-requires Inv-loop μ-loop
 step-requires c κs =
-    let i = c .before .before .before .before .before .before .before .before .before .before .before .before .before .before .loop .inv in
-    let n = (next-found _ _ _ _ (c .before .before .before .before .before .before .before .before .before .before .before .before .before .before .before .before .before .before .before .before .before .before .pre .0 .1) _ (c .before .before .before .before .before .before .before .before .before .next .ensures) (c .before .before .before .before .before .before .before .slot .given .1)) in
-    ((begins-as _ _ (c .before .before .before .before .before .before .before .before .before .before .before .before .before .before .before .before .before .before .before .before .before .before .pre .0 .0) _ _ _ _ _ (c .before .before .before .before .before .before .before .before .before .before .before .before .before .before .loop .inv .0) _ _ _ n _ refl _ (c .before .before .before .before .before .arriving-at .ensures), i .2), counts-fit _ _ (c .before .before .before .before .before .before .before .before .before .before .before .before .before .before .before .before .before .before .before .before .before .before .pre .0 .0) _ _ _ _ _ (c .before .before .before .before .before .before .before .before .before .before .before .before .before .before .loop .inv .0) (i .4) (i .5))
+    let a = c .before .before .before .before .before .before .before .before .before .before .before .before .before .before .before .before .before .before .before .pre .0 in
+    let i = c .before .before .before .before .before .before .before .before .before .before .before .before .loop .inv in
+    let n = next-found _ _ _ _ (a .1) _ (c .before .before .before .before .before .before .before .next .ensures) (c .before .before .before .before .before .slot .given .1) in
+    ((begins-as _ _ _ _ _ _ (a .0) _ _ _ (i .0) _ _ _ n _ refl _ (c .before .before .before .arriving-at .ensures), i .2), counts-fit _ _ _ _ _ _ (a .0) _ _ _ (i .0))
 
 loop-less : tie.Need-loop-less Inv-loop μ-loop
-loop-less c = omega (arith, one-counted _ _ (c .before .before .before .before .before .before .before .before .before .before .before .before .before .before .before .before .before .before .before .before .before .before .before .before .before .before .before .before .before .before .before .before .before .before .pre .0 .0) _ _ _ _ _ (c .before .before .before .before .before .before .before .before .before .before .before .before .before .before .before .before .before .before .before .before .before .before .before .before .before .before .loop .inv .0) _ _ _ (next-found _ _ _ _ (c .before .before .before .before .before .before .before .before .before .before .before .before .before .before .before .before .before .before .before .before .before .before .before .before .before .before .before .before .before .before .before .before .before .before .pre .0 .1) _ (c .before .before .before .before .before .before .before .before .before .before .before .before .before .before .before .before .before .before .before .before .before .next .ensures) (c .before .before .before .before .before .before .before .before .before .before .before .before .before .before .before .before .before .before .before .slot .given .1)) _ refl _ _ _ _ (subst (StepIs _ _ _ _ _ _ _ _ _ _) (c .before .more .given .1) (step-as _ _ (c .before .before .before .before .before .before .before .before .before .before .before .before .before .before .before .before .before .before .before .before .before .before .before .before .before .before .before .before .before .before .before .before .before .before .pre .0 .0) _ _ _ _ _ (c .before .before .before .before .before .before .before .before .before .before .before .before .before .before .before .before .before .before .before .before .before .before .before .before .before .before .loop .inv .0) _ _ _ (next-found _ _ _ _ (c .before .before .before .before .before .before .before .before .before .before .before .before .before .before .before .before .before .before .before .before .before .before .before .before .before .before .before .before .before .before .before .before .before .before .pre .0 .1) _ (c .before .before .before .before .before .before .before .before .before .before .before .before .before .before .before .before .before .before .before .before .before .next .ensures) (c .before .before .before .before .before .before .before .before .before .before .before .before .before .before .before .before .before .before .before .slot .given .1)) _ refl _ (c .before .before .before .before .before .before .before .before .before .before .before .before .before .before .before .before .before .arriving-at .ensures) _ (c .before .before .before .before .before .before .before .before .before .before .before .before .before .before .before .before .before .before .before .before .before .before .before .before .before .before .before .before .before .before .before .before .before .before .pre .0 .2) _ (c .before .before .before .before .before .before .before .before .before .before .before .before .before .before .before .before .before .before .before .before .before .before .before .before .before .before .before .before .before .before .before .before .before .before .pre .0 .1) _ _ _ _ (c .before .before .before .before .before .before .before .before .before .before .before .step .ensures .0))), c .before .before .before .before .before .before .before .before .before .before .before .before .before .before .before .before .before .before .before .before .before .before .before .before .if1 .taken)
+loop-less c =
+    let a = c .before .before .before .before .before .before .before .before .before .before .before .before .before .before .before .before .before .before .before .before .before .before .before .before .before .before .before .before .before .pre .0 in
+    let i = c .before .before .before .before .before .before .before .before .before .before .before .before .before .before .before .before .before .before .before .before .before .before .loop .inv in
+    let n = next-found _ _ _ _ (a .1) _ (c .before .before .before .before .before .before .before .before .before .before .before .before .before .before .before .before .before .next .ensures) (c .before .before .before .before .before .before .before .before .before .before .before .before .before .before .before .slot .given .1) in
+    let t = subst (StepIs _ _ _ _ _ _ _) (c .before .more .given .1) (step-as _ _ _ _ _ _ (a .0) _ _ _ (i .0) _ _ _ n _ refl _ _ _ (c .before .before .before .before .before .before .before .before .before .before .before .before .before .arriving-at .ensures) _ (c .before .before .before .before .before .before .before .before .before .step .ensures .0)) in
+    omega (arith, one-counted _ _ _ _ _ _ (a .0) _ _ _ (i .0) _ _ _ n _ refl _ _ _ t, c .before .before .before .before .before .before .before .before .before .before .before .before .before .before .before .before .before .before .before .before .if1 .taken)
 
 loop-again : tie.Need-loop-again Inv-loop μ-loop
 loop-again c =
-    let n = (next-found _ _ _ _ (c .before .before .before .before .before .before .before .before .before .before .before .before .before .before .before .before .before .before .before .before .before .before .before .before .before .before .before .before .before .before .before .before .before .before .pre .0 .1) _ (c .before .before .before .before .before .before .before .before .before .before .before .before .before .before .before .before .before .before .before .before .before .next .ensures) (c .before .before .before .before .before .before .before .before .before .before .before .before .before .before .before .before .before .before .before .slot .given .1)) in
-    let t = (subst (StepIs _ _ _ _ _ _ _ _ _ _) (c .before .more .given .1) (step-as _ _ (c .before .before .before .before .before .before .before .before .before .before .before .before .before .before .before .before .before .before .before .before .before .before .before .before .before .before .before .before .before .before .before .before .before .before .pre .0 .0) _ _ _ _ _ (c .before .before .before .before .before .before .before .before .before .before .before .before .before .before .before .before .before .before .before .before .before .before .before .before .before .before .loop .inv .0) _ _ _ (next-found _ _ _ _ (c .before .before .before .before .before .before .before .before .before .before .before .before .before .before .before .before .before .before .before .before .before .before .before .before .before .before .before .before .before .before .before .before .before .before .pre .0 .1) _ (c .before .before .before .before .before .before .before .before .before .before .before .before .before .before .before .before .before .before .before .before .before .next .ensures) (c .before .before .before .before .before .before .before .before .before .before .before .before .before .before .before .before .before .before .before .slot .given .1)) _ refl _ (c .before .before .before .before .before .before .before .before .before .before .before .before .before .before .before .before .before .arriving-at .ensures) _ (c .before .before .before .before .before .before .before .before .before .before .before .before .before .before .before .before .before .before .before .before .before .before .before .before .before .before .before .before .before .before .before .before .before .before .pre .0 .2) _ (c .before .before .before .before .before .before .before .before .before .before .before .before .before .before .before .before .before .before .before .before .before .before .before .before .before .before .before .before .before .before .before .before .before .before .pre .0 .1) _ _ _ _ (c .before .before .before .before .before .before .before .before .before .before .before .step .ensures .0))) in (
-      stands-on _ _ (c .before .before .before .before .before .before .before .before .before .before .before .before .before .before .before .before .before .before .before .before .before .before .before .before .before .before .before .before .before .before .before .before .before .before .pre .0 .0) _ _ _ _ _ (c .before .before .before .before .before .before .before .before .before .before .before .before .before .before .before .before .before .before .before .before .before .before .before .before .before .before .loop .inv .0) _ _ _ n _ refl _ _ _ _ t,
-      omega (arith, one-counted _ _ (c .before .before .before .before .before .before .before .before .before .before .before .before .before .before .before .before .before .before .before .before .before .before .before .before .before .before .before .before .before .before .before .before .before .before .pre .0 .0) _ _ _ _ _ (c .before .before .before .before .before .before .before .before .before .before .before .before .before .before .before .before .before .before .before .before .before .before .before .before .before .before .loop .inv .0) _ _ _ n _ refl _ _ _ _ t, c .before .before .before .before .before .before .before .before .before .before .before .before .before .before .before .before .before .before .before .before .before .before .before .before .if1 .taken),
-      c .before .before .before .before .before .before .before .before .before .before .before .step .ensures .1,
-      omega (arith, c .before .before .before .before .before .before .before .before .before .before .before .before .before .before .before .before .before .before .before .before .before .before .before .before .before .before .loop .inv .3, c .before .before .before .before .before .before .before .before .before .before .held .given),
-      omega (arith, c .before .before .before .before .before .before .before .before .before .before .before .before .before .before .before .before .before .before .before .before .before .before .before .before .before .before .loop .inv .4, c .before .before .before .before .before .before .before .before .settled .given),
-      omega (arith, c .before .before .before .before .before .before .before .before .before .before .before .before .before .before .before .before .before .before .before .before .before .before .before .before .before .before .loop .inv .5, c .before .before .before .before .before .before .parts .given),
-      omega (arith, c .before .before .before .before .before .before .before .before .before .before .before .before .before .before .before .before .before .before .before .before .before .before .before .before .before .before .loop .inv .6, c .before .before .before .before .scratch .given),
+    let a = c .before .before .before .before .before .before .before .before .before .before .before .before .before .before .before .before .before .before .before .before .before .before .before .before .before .before .before .before .before .pre .0 in
+    let i = c .before .before .before .before .before .before .before .before .before .before .before .before .before .before .before .before .before .before .before .before .before .before .loop .inv in
+    let n = next-found _ _ _ _ (a .1) _ (c .before .before .before .before .before .before .before .before .before .before .before .before .before .before .before .before .before .next .ensures) (c .before .before .before .before .before .before .before .before .before .before .before .before .before .before .before .slot .given .1) in
+    let t = subst (StepIs _ _ _ _ _ _ _) (c .before .more .given .1) (step-as _ _ _ _ _ _ (a .0) _ _ _ (i .0) _ _ _ n _ refl _ _ _ (c .before .before .before .before .before .before .before .before .before .before .before .before .before .arriving-at .ensures) _ (c .before .before .before .before .before .before .before .before .before .step .ensures .0)) in (
+      stands-on _ _ _ _ _ _ (a .0) _ _ _ (i .0) _ _ _ n _ refl _ _ _ t,
+      omega (arith, one-counted _ _ _ _ _ _ (a .0) _ _ _ (i .0) _ _ _ n _ refl _ _ _ t, c .before .before .before .before .before .before .before .before .before .before .before .before .before .before .before .before .before .before .before .before .if1 .taken),
+      c .before .before .before .before .before .before .before .before .before .step .ensures .1,
+      omega (arith, i .3, c .before .before .before .before .before .before .before .before .held .given),
+      omega (arith, i .4, c .before .before .before .before .before .before .settled .given),
+      omega (arith, i .5, c .before .before .before .before .scratch .given),
     )
 
-add-t38 : tie.Need-add-t38 Inv-loop μ-loop
-add-t38 c = omega (arith, counts-fit _ _ (c .before .before .before .before .before .before .before .before .before .before .before .before .before .before .before .before .before .before .before .before .before .before .before .before .before .before .before .before .before .before .before .before .before .before .before .pre .0 .0) _ _ _ _ _ (c .before .before .before .before .before .before .before .before .before .before .before .before .before .before .before .before .before .before .before .before .before .before .before .before .before .before .before .loop .inv .0) (c .before .before .before .before .before .before .before .before .before .before .before .before .before .before .before .before .before .before .before .before .before .before .before .before .before .before .before .loop .inv .4) (c .before .before .before .before .before .before .before .before .before .before .before .before .before .before .before .before .before .before .before .before .before .before .before .before .before .before .before .loop .inv .5) .3)
+add-t32 : tie.Need-add-t32 Inv-loop μ-loop
+add-t32 c = omega (arith, counts-fit _ _ _ _ _ _ (c .before .before .before .before .before .before .before .before .before .before .before .before .before .before .before .before .before .before .before .before .before .before .before .before .before .before .before .before .before .before .pre .0 .0) _ _ _ (c .before .before .before .before .before .before .before .before .before .before .before .before .before .before .before .before .before .before .before .before .before .before .before .loop .inv .0) .1)
+
+same-length-4 : tie.Need-same-length-4 Inv-loop μ-loop
+same-length-4 c = omega (arith, c .before .before .before .before .before .before .before .before .before .before .before .before .before .before .before .before .before .before .before .before .before .before .before .loop .inv .3, c .before .before .before .before .before .before .before .before .before .held .given)
 
 same-length-5 : tie.Need-same-length-5 Inv-loop μ-loop
-same-length-5 c = omega (arith, c .before .before .before .before .before .before .before .before .before .before .before .before .before .before .before .before .before .before .before .before .before .before .before .before .before .before .before .loop .inv .3, c .before .before .before .before .before .before .before .before .before .before .before .held .given)
+same-length-5 c = omega (arith, c .before .before .before .before .before .before .before .before .before .before .before .before .before .before .before .before .before .before .before .before .before .before .before .loop .inv .4, c .before .before .before .before .before .before .before .settled .given)
 
 same-length-6 : tie.Need-same-length-6 Inv-loop μ-loop
-same-length-6 c = omega (arith, c .before .before .before .before .before .before .before .before .before .before .before .before .before .before .before .before .before .before .before .before .before .before .before .before .before .before .before .loop .inv .4, c .before .before .before .before .before .before .before .before .before .settled .given)
-
-same-length-7 : tie.Need-same-length-7 Inv-loop μ-loop
-same-length-7 c = omega (arith, c .before .before .before .before .before .before .before .before .before .before .before .before .before .before .before .before .before .before .before .before .before .before .before .before .before .before .before .loop .inv .5, c .before .before .before .before .before .before .before .parts .given)
-
-same-length-8 : tie.Need-same-length-8 Inv-loop μ-loop
-same-length-8 c = omega (arith, c .before .before .before .before .before .before .before .before .before .before .before .before .before .before .before .before .before .before .before .before .before .before .before .before .before .before .before .loop .inv .6, c .before .before .before .before .before .scratch .given)
+same-length-6 c = omega (arith, c .before .before .before .before .before .before .before .before .before .before .before .before .before .before .before .before .before .before .before .before .before .before .before .loop .inv .5, c .before .before .before .before .before .scratch .given)
 
 returns-2 : tie.Need-returns-2 Inv-loop μ-loop
-returns-2 c = (stops _ _ (c .before .before .before .before .before .before .before .before .before .before .before .before .before .before .before .before .before .before .before .before .before .before .before .before .before .before .before .before .before .before .before .before .before .before .before .pre .0 .0) _ _ _ _ _ (c .before .before .before .before .before .before .before .before .before .before .before .before .before .before .before .before .before .before .before .before .before .before .before .before .before .before .before .loop .inv .0) _ _ _ (next-found _ _ _ _ (c .before .before .before .before .before .before .before .before .before .before .before .before .before .before .before .before .before .before .before .before .before .before .before .before .before .before .before .before .before .before .before .before .before .before .before .pre .0 .1) _ (c .before .before .before .before .before .before .before .before .before .before .before .before .before .before .before .before .before .before .before .before .before .before .next .ensures) (c .before .before .before .before .before .before .before .before .before .before .before .before .before .before .before .before .before .before .before .before .slot .given .1)) _ refl _ _ _ _ _ (c .before .before .before .before .before .before .before .before .before .before .before .before .before .before .before .before .before .before .before .before .before .before .before .before .before .if1 .taken) (subst (StepIs _ _ _ _ _ _ _ _ _ _) (c .before .before .n .given .1) (step-as _ _ (c .before .before .before .before .before .before .before .before .before .before .before .before .before .before .before .before .before .before .before .before .before .before .before .before .before .before .before .before .before .before .before .before .before .before .before .pre .0 .0) _ _ _ _ _ (c .before .before .before .before .before .before .before .before .before .before .before .before .before .before .before .before .before .before .before .before .before .before .before .before .before .before .before .loop .inv .0) _ _ _ (next-found _ _ _ _ (c .before .before .before .before .before .before .before .before .before .before .before .before .before .before .before .before .before .before .before .before .before .before .before .before .before .before .before .before .before .before .before .before .before .before .before .pre .0 .1) _ (c .before .before .before .before .before .before .before .before .before .before .before .before .before .before .before .before .before .before .before .before .before .before .next .ensures) (c .before .before .before .before .before .before .before .before .before .before .before .before .before .before .before .before .before .before .before .before .slot .given .1)) _ refl _ (c .before .before .before .before .before .before .before .before .before .before .before .before .before .before .before .before .before .before .arriving-at .ensures) _ (c .before .before .before .before .before .before .before .before .before .before .before .before .before .before .before .before .before .before .before .before .before .before .before .before .before .before .before .before .before .before .before .before .before .before .before .pre .0 .2) _ (c .before .before .before .before .before .before .before .before .before .before .before .before .before .before .before .before .before .before .before .before .before .before .before .before .before .before .before .before .before .before .before .before .before .before .before .pre .0 .1) _ _ _ _ (c .before .before .before .before .before .before .before .before .before .before .before .before .step .ensures .0))), c .before .before .before .before .before .before .before .before .before .before .before .before .step .ensures .1)
+returns-2 c =
+    let a = c .before .before .before .before .before .before .before .before .before .before .before .before .before .before .before .before .before .before .before .before .before .before .before .before .before .before .before .before .before .before .pre .0 in
+    let i = c .before .before .before .before .before .before .before .before .before .before .before .before .before .before .before .before .before .before .before .before .before .before .before .loop .inv in
+    let n = next-found _ _ _ _ (a .1) _ (c .before .before .before .before .before .before .before .before .before .before .before .before .before .before .before .before .before .before .next .ensures) (c .before .before .before .before .before .before .before .before .before .before .before .before .before .before .before .before .slot .given .1) in
+    let t = subst (StepIs _ _ _ _ _ _ _) (c .before .before .n .given .1) (step-as _ _ _ _ _ _ (a .0) _ _ _ (i .0) _ _ _ n _ refl _ _ _ (c .before .before .before .before .before .before .before .before .before .before .before .before .before .before .arriving-at .ensures) _ (c .before .before .before .before .before .before .before .before .before .before .step .ensures .0)) in
+    (stops _ _ _ _ _ _ (a .0) _ _ _ (i .0) _ _ _ n _ refl _ _ _ _ (c .before .before .before .before .before .before .before .before .before .before .before .before .before .before .before .before .before .before .before .before .before .if1 .taken) t, c .before .before .before .before .before .before .before .before .before .before .step .ensures .1)
 
 waits-requires : tie.Need-waits-requires Inv-loop μ-loop
-waits-requires c κs = table-order _ _ (c .before .before .before .before .before .before .before .before .before .before .before .before .pre .0 .0) _ _ _ _ _ (c .before .before .before .before .loop .inv .0)
+waits-requires c κs = table-order _ _ _ _ _ _ (c .before .before .before .before .before .before .before .before .before .before .before .pre .0 .0) _ _ _ (c .before .before .before .before .loop .inv .0)
+
+same-length-7 : tie.Need-same-length-7 Inv-loop μ-loop
+same-length-7 c = c .before .before .before .before .before .before .loop .inv .3
+
+same-length-8 : tie.Need-same-length-8 Inv-loop μ-loop
+same-length-8 c = c .before .before .before .before .before .before .loop .inv .4
 
 same-length-9 : tie.Need-same-length-9 Inv-loop μ-loop
-same-length-9 c = c .before .before .before .before .before .before .loop .inv .3
-
-same-length-10 : tie.Need-same-length-10 Inv-loop μ-loop
-same-length-10 c = c .before .before .before .before .before .before .loop .inv .4
-
-same-length-11 : tie.Need-same-length-11 Inv-loop μ-loop
-same-length-11 c = c .before .before .before .before .before .before .loop .inv .5
-
-same-length-12 : tie.Need-same-length-12 Inv-loop μ-loop
-same-length-12 c = c .before .before .before .before .before .before .loop .inv .6
+same-length-9 c = c .before .before .before .before .before .before .loop .inv .5
 
 returns-3 : tie.Need-returns-3 Inv-loop μ-loop
 returns-3 c =
-    let a = c .before .before .before .before .before .before .before .before .before .before .before .before .before .before in
+    let a = c .before .before .before .before .before .before .before .before .before .before .before .before .before .pre .0 in
     let i = c .before .before .before .before .before .before .loop .inv in
-    (some-wait _ _ (a .pre .0 .0) _ _ _ _ _ (i .0) _ (a .pre .0 .1) _ (c .before .waits .ensures) _ (omega (arith, i .1, c .before .before .before .before .if1 .left)) (c .if2 .taken), i .2)
+    (some-wait _ _ _ _ _ _ (a .0) _ _ _ (i .0) _ (a .1) _ (c .before .waits .ensures) _ (omega (arith, i .1, c .before .before .before .before .if1 .left)) (c .if2 .taken), i .2)
 
-same-length-13 : tie.Need-same-length-13 Inv-loop μ-loop
-same-length-13 c = c .before .before .before .before .before .before .loop .inv .3
+same-length-10 : tie.Need-same-length-10 Inv-loop μ-loop
+same-length-10 c = c .before .before .before .before .before .before .loop .inv .3
 
-same-length-14 : tie.Need-same-length-14 Inv-loop μ-loop
-same-length-14 c = c .before .before .before .before .before .before .loop .inv .4
+same-length-11 : tie.Need-same-length-11 Inv-loop μ-loop
+same-length-11 c = c .before .before .before .before .before .before .loop .inv .4
 
-same-length-15 : tie.Need-same-length-15 Inv-loop μ-loop
-same-length-15 c = c .before .before .before .before .before .before .loop .inv .5
-
-same-length-16 : tie.Need-same-length-16 Inv-loop μ-loop
-same-length-16 c = c .before .before .before .before .before .before .loop .inv .6
+same-length-12 : tie.Need-same-length-12 Inv-loop μ-loop
+same-length-12 c = c .before .before .before .before .before .before .loop .inv .5
 
 returns-4 : tie.Need-returns-4 Inv-loop μ-loop
 returns-4 c =
-    let a = c .before .before .before .before .before .before .before .before .before .before .before .before .before .before in
+    let a = c .before .before .before .before .before .before .before .before .before .before .before .before .before .pre .0 in
     let i = c .before .before .before .before .before .before .loop .inv in
-    (none-wait _ _ (a .pre .0 .0) _ _ _ _ _ (i .0) _ (a .pre .0 .1) _ (c .before .waits .ensures) _ (i .1) (c .if2 .left), i .2)
+    (none-wait _ _ _ _ _ _ (a .0) _ _ _ (i .0) _ (a .1) _ (c .before .waits .ensures) _ (i .1) (c .if2 .left), i .2)
 
 pub steps-spec : {M : Type 1} → statement M
 steps-spec =
@@ -139,29 +140,24 @@ steps-spec =
     same-length
     same-length-2
     same-length-3
-    same-length-4
     returns
     arriving-at-requires
-    sub-t36
     step-requires
     (λ c. search needs)
     loop-less
     loop-again
     (λ c. search needs)
-    add-t38
+    add-t32
+    same-length-4
     same-length-5
     same-length-6
-    same-length-7
-    same-length-8
     returns-2
     waits-requires
+    same-length-7
+    same-length-8
     same-length-9
+    returns-3
     same-length-10
     same-length-11
     same-length-12
-    returns-3
-    same-length-13
-    same-length-14
-    same-length-15
-    same-length-16
     returns-4)

@@ -1,0 +1,43 @@
+-- Refusal 1, places 4 and 5, and 21: each return is the first test that fails. Assumes nothing.
+use mathlib.Core.Path.{_≡_, sym, ap, _∙_}
+use mathlib.Core.List.{List}
+use Prim.Native.Nat.{ℕ, _/_, _%_}
+use native.Mathlib.Omega.{arith}
+use lib.ListN.{length}
+use borrow.Author.Tests.{eq-eqb, ne-eqb}
+use Rattle.journeys.specs.Tables.{vertexCount, tablesOf}
+use Rattle.journeys.specs.Refusals.{Refusal, fine, wholeOf}
+use Rattle.journeys.specs.Lists.{listRefusal}
+use Rattle.journeys.specs.PartAnswers.{listLengths}
+use Rattle.journeys.proofs.Decoding.{vertex-count}
+use Rattle.lists.specs.Lists.{told}
+use Rattle.lists.specs.declared.Judged.{Judged}
+use Rattle.lists.specs.declared.Judged.the-variants.{Good, Bad}
+use Rattle.intake.proofs.FirstFault.{failed, passed, last, last-failed}
+
+module _ (list parts : List ℕ) where
+  pub list-cut : (length list % 8 ≡ 0 → ⊥) → record { number = 1; place = 4 } ≡ listLengths list parts
+  unfolding listLengths wholeOf
+  list-cut n = sym (failed _ 1 4 _ (omega arith) (ne-eqb (length list % 8) 0 n))
+
+  pub parts-cut : length list % 8 ≡ 0 → (length parts % 12 ≡ 0 → ⊥) → record { number = 1; place = 5 } ≡ listLengths list parts
+  unfolding listLengths wholeOf
+  parts-cut e n = sym (passed _ 1 4 _ (eq-eqb (length list % 8) 0 e) ∙ last-failed _ 1 5 (ne-eqb (length parts % 12) 0 n))
+
+  pub none-cut : length list % 8 ≡ 0 → length parts % 12 ≡ 0 → fine ≡ listLengths list parts
+  unfolding listLengths wholeOf
+  none-cut e f = sym (passed _ 1 4 _ (eq-eqb (length list % 8) 0 e) ∙ last _ 1 5 (eq-eqb (length parts % 12) 0 f))
+
+-- ---- what the judge of lists says
+module _ (r : Judged) {x : Refusal} (e : told 21 r ≡ x) where
+  pub all-good : r ≡ Good → fine ≡ x
+  unfolding told
+  all-good q = sym (ap (told 21) q) ∙ e
+
+  pub one-bad : (i : ℕ) → r ≡ Bad i → record { number = 21; place = i } ≡ x
+  unfolding told
+  one-bad i q = sym (ap (told 21) q) ∙ e
+
+-- the judge is told the number of vertices and D as the code has them
+pub list-as : (v w h : List ℕ) (D : ℕ) {E : ℕ} → D ≡ E → (list : List ℕ) → listRefusal 8 (length v / 12) D list ≡ listRefusal 8 (vertexCount (tablesOf v w h)) E list
+list-as v w h D e list = ap (λ (n : ℕ). listRefusal 8 n D list) (sym (vertex-count v w h)) ∙ ap (λ (d : ℕ). listRefusal 8 (vertexCount (tablesOf v w h)) d list) e

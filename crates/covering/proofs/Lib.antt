@@ -1,0 +1,10 @@
+pub mod PartsOfRoad
+pub mod Entries
+pub mod ListIsParts
+pub mod ListDistinct
+pub mod FirstFault
+pub mod Answered
+pub mod OwnList
+pub mod Pair
+pub mod Determined
+pub mod RefusalNumbers

@@ -1,0 +1,28 @@
+-- `siltbrow_parts` meets its contract: the bytes of the answer and of the part buffer are the definition's. Assumes nothing.
+use denote.Ref.{now}
+use mathlib.Core.Path.{refl}
+use mir.Syntax.{w32}
+use mir.Val.{toZ, ofZ}
+use mir.ValLaws.{toZ-ofZ}
+use Rattle.covering.specs.Lending.{partsLent}
+use Rattle.siltbrow.proofs.PartsWords.{parts-ran}
+use borrow.Author.Needs.{needs}
+use Rattle.siltbrow.proofs.streets.siltbrow_parts.Statement.{statement}
+use Rattle.siltbrow.proofs.streets.siltbrow_parts.Tie as tie
+
+returns : tie.Need-returns
+returns c = record { untouched = λ n. (refl, refl, refl); answered = λ e. absurd (c .if1 .taken e) }
+
+returns-2 : tie.Need-returns-2
+returns-2 c =
+    let p = c .before .before in
+    let f = p .before .before .before .before in
+    let t = f .before .before in
+    let s = t .before .before .before .before .before .before .before in
+    parts-ran (partsLent (now (s .args .vertices)) (now (s .args .walks)) (now (s .args .hops)) (now (s .args .list)) (now (s .args .parts))) (s .args .record-number) (s .args .offset) (s .args .arrival) (toZ w32 (ofZ w32 (s .args .arrival))) (s .args .duration) (s .args .speed) (now (s .args .answer)) _ _ _
+    (toZ-ofZ w32 (s .args .arrival) (s .fits .arrival)) (t .if1 .left) (f .parts .ensures) (p .put-three .ensures)
+
+pub siltbrow-parts-spec : {M : Type 1} → statement M
+siltbrow-parts-spec =
+    tie.close
+    (tie.spec returns (λ c κs. search needs) (λ c κs. search needs) (λ c. search needs) (λ c. search needs) returns-2)
