@@ -4,3 +4,4 @@ pub mod Call
 pub mod FrameCall
 pub mod PartsRan
 pub mod PartsCall
+pub mod Pair
