@@ -31,6 +31,24 @@ extern "C" {
         held_len: usize,
         settled: *mut u8,
         settled_len: usize,
+        answer: *mut u8,
+        answer_len: usize,
+    ) -> u32;
+
+    fn siltbrow_parts(
+        vertices: *const u8,
+        vertices_len: usize,
+        walks: *const u8,
+        walks_len: usize,
+        hops: *const u8,
+        hops_len: usize,
+        record: u32,
+        offset: u32,
+        arrival: i32,
+        duration: u32,
+        speed: u32,
+        list: *const u8,
+        list_len: usize,
         parts: *mut u8,
         parts_len: usize,
         answer: *mut u8,
@@ -70,11 +88,7 @@ impl Program for Linked {
 
     fn run(&self, tables: Tables, query: Query, limit: u32, lent: Lent, answer: &mut [u8]) -> u32 {
         let (v, w, h) = (tables.vertices, tables.walks, tables.hops);
-        let Lent {
-            held,
-            settled,
-            parts,
-        } = lent;
+        let Lent { held, settled } = lent;
         // SAFETY: each pair is a whole slice; those written to are borrowed alone.
         unsafe {
             siltbrow_run(
@@ -94,6 +108,37 @@ impl Program for Linked {
                 held.len(),
                 settled.as_mut_ptr(),
                 settled.len(),
+                answer.as_mut_ptr(),
+                answer.len(),
+            )
+        }
+    }
+
+    fn parts(
+        &self,
+        tables: Tables,
+        query: Query,
+        list: &[u8],
+        parts: &mut [u8],
+        answer: &mut [u8],
+    ) -> u32 {
+        let (v, w, h) = (tables.vertices, tables.walks, tables.hops);
+        // SAFETY: each pair is a whole slice; those written to are borrowed alone.
+        unsafe {
+            siltbrow_parts(
+                v.as_ptr(),
+                v.len(),
+                w.as_ptr(),
+                w.len(),
+                h.as_ptr(),
+                h.len(),
+                query.record,
+                query.offset,
+                query.arrival,
+                query.duration,
+                query.speed,
+                list.as_ptr(),
+                list.len(),
                 parts.as_mut_ptr(),
                 parts.len(),
                 answer.as_mut_ptr(),

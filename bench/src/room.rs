@@ -12,10 +12,22 @@ const LENT: u8 = 0xA5;
 /// A run to its end that lends room for so many held vertices.
 pub fn run_in(scene: &Scene, room: usize) -> Case {
     let mut case = scene.run_case(u32::MAX);
-    case.held = vec![LENT; room * HELD];
-    case.settled.fill(LENT);
-    case.parts.fill(LENT);
-    case.answer.fill(LENT);
+    case.held = vec![0; room * HELD];
+    filled(case)
+}
+
+/// The case with no zeros in what it lends.
+pub fn filled(mut case: Case) -> Case {
+    let lent = [
+        &mut case.held,
+        &mut case.settled,
+        &mut case.parts,
+        &mut case.answer,
+        &mut case.parts_answer,
+    ];
+    for buffer in lent {
+        buffer.fill(LENT);
+    }
     case
 }
 

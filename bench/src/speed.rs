@@ -2,15 +2,16 @@
 
 use std::time::Duration;
 
-use outside::commands::bench::{city_scenes, growing_scenes, middle};
+use outside::commands::bench::{city_scenes, growing_scenes, middle, own_list};
 use outside::network::Scene;
 use outside::outcome::{Case, Outcome};
+use outside::pair::OneRun;
 use outside::records::Answer;
 
 use crate::machine;
 use crate::page::{grouped, head, row};
-use crate::program::{buffers, call, Program, RUST};
-use crate::room::{least_room, run_in};
+use crate::program::{agreed, call, Program, RUST};
+use crate::room::{filled, least_room, run_in};
 
 /// The times of one kind of call: library and Rust, a pair for each round.
 pub type Times = Vec<(Duration, Duration)>;
@@ -83,8 +84,8 @@ struct Stand {
 impl Stand {
     fn new(case: Case) -> Self {
         Stand {
-            library: buffers(&case),
-            rust: buffers(&case),
+            library: case.before(),
+            rust: case.before(),
             case,
             times: Times::new(),
         }
@@ -92,12 +93,17 @@ impl Stand {
 
     /// Calls both; who begins changes from round to round. A byte that differs
     /// in any buffer ends the whole measurement.
-    fn round<P: Program>(&mut self, library: &P, library_first: bool) -> Result<(), String> {
+    fn round<P: Program, R: Program>(
+        &mut self,
+        library: &P,
+        rust: &R,
+        library_first: bool,
+    ) -> Result<(), String> {
         let mut pair = (Duration::ZERO, Duration::ZERO);
         for turn in [library_first, !library_first] {
             match turn {
                 true => pair.0 = call(library, &self.case, &mut self.library),
-                false => pair.1 = call(&RUST, &self.case, &mut self.rust),
+                false => pair.1 = call(rust, &self.case, &mut self.rust),
             }
         }
         self.times.push(pair);
@@ -117,72 +123,104 @@ struct Measured {
     start: Spent,
     run: Spent,
     tight: Spent,
+    /// The parts of the run's list, and the run and these together.
+    parts: Spent,
+    both: Spent,
+    /// Both beside Rust's one run, which writes the parts as it goes.
+    one_run: Spent,
 }
 
 fn measure<P: Program>(library: &P, scene: &Scene, rounds: usize) -> Result<Measured, String> {
     let room = least_room(library, scene)?;
     let run = run_in(scene, scene.network.vertices.len());
+    let after = agreed(library, &run)?;
+    let answer = Answer::read(&after.answer);
+    let list = own_list(&after.settled, answer);
     let start = Case {
         limit: 0,
         ..run.clone()
     };
-    let cases = [scene.network.check_case(), start, run, run_in(scene, room)];
-    let mut stands = cases.map(Stand::new);
+    let both = filled(scene.pair_case(u32::MAX));
+    let cases = [
+        scene.network.check_case(),
+        start,
+        run,
+        run_in(scene, room),
+        filled(scene.parts_case(&list)),
+        both.clone(),
+    ];
+    let (mut stands, mut one) = (cases.map(Stand::new), Stand::new(both));
     for round in 0..rounds {
         for stand in &mut stands {
-            stand.round(library, round % 2 == 0)?;
+            stand.round(library, &RUST, round % 2 == 0)?;
         }
+        // The bytes of the two are those of the one run too.
+        one.round(library, &OneRun, round % 2 == 0)?;
     }
-    let [check, start, run, tight] = stands;
+    let [check, start, run, tight, parts, both] = stands.map(|stand| Spent::of(&stand.times));
     Ok(Measured {
-        answer: Answer::read(&run.library.answer),
+        answer,
         room,
-        check: Spent::of(&check.times),
-        start: Spent::of(&start.times),
-        run: Spent::of(&run.times),
-        tight: Spent::of(&tight.times),
+        check,
+        start,
+        run,
+        tight,
+        parts,
+        both,
+        one_run: Spent::of(&one.times),
     })
 }
 
+const COLUMNS: [&str; 4] = ["library ms", "Rust ms", "ratio", "ratio of the least"];
+
 /// Every part of the work on the city grid and on the largest network.
 fn city_table<P: Program>(library: &P, rounds: usize) -> Result<String, String> {
-    let columns = ["library ms", "Rust ms", "ratio", "ratio of the least"];
-    let mut table = head(2, &[&["network", "part"], &columns[..]].concat());
+    let mut table = head(2, &[&["network", "part"], &COLUMNS[..]].concat());
     for (name, scene) in city_scenes() {
         let measured = measure(library, &scene, rounds).map_err(|e| format!("{name}: {e}"))?;
         let settled = grouped(measured.answer.settled as usize);
         let tight = format!("run, held room {}", grouped(measured.room));
+        let check = &measured.check;
         let parts = [
             ("check", measured.check),
             ("run, limit 0", measured.start),
-            ("search: run less check", measured.run.less(&measured.check)),
+            ("search: run less check", measured.run.less(check)),
             ("run", measured.run),
             (&tight, measured.tight),
+            ("parts less check", measured.parts.less(check)),
+            ("parts", measured.parts),
+            ("run + parts", measured.both),
+            ("run + parts beside one run", measured.one_run),
         ];
         for (part, spent) in parts {
-            let cells = [format!("{name}, {settled} settled"), part.to_string()];
-            table += &row(&[&cells[..], &spent.cells()].concat());
+            let first = [format!("{name}, {settled} settled"), part.to_string()];
+            table += &row(&[&first[..], &spent.cells()].concat());
         }
     }
     Ok(table)
 }
 
-/// The whole run as the network grows, and what one settled vertex takes.
+/// The whole run as the network grows, with its parts and without, and what
+/// one settled vertex takes.
 fn growth_table<P: Program>(library: &P, rounds: usize) -> Result<String, String> {
-    let columns = ["library ms", "Rust ms", "ratio", "ratio of the least"];
     let each = ["library ns a settled vertex", "Rust ns a settled vertex"];
-    let mut table = head(
-        0,
-        &[&["vertices, all settled"], &columns[..], &each].concat(),
-    );
+    let first = ["vertices, all settled", "part"];
+    let mut table = head(2, &[&first[..], &COLUMNS, &each].concat());
     for (name, scene) in growing_scenes() {
         let measured = measure(library, &scene, rounds).map_err(|e| format!("{name}: {e}"))?;
         let settled = measured.answer.settled as usize;
         if settled != scene.network.vertices.len() {
             return Err(format!("{name}: {settled} vertices are settled"));
         }
-        let (run, first) = (measured.run, [grouped(settled)]);
-        table += &row(&[&first[..], &run.cells(), &run.each(settled)].concat());
+        let parts = [
+            ("run", measured.run),
+            ("parts", measured.parts),
+            ("run + parts", measured.both),
+        ];
+        for (part, spent) in parts {
+            let first = [grouped(settled), part.to_string()];
+            table += &row(&[&first[..], &spent.cells(), &spent.each(settled)].concat());
+        }
     }
     Ok(table)
 }
@@ -210,7 +248,12 @@ mod tests {
         let scene = around(&even_grid(7), 24, 2);
         assert!(measure(&Rust(Sound), &scene, 2).is_ok());
         let wrong = [Mutant::StrictWindow, Mutant::TailKept, Mutant::HeldReversed];
-        for mutant in wrong.into_iter().chain([Mutant::LimitZero]) {
+        let parts = [
+            Mutant::PartsNoStart,
+            Mutant::ListDistanceTight,
+            Mutant::ClipTwin,
+        ];
+        for mutant in wrong.into_iter().chain([Mutant::LimitZero]).chain(parts) {
             assert!(measure(&Rust(mutant), &scene, 2).is_err(), "{mutant:?}");
         }
     }

@@ -16,22 +16,32 @@
 
 #include "siltbrow.h"
 
-enum { END = 0, CHECK = 1, RUN = 2 };
+enum { END = 0, CHECK = 1, RUN = 2, PARTS_ALONE = 3, PAIR = 4 };
 
 /* An odd length, so that no slice begins at an even address by design: the
  * library may not count on more than bytes. */
 enum { GUARD = 61 };
 
-enum { VERTICES, WALKS, HOPS, HELD, SETTLED, PARTS, ANSWER, SLICES };
+enum { VERTICES, WALKS, HOPS, HELD, SETTLED, ANSWER, LIST, PARTS, PARTS_ANSWER, SLICES };
+
+/* How long a record of a settled list is, and where the run's answer has the
+ * refusal and the settled count. */
+enum { SETTLED_SIZE = 8, ANSWER_SIZE = 24, REFUSAL_AT = 0, COUNT_AT = 8 };
 
 typedef struct {
     uint8_t *block; /* guard, bytes, guard; NULL where an arena has them */
-    uint8_t *start; /* its first byte, with guard bytes before it */
+    uint8_t *start; /* its first byte, with guard bytes before it; NULL if the call has no such slice */
     uint8_t *bytes; /* what the library gets: may be NULL if empty */
     size_t len;
     size_t behind; /* guard bytes behind it */
-    uint8_t *copy; /* a table as it was lent; NULL for a buffer */
+    uint8_t *copy; /* what is only read, as it was lent; NULL for a buffer */
 } Slice;
+
+typedef struct {
+    uint32_t record, offset;
+    int32_t arrival;
+    uint32_t duration, speed;
+} Query;
 
 /* Memory between two pages that nobody may touch; one for each slice. */
 typedef struct {
@@ -67,11 +77,16 @@ static void flush(void)
         fail("cannot write the answers");
 }
 
+static uint32_t number_at(const uint8_t *b)
+{
+    return (uint32_t)b[0] << 24 | (uint32_t)b[1] << 16 | (uint32_t)b[2] << 8 | b[3];
+}
+
 static uint32_t read_number(void)
 {
     uint8_t b[4];
     read_bytes(b, sizeof b);
-    return (uint32_t)b[0] << 24 | (uint32_t)b[1] << 16 | (uint32_t)b[2] << 8 | b[3];
+    return number_at(b);
 }
 
 static void write_number(uint64_t number, int bytes)
@@ -144,7 +159,7 @@ static Slice read_slice(int null, int number)
     for (size_t i = 0; i < slice.behind; i++)
         slice.start[slice.len + i] = guard_byte(i + 7);
     read_bytes(slice.start, slice.len);
-    if (number <= HOPS && slice.len != 0) {
+    if ((number <= HOPS || number == LIST) && slice.len != 0) {
         slice.copy = allocate(slice.len);
         memcpy(slice.copy, slice.start, slice.len);
     }
@@ -152,7 +167,7 @@ static Slice read_slice(int null, int number)
     return slice;
 }
 
-/* 1 if the library wrote beside a slice, or into a table. */
+/* 1 if the library wrote beside a slice, or into one that it only reads. */
 static unsigned touched(const Slice *slice)
 {
     for (size_t i = 0; i < GUARD; i++)
@@ -164,47 +179,106 @@ static unsigned touched(const Slice *slice)
     return slice->copy != NULL && memcmp(slice->copy, slice->start, slice->len) != 0;
 }
 
-static void close_slices(Slice *slices, int count)
+static void write_slice(const Slice *slice)
+{
+    write_number(slice->len, 4);
+    write_bytes(slice->bytes, slice->len);
+}
+
+static void close_slices(Slice *slices)
 {
     unsigned bits = 0;
-    for (int i = 0; i < count; i++) {
+    for (int i = 0; i < SLICES; i++) {
+        if (slices[i].start == NULL)
+            continue;
         bits |= touched(&slices[i]) << i;
         free(slices[i].copy);
         free(slices[i].block);
     }
-    write_number(bits, 1);
+    write_number(bits, 2);
 }
 
-static void do_check(Slice *s)
+static uint64_t check(const Slice *s)
 {
-    uint64_t value = siltbrow_check(s[VERTICES].bytes, s[VERTICES].len, s[WALKS].bytes,
-                                    s[WALKS].len, s[HOPS].bytes, s[HOPS].len);
-    write_number(CHECK, 1);
-    write_number(value, 8);
-    close_slices(s, HELD);
+    return siltbrow_check(s[VERTICES].bytes, s[VERTICES].len, s[WALKS].bytes, s[WALKS].len,
+                          s[HOPS].bytes, s[HOPS].len);
 }
 
-static void do_run(Slice *s, int null)
+static uint32_t run(const Slice *s, Query q, uint32_t limit)
 {
-    uint32_t number[6];
-    for (int i = 0; i < 6; i++)
-        number[i] = read_number();
-    for (int i = HELD; i < SLICES; i++)
+    return siltbrow_run(s[VERTICES].bytes, s[VERTICES].len, s[WALKS].bytes, s[WALKS].len,
+                        s[HOPS].bytes, s[HOPS].len, q.record, q.offset, q.arrival, q.duration,
+                        q.speed, limit, s[HELD].bytes, s[HELD].len, s[SETTLED].bytes,
+                        s[SETTLED].len, s[ANSWER].bytes, s[ANSWER].len);
+}
+
+static uint32_t parts(const Slice *s, Query q, const uint8_t *list, size_t list_len)
+{
+    return siltbrow_parts(s[VERTICES].bytes, s[VERTICES].len, s[WALKS].bytes, s[WALKS].len,
+                          s[HOPS].bytes, s[HOPS].len, q.record, q.offset, q.arrival, q.duration,
+                          q.speed, list, list_len, s[PARTS].bytes, s[PARTS].len,
+                          s[PARTS_ANSWER].bytes, s[PARTS_ANSWER].len);
+}
+
+/* The run, and where it is accepted the parts of its own list: as many bytes of
+ * its settled buffer as it tells, where they stand. */
+static uint64_t pair(const Slice *s, Query q, uint32_t limit)
+{
+    uint64_t value = (uint64_t)run(s, q, limit) << 32;
+    if (value != 0 || s[ANSWER].len != ANSWER_SIZE || number_at(s[ANSWER].bytes + REFUSAL_AT) != 0)
+        return value;
+    size_t list_len = SETTLED_SIZE * (size_t)number_at(s[ANSWER].bytes + COUNT_AT);
+    if (list_len > s[SETTLED].len)
+        return value;
+    return value | parts(s, q, s[SETTLED].bytes, list_len);
+}
+
+static Query read_query(void)
+{
+    Query q;
+    q.record = read_number();
+    q.offset = read_number();
+    uint32_t arrival = read_number();
+    memcpy(&q.arrival, &arrival, sizeof arrival);
+    q.duration = read_number();
+    q.speed = read_number();
+    return q;
+}
+
+static void do_case(int kind, int null)
+{
+    Slice s[SLICES] = {{NULL, NULL, NULL, 0, 0, NULL}};
+    int runs = kind == RUN || kind == PAIR, makes_parts = kind == PARTS_ALONE || kind == PAIR;
+    Query q = {0, 0, 0, 0, 0};
+    uint32_t limit = 0;
+    uint64_t value;
+    for (int i = VERTICES; i <= HOPS; i++)
         s[i] = read_slice(null, i);
-    int32_t arrival;
-    memcpy(&arrival, &number[2], sizeof arrival);
-    uint32_t value = siltbrow_run(
-        s[VERTICES].bytes, s[VERTICES].len, s[WALKS].bytes, s[WALKS].len, s[HOPS].bytes,
-        s[HOPS].len, number[0], number[1], arrival, number[3], number[4], number[5],
-        s[HELD].bytes, s[HELD].len, s[SETTLED].bytes, s[SETTLED].len, s[PARTS].bytes,
-        s[PARTS].len, s[ANSWER].bytes, s[ANSWER].len);
-    write_number(RUN, 1);
-    write_number(value, 8);
-    for (int i = HELD; i < SLICES; i++) {
-        write_number(s[i].len, 4);
-        write_bytes(s[i].bytes, s[i].len);
+    if (kind != CHECK)
+        q = read_query();
+    if (runs) {
+        limit = read_number();
+        for (int i = HELD; i <= ANSWER; i++)
+            s[i] = read_slice(null, i);
     }
-    close_slices(s, SLICES);
+    if (kind == PARTS_ALONE)
+        s[LIST] = read_slice(null, LIST);
+    for (int i = PARTS; makes_parts && i <= PARTS_ANSWER; i++)
+        s[i] = read_slice(null, i);
+    switch (kind) {
+    case CHECK: value = check(s); break;
+    case RUN: value = run(s, q, limit); break;
+    case PARTS_ALONE: value = parts(s, q, s[LIST].bytes, s[LIST].len); break;
+    case PAIR: value = pair(s, q, limit); break;
+    default: fail("no such kind of case");
+    }
+    write_number((uint64_t)kind, 1);
+    write_number(value, 8);
+    for (int i = HELD; runs && i <= ANSWER; i++)
+        write_slice(&s[i]);
+    for (int i = PARTS; makes_parts && i <= PARTS_ANSWER; i++)
+        write_slice(&s[i]);
+    close_slices(s);
 }
 
 int main(int words, char **word)
@@ -216,15 +290,7 @@ int main(int words, char **word)
         if (head[0] == END)
             break;
         read_bytes(head + 1, 1);
-        Slice slices[SLICES];
-        for (int i = VERTICES; i <= HOPS; i++)
-            slices[i] = read_slice(head[1], i);
-        if (head[0] == CHECK)
-            do_check(slices);
-        else if (head[0] == RUN)
-            do_run(slices, head[1]);
-        else
-            fail("no such kind of case");
+        do_case(head[0], head[1]);
         /* If the library breaks off, all cases before that are answered. */
         flush();
     }

@@ -2,8 +2,8 @@
 //! that driver and judge work, and says nothing about the library. With
 //! OUTSIDE_MUTANT set it answers as that wrong version does.
 
-use outside::fast::{call_check, call_run};
 use outside::mutant::{Mutant, Sound};
+use outside::outcome::{Fast, Program};
 use outside::records::{Lent, Query, Tables};
 
 /// An empty slice may come as NULL, which no Rust slice can begin at.
@@ -26,31 +26,42 @@ unsafe fn slice_mut<'a>(bytes: *mut u8, len: usize) -> &'a mut [u8] {
     }
 }
 
-fn mutant() -> Option<Mutant> {
-    Mutant::from_environment().unwrap_or_else(|message| {
-        eprintln!("double: {message}");
-        std::process::exit(2)
-    })
+/// The fast program, or the wrong version of it that is asked for.
+fn by<T>(sound: impl FnOnce(Fast<Sound>) -> T, wrong: impl FnOnce(Fast<Mutant>) -> T) -> T {
+    match Mutant::from_environment() {
+        Ok(None) => sound(Fast(Sound)),
+        Ok(Some(mutant)) => wrong(Fast(mutant)),
+        Err(message) => {
+            eprintln!("double: {message}");
+            std::process::exit(2)
+        }
+    }
 }
 
-/// With DOUBLE_STRAY set to a slice's number (0 vertices to 6 answer) and
-/// `before`, `behind` or `inside`, as in `3 behind`, one byte there is changed:
-/// a library that the driver's guards have to find out.
+/// A slice as C has it, by the name it has in that call.
+type Named = (&'static str, *mut u8, usize);
+
+/// With DOUBLE_STRAY set to a call, one of its slices, and `before`, `behind`
+/// or `inside`, as in `run held behind`, one byte there is changed: a library
+/// that the driver's guards have to find out.
 ///
 /// # Safety
 /// The byte meant is writable, as it is between the driver's guards.
-unsafe fn stray(slices: &[(*mut u8, usize)]) {
+unsafe fn stray(call: &str, slices: &[Named]) {
     let Ok(text) = std::env::var("DOUBLE_STRAY") else {
         return;
     };
-    let mut words = text.split_whitespace();
-    let number: Option<usize> = words.next().and_then(|word| word.parse().ok());
-    let Some(&(bytes, len)) = number.and_then(|number| slices.get(number)) else {
+    let words: Vec<&str> = text.split_whitespace().collect();
+    let [own, name, place] = words[..] else {
         return;
     };
-    let at = match words.next() {
-        Some("before") => bytes.wrapping_sub(1),
-        Some("behind") => bytes.wrapping_add(len),
+    let slice = slices.iter().find(|slice| slice.0 == name);
+    let Some(&(_, bytes, len)) = slice.filter(|_| own == call) else {
+        return;
+    };
+    let at = match place {
+        "before" => bytes.wrapping_sub(1),
+        "behind" => bytes.wrapping_add(len),
         _ => bytes,
     };
     if !bytes.is_null() && len > 0 {
@@ -74,21 +85,21 @@ pub unsafe extern "C" fn siltbrow_check(
         walks: slice(walks, walks_len),
         hops: slice(hops, hops_len),
     };
-    let returned = match mutant() {
-        None => call_check(tables, Sound),
-        Some(mutant) => call_check(tables, mutant),
-    };
-    stray(&[
-        (vertices.cast_mut(), vertices_len),
-        (walks.cast_mut(), walks_len),
-        (hops.cast_mut(), hops_len),
-    ]);
+    let returned = by(|fast| fast.check(tables), |fast| fast.check(tables));
+    stray(
+        "check",
+        &[
+            ("vertices", vertices.cast_mut(), vertices_len),
+            ("walks", walks.cast_mut(), walks_len),
+            ("hops", hops.cast_mut(), hops_len),
+        ],
+    );
     returned
 }
 
 /// # Safety
 /// Each pointer begins as many bytes as the length behind it says, and those
-/// of the four buffers overlap nothing else.
+/// of the two buffers and the answer overlap nothing else.
 #[no_mangle]
 pub unsafe extern "C" fn siltbrow_run(
     vertices: *const u8,
@@ -107,6 +118,62 @@ pub unsafe extern "C" fn siltbrow_run(
     held_len: usize,
     settled: *mut u8,
     settled_len: usize,
+    answer: *mut u8,
+    answer_len: usize,
+) -> u32 {
+    let tables = Tables {
+        vertices: slice(vertices, vertices_len),
+        walks: slice(walks, walks_len),
+        hops: slice(hops, hops_len),
+    };
+    let query = Query {
+        record,
+        offset,
+        arrival,
+        duration,
+        speed,
+    };
+    let lent = || Lent {
+        held: slice_mut(held, held_len),
+        settled: slice_mut(settled, settled_len),
+    };
+    let told = || slice_mut(answer, answer_len);
+    let returned = by(
+        |fast| fast.run(tables, query, limit, lent(), told()),
+        |fast| fast.run(tables, query, limit, lent(), told()),
+    );
+    stray(
+        "run",
+        &[
+            ("vertices", vertices.cast_mut(), vertices_len),
+            ("walks", walks.cast_mut(), walks_len),
+            ("hops", hops.cast_mut(), hops_len),
+            ("held", held, held_len),
+            ("settled", settled, settled_len),
+            ("answer", answer, answer_len),
+        ],
+    );
+    returned
+}
+
+/// # Safety
+/// Each pointer begins as many bytes as the length behind it says, and those
+/// of the part buffer and the answer overlap nothing else.
+#[no_mangle]
+pub unsafe extern "C" fn siltbrow_parts(
+    vertices: *const u8,
+    vertices_len: usize,
+    walks: *const u8,
+    walks_len: usize,
+    hops: *const u8,
+    hops_len: usize,
+    record: u32,
+    offset: u32,
+    arrival: i32,
+    duration: u32,
+    speed: u32,
+    list: *const u8,
+    list_len: usize,
     parts: *mut u8,
     parts_len: usize,
     answer: *mut u8,
@@ -124,24 +191,23 @@ pub unsafe extern "C" fn siltbrow_run(
         duration,
         speed,
     };
-    let lent = Lent {
-        held: slice_mut(held, held_len),
-        settled: slice_mut(settled, settled_len),
-        parts: slice_mut(parts, parts_len),
-    };
-    let slice = slice_mut(answer, answer_len);
-    let returned = match mutant() {
-        None => call_run(tables, query, limit, lent, slice, Sound),
-        Some(mutant) => call_run(tables, query, limit, lent, slice, mutant),
-    };
-    stray(&[
-        (vertices.cast_mut(), vertices_len),
-        (walks.cast_mut(), walks_len),
-        (hops.cast_mut(), hops_len),
-        (held, held_len),
-        (settled, settled_len),
-        (parts, parts_len),
-        (answer, answer_len),
-    ]);
+    let entries = slice(list, list_len);
+    let buffer = || slice_mut(parts, parts_len);
+    let told = || slice_mut(answer, answer_len);
+    let returned = by(
+        |fast| fast.parts(tables, query, entries, buffer(), told()),
+        |fast| fast.parts(tables, query, entries, buffer(), told()),
+    );
+    stray(
+        "parts",
+        &[
+            ("vertices", vertices.cast_mut(), vertices_len),
+            ("walks", walks.cast_mut(), walks_len),
+            ("hops", hops.cast_mut(), hops_len),
+            ("list", list.cast_mut(), list_len),
+            ("parts", parts, parts_len),
+            ("answer", answer, answer_len),
+        ],
+    );
     returned
 }

@@ -11,6 +11,7 @@ pub mod marked;
 pub mod mutant;
 pub mod network;
 pub mod outcome;
+pub mod pair;
 pub mod records;
 pub mod rng;
 pub mod show;

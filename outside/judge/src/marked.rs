@@ -1,10 +1,15 @@
 //! The marked cases M1 to M10 and the base job: what RULES 15 and 16 say of each,
-//! as one table. `fast`, `slow` and the library are held against it.
+//! as one table. `fast`, `slow` and the library are held against it. The cases
+//! are pairs: a run, and the parts of its own list. Behind them stand lists of
+//! all kinds, for the parts operation alone.
+
+mod lists;
 
 use crate::network::{Network, Scene};
 use crate::outcome::{Call, Case, Outcome};
-use crate::records::{Answer, Held, Hop, Part, Query, Settled, Vertex, Walk, NONE};
-use crate::records::{HELD, PART, SETTLED};
+use crate::records::{
+    Answer, Held, Hop, Part, PartsAnswer, Query, Settled, Vertex, Walk, HELD, NONE, PART, SETTLED,
+};
 
 /// A call, and what its outcome has to be.
 pub struct Marked {
@@ -29,16 +34,24 @@ enum Wanted {
     /// The parts of one walk record.
     PartsOn(u32, &'static [(u32, u32)]),
     Finished(u32),
+    /// The refusal and place of the check or of the run.
     Refusal(u32, u32),
+    /// The refusal and place of the parts.
+    PartsRefusal(u32, u32),
 }
 
-use Wanted::{Finished, Holds, Order, Parts, PartsOn, Refusal, Remaining};
+use Wanted::{Finished, Holds, Order, Parts, PartsOn, PartsRefusal, Refusal, Remaining};
 
 const fn marked(name: &'static str, make: fn() -> Case, wanted: &'static [Wanted]) -> Marked {
     Marked { name, make, wanted }
 }
 
-pub const ALL: &[Marked] = &[
+/// Every row: the marked cases, then the lists.
+pub fn all() -> impl Iterator<Item = &'static Marked> {
+    MARKED.iter().chain(lists::ALL)
+}
+
+const MARKED: &[Marked] = &[
     marked("base job", || lent(base(), NONE), BASE),
     marked(
         "M1",
@@ -87,9 +100,18 @@ pub const ALL: &[Marked] = &[
     ),
     marked("M7, held room 4", || room([4, 5, 8]), BASE),
     marked("M7, held room 3", || room([3, 5, 8]), &[Refusal(8, 1)]),
-    marked("M8, part room 5", || room([5, 5, 5]), &[Refusal(10, 3)]),
+    marked(
+        "M8, part room 5",
+        || room([5, 5, 5]),
+        &[
+            Refusal(0, 0),
+            Wanted::Settled(BASE_SETTLED),
+            PartsRefusal(10, 3),
+        ],
+    ),
     marked("M8, settled room 3", || room([5, 3, 8]), &[Refusal(9, 4)]),
-    marked("M8, both", || room([5, 3, 5]), &[Refusal(10, 3)]),
+    // The run knows nothing of parts, so that 10 at step 3 does not go first.
+    marked("M8, both", || room([5, 3, 5]), &[Refusal(9, 4)]),
     marked(
         "M9, offset 900",
         || lent(one_way(900), 0),
@@ -107,23 +129,67 @@ pub const ALL: &[Marked] = &[
         || ride(35_880, 35_880).network.check_case(),
         &[Refusal(3, 0)],
     ),
+    marked("base job, run alone", || alone(base(), NONE), BASE_RUN),
+    marked(
+        "base job, parts alone",
+        || listed(base(), BASE_SETTLED, 8),
+        &[Parts(BASE_PARTS)],
+    ),
+    marked(
+        "M5, parts alone",
+        || listed(window(299), &BASE_SETTLED[..3], 8),
+        &[PartsOn(0, &[(0, 500), (510, 2000)])],
+    ),
+    marked(
+        "M8, parts alone in room 6",
+        || listed(base(), BASE_SETTLED, 6),
+        &[Parts(BASE_PARTS)],
+    ),
+    marked(
+        "M8, parts alone in room 5",
+        || listed(base(), BASE_SETTLED, 5),
+        &[PartsRefusal(10, 3)],
+    ),
+    marked(
+        "M9, parts alone, offset 901",
+        || listed(one_way(901), &[], 8),
+        &[PartsRefusal(7, 1)],
+    ),
+    marked(
+        "M10, parts alone",
+        || listed(ride(35_880, 35_880), BASE_SETTLED, 8),
+        &[PartsRefusal(3, 0)],
+    ),
 ];
 
 /// The whole output of the base job.
 const BASE: &[Wanted] = &[
     Refusal(0, 0),
-    Wanted::Settled(&[(1, 500), (0, 1500), (3, 2400), (2, 3000)]),
-    Parts(&[
-        (1, 0, 1500),
-        (0, 0, 500),
-        (1, 1500, 2000),
-        (2, 0, 2500),
-        (0, 500, 2000),
-        (4, 300, 900),
-    ]),
-    Wanted::Held(&[(3, 2400, 1, 1), (4, 3300, 0, 0)]),
+    Wanted::Settled(BASE_SETTLED),
+    Parts(BASE_PARTS),
+    Wanted::Held(BASE_HELD),
     Finished(1),
 ];
+
+const BASE_RUN: &[Wanted] = &[
+    Refusal(0, 0),
+    Wanted::Settled(BASE_SETTLED),
+    Wanted::Held(BASE_HELD),
+    Finished(1),
+];
+
+const BASE_SETTLED: &[(u32, u32)] = &[(1, 500), (0, 1500), (3, 2400), (2, 3000)];
+
+const BASE_PARTS: &[(u32, u32, u32)] = &[
+    (1, 0, 1500),
+    (0, 0, 500),
+    (1, 1500, 2000),
+    (2, 0, 2500),
+    (0, 500, 2000),
+    (4, 300, 900),
+];
+
+const BASE_HELD: &[(u32, u32, u32, u32)] = &[(3, 2400, 1, 1), (4, 3300, 0, 0)];
 
 fn vertex((first_walk, first_hop, departing): (u32, u32, u16)) -> Vertex {
     Vertex {
@@ -198,10 +264,34 @@ fn one_way(offset: u32) -> Scene {
     scene
 }
 
-/// A run with room for all. No lent byte is 0, so that one left over shows.
+/// A run and its parts with room for all. No lent byte is 0, so that one left
+/// over shows.
 fn lent(scene: Scene, limit: u32) -> Case {
-    let mut case = scene.run_case(limit);
-    for buffer in [&mut case.held, &mut case.settled, &mut case.parts] {
+    filled(scene.pair_case(limit))
+}
+
+fn alone(scene: Scene, limit: u32) -> Case {
+    filled(scene.run_case(limit))
+}
+
+/// The parts of a list alone, with so many slots.
+fn listed(scene: Scene, list: &[(u32, u32)], slots: usize) -> Case {
+    let entry = |&(vertex, distance): &(u32, u32)| Settled { vertex, distance };
+    let list: Vec<Settled> = list.iter().map(entry).collect();
+    let mut case = scene.parts_case(&list);
+    case.parts = vec![0; slots * PART];
+    filled(case)
+}
+
+fn filled(mut case: Case) -> Case {
+    let lent = [
+        &mut case.held,
+        &mut case.settled,
+        &mut case.parts,
+        &mut case.answer,
+        &mut case.parts_answer,
+    ];
+    for buffer in lent {
         buffer.fill(9);
     }
     case
@@ -217,41 +307,62 @@ fn room(slots: [usize; 3]) -> Case {
 }
 
 impl Marked {
-    /// Whether this is an outcome that RULES 16 gives the case.
+    /// Whether this is an outcome that the rules give the case.
     pub fn fits(&self, case: &Case, after: &Outcome) -> bool {
         if case.call == Call::Check {
-            let told = ((after.returned >> 32) as u32, after.returned as u32);
             return self
                 .wanted
                 .iter()
-                .all(|w| matches!(w, Refusal(n, p) if (*n, *p) == told));
+                .all(|w| matches!(w, Refusal(n, p) if (*n, *p) == case.refusal(after)));
         }
-        after.returned == 0 && behind(case, after) && self.wanted.iter().all(|w| w.of(after))
+        let listed = after.returned == 0 && run_behind(case, after) && parts_behind(case, after);
+        listed && self.wanted.iter().all(|w| w.of(after))
     }
 }
 
-/// Whether the lent bytes behind the lists are what each refusal makes them.
-fn behind(case: &Case, after: &Outcome) -> bool {
-    let six = Answer::read(&after.answer);
-    let kept = [&case.held, &case.settled, &case.parts];
-    let now = [&after.held, &after.settled, &after.parts];
-    if (1..=7).contains(&six.refusal) {
-        return kept == now;
-    }
-    let used = [
-        six.held as usize * HELD,
-        six.settled as usize * SETTLED,
-        six.parts as usize * PART,
-    ];
+/// Whether the bytes behind a list of this length are zero.
+fn zero_behind(bytes: &[u8], used: usize) -> bool {
     let zero = |bytes: &[u8]| bytes.iter().all(|&b| b == 0);
-    now.iter()
-        .zip(used)
-        .all(|(bytes, used)| bytes.get(used..).is_some_and(zero))
+    bytes.get(used..).is_some_and(zero)
+}
+
+/// Whether the lent bytes behind the run's lists are what each refusal makes
+/// them, and no part is counted.
+fn run_behind(case: &Case, after: &Outcome) -> bool {
+    if !case.call.runs() {
+        return true;
+    }
+    let six = Answer::read(&after.answer);
+    if (1..=7).contains(&six.refusal) {
+        return case.held == after.held && case.settled == after.settled;
+    }
+    zero_behind(&after.held, six.held as usize * HELD)
+        && zero_behind(&after.settled, six.settled as usize * SETTLED)
+        && six.parts == 0
+}
+
+/// The same of the part buffer; where the run is refused, parts are not asked
+/// for.
+fn parts_behind(case: &Case, after: &Outcome) -> bool {
+    let asked = match case.call {
+        Call::Parts => true,
+        Call::Pair => Answer::read(&after.answer).refusal == 0,
+        Call::Check | Call::Run => false,
+    };
+    if !asked {
+        return case.parts == after.parts && case.parts_answer == after.parts_answer;
+    }
+    let three = PartsAnswer::read(&after.parts_answer);
+    match three.refusal {
+        1..=7 | 21 => case.parts == after.parts,
+        _ => zero_behind(&after.parts, three.parts as usize * PART),
+    }
 }
 
 impl Wanted {
     fn of(&self, after: &Outcome) -> bool {
-        let six = Answer::read(&after.answer);
+        let six = || Answer::read(&after.answer);
+        let three = || PartsAnswer::read(&after.parts_answer);
         match self {
             Wanted::Held(rows) => held(after) == *rows,
             Holds(row) => held(after).contains(row),
@@ -261,22 +372,34 @@ impl Wanted {
                 .eq(rows.iter().copied()),
             Order(rows) => settled(after).iter().map(|s| s.0).eq(rows.iter().copied()),
             Wanted::Settled(rows) => settled(after) == *rows,
-            Parts(rows) => parts(after) == *rows,
+            Parts(rows) => three().refusal == 0 && parts(after) == *rows,
             PartsOn(record, rows) => {
                 let own = parts(after).into_iter().filter(|p| p.0 == *record);
                 own.map(|p| (p.1, p.2)).eq(rows.iter().copied())
             }
-            Finished(finished) => six.finished == *finished,
-            Refusal(0, 0) => (six.refusal, six.place) == (0, 0),
+            Finished(finished) => six().finished == *finished,
+            Refusal(0, 0) => (six().refusal, six().place) == (0, 0),
             Refusal(number, place) => {
-                let counts = [six.settled, six.parts, six.held, six.finished];
-                (six.refusal, six.place) == (*number, *place) && counts == [0; 4]
+                let alone = Answer {
+                    refusal: *number,
+                    place: *place,
+                    ..Answer::default()
+                };
+                six() == alone
+            }
+            PartsRefusal(number, place) => {
+                let alone = PartsAnswer {
+                    refusal: *number,
+                    place: *place,
+                    parts: 0,
+                };
+                three() == alone
             }
         }
     }
 }
 
-// The lists of an outcome; `behind` has seen that their counts fit the buffers.
+// The lists of an outcome; it was seen before that their counts fit the buffers.
 
 fn held(after: &Outcome) -> Vec<(u32, u32, u32, u32)> {
     let count = Answer::read(&after.answer).held as usize;
@@ -292,14 +415,14 @@ fn settled(after: &Outcome) -> Vec<(u32, u32)> {
 }
 
 fn parts(after: &Outcome) -> Vec<(u32, u32, u32)> {
-    let count = Answer::read(&after.answer).parts as usize;
+    let count = PartsAnswer::read(&after.parts_answer).parts as usize;
     let rows = (0..count).map(|i| Part::read(&after.parts, i));
     rows.map(|p| (p.record, p.start, p.end)).collect()
 }
 
 #[cfg(test)]
 mod tests {
-    use super::{base, ALL};
+    use super::{all, base, MARKED};
     use crate::commands::jobtext::encode;
     use crate::mutant::{Mutant, Sound};
     use crate::{cases, fast, slow};
@@ -322,7 +445,7 @@ end 4 6 2 1
 
     #[test]
     fn both_programs_give_the_table() {
-        for marked in ALL {
+        for marked in all() {
             let case = (marked.make)();
             assert!(
                 marked.fits(&case, &case.fast(Sound)),
@@ -359,7 +482,6 @@ end 4 6 2 1
         Mutant::SettledRoomLoose,
         Mutant::PartRoomLoose,
         Mutant::RoomAtEnd,
-        Mutant::NumberBeforeStep,
         Mutant::LimitZero,
         Mutant::LimitLate,
         Mutant::StepOff,
@@ -369,12 +491,19 @@ end 4 6 2 1
         Mutant::RefusalCounts,
         Mutant::TailKept,
         Mutant::AnswerOrder,
+        Mutant::RunPartCount,
+        Mutant::PartsNoStart,
+        Mutant::PartsStepOff,
+        Mutant::PartsLackEnd,
+        Mutant::PartsKept,
+        Mutant::PartsCounts,
+        Mutant::ListDistanceTight,
     ];
 
     #[test]
     fn the_table_tells_wrong_versions() {
         for &mutant in WRONG {
-            let caught = ALL.iter().any(|marked| {
+            let caught = MARKED.iter().any(|marked| {
                 let case = (marked.make)();
                 !marked.fits(&case, &case.fast(mutant))
             });

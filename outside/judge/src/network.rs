@@ -1,7 +1,9 @@
 //! Networks: from plain lists of roads and rides to tables in order.
 
 use crate::outcome::{Call, Case};
-use crate::records::{Hop, Query, Vertex, Walk, HELD, NONE, PART, SETTLED};
+use crate::records::{
+    Hop, Query, Settled, Vertex, Walk, ANSWER, HELD, NONE, PART, PARTS_ANSWER, SETTLED,
+};
 use crate::rng::Rng;
 
 /// The records of the three tables.
@@ -141,8 +143,10 @@ impl Network {
             limit: 0,
             held: Vec::new(),
             settled: Vec::new(),
+            list: Vec::new(),
             parts: Vec::new(),
             answer: Vec::new(),
+            parts_answer: Vec::new(),
         }
     }
 }
@@ -157,9 +161,31 @@ impl Scene {
             limit,
             held: vec![0; vertices * HELD],
             settled: vec![0; vertices * SETTLED],
-            parts: vec![0; (self.network.walks.len() + 2) * PART],
-            answer: vec![0; 24],
+            answer: vec![0; ANSWER],
             ..self.network.check_case()
+        }
+    }
+
+    /// The parts of a list, with room for all that a run's own list gives.
+    pub fn parts_case(&self, list: &[Settled]) -> Case {
+        Case {
+            call: Call::Parts,
+            query: self.query,
+            list: list.iter().flat_map(|entry| entry.bytes()).collect(),
+            parts: vec![0; (self.network.walks.len() + 2) * PART],
+            parts_answer: vec![0; PARTS_ANSWER],
+            ..self.network.check_case()
+        }
+    }
+
+    /// A run and the parts of its own list, with room for everything.
+    pub fn pair_case(&self, limit: u32) -> Case {
+        let parts = self.parts_case(&[]);
+        Case {
+            call: Call::Pair,
+            parts: parts.parts,
+            parts_answer: parts.parts_answer,
+            ..self.run_case(limit)
         }
     }
 }

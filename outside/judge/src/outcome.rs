@@ -2,13 +2,119 @@
 
 use crate::fast;
 use crate::mutant::Fault;
-use crate::records::{Lent, Query, Tables};
+use crate::records::{Answer, Lent, PartsAnswer, Query, Tables, ANSWER, SETTLED};
 use crate::slow;
 
 #[derive(Clone, Copy, Debug, PartialEq, Eq)]
 pub enum Call {
     Check,
     Run,
+    Parts,
+    /// A run and, where it is accepted, the parts of its own list.
+    Pair,
+}
+
+impl Call {
+    /// Whether the call has a run in it.
+    pub fn runs(self) -> bool {
+        matches!(self, Call::Run | Call::Pair)
+    }
+
+    /// Whether parts can be asked for.
+    pub fn parts(self) -> bool {
+        matches!(self, Call::Parts | Call::Pair)
+    }
+}
+
+/// A program with the calls of the library.
+pub trait Program {
+    fn check(&self, tables: Tables) -> u64;
+
+    fn run(&self, tables: Tables, query: Query, limit: u32, lent: Lent, answer: &mut [u8]) -> u32;
+
+    fn parts(
+        &self,
+        tables: Tables,
+        query: Query,
+        list: &[u8],
+        parts: &mut [u8],
+        answer: &mut [u8],
+    ) -> u32;
+
+    /// The run, then the parts of the list that it wrote: as many bytes as its
+    /// settled count tells, not the zeros behind them. Where the run writes no
+    /// list, parts are not asked for.
+    fn pair(&self, case: &Case, after: &mut Outcome) -> [u32; 2] {
+        let (tables, query) = (case.tables(), case.query);
+        let lent = Lent {
+            held: &mut after.held,
+            settled: &mut after.settled,
+        };
+        let run = self.run(tables, query, case.limit, lent, &mut after.answer);
+        let Some(list) = own_list(run, &after.answer, &after.settled) else {
+            return [run, 0];
+        };
+        let (parts, answer) = (&mut after.parts, &mut after.parts_answer);
+        [run, self.parts(tables, query, list, parts, answer)]
+    }
+}
+
+/// The list of an accepted run in its settled buffer.
+fn own_list<'a>(returned: u32, answer: &[u8], settled: &'a [u8]) -> Option<&'a [u8]> {
+    if returned != 0 || answer.len() != ANSWER {
+        return None;
+    }
+    let six = Answer::read(answer);
+    let list = settled.get(..six.settled as usize * SETTLED);
+    list.filter(|_| six.refusal == 0)
+}
+
+/// The fast program, or a wrong version of it.
+pub struct Fast<F>(pub F);
+
+impl<F: Fault> Program for Fast<F> {
+    fn check(&self, tables: Tables) -> u64 {
+        fast::call_check(tables, self.0)
+    }
+
+    fn run(&self, tables: Tables, query: Query, limit: u32, lent: Lent, answer: &mut [u8]) -> u32 {
+        fast::call_run(tables, query, limit, lent, answer, self.0)
+    }
+
+    fn parts(
+        &self,
+        tables: Tables,
+        query: Query,
+        list: &[u8],
+        parts: &mut [u8],
+        answer: &mut [u8],
+    ) -> u32 {
+        fast::call_parts(tables, query, list, parts, answer, self.0)
+    }
+}
+
+/// The program that takes every answer from the definitions.
+pub struct Slow;
+
+impl Program for Slow {
+    fn check(&self, tables: Tables) -> u64 {
+        slow::call_check(tables)
+    }
+
+    fn run(&self, tables: Tables, query: Query, limit: u32, lent: Lent, answer: &mut [u8]) -> u32 {
+        slow::call_run(tables, query, limit, lent, answer)
+    }
+
+    fn parts(
+        &self,
+        tables: Tables,
+        query: Query,
+        list: &[u8],
+        parts: &mut [u8],
+        answer: &mut [u8],
+    ) -> u32 {
+        slow::call_parts(tables, query, list, parts, answer)
+    }
 }
 
 /// One call of the library: all its arguments, the buffers as they are lent.
@@ -24,18 +130,25 @@ pub struct Case {
     pub limit: u32,
     pub held: Vec<u8>,
     pub settled: Vec<u8>,
+    /// The settled list of the parts operation.
+    pub list: Vec<u8>,
     pub parts: Vec<u8>,
     pub answer: Vec<u8>,
+    /// The answer slice of the parts operation.
+    pub parts_answer: Vec<u8>,
 }
 
 /// What came back, with every byte of the slices that may be written.
 #[derive(Clone, Debug, PartialEq, Eq)]
 pub struct Outcome {
+    /// What the call returned; of a pair the run's in the upper half, and in
+    /// the lower that of the parts.
     pub returned: u64,
     pub held: Vec<u8>,
     pub settled: Vec<u8>,
     pub parts: Vec<u8>,
     pub answer: Vec<u8>,
+    pub parts_answer: Vec<u8>,
 }
 
 impl Case {
@@ -48,44 +161,74 @@ impl Case {
     }
 
     pub fn fast<F: Fault>(&self, fault: F) -> Outcome {
-        self.outcome(
-            || fast::call_check(self.tables(), fault),
-            |lent, answer| {
-                fast::call_run(self.tables(), self.query, self.limit, lent, answer, fault)
-            },
-        )
+        self.by(&Fast(fault))
     }
 
     pub fn slow(&self) -> Outcome {
-        self.outcome(
-            || slow::call_check(self.tables()),
-            |lent, answer| slow::call_run(self.tables(), self.query, self.limit, lent, answer),
-        )
+        self.by(&Slow)
     }
 
     /// Makes the call on copies of the lent slices.
-    fn outcome(
-        &self,
-        check: impl FnOnce() -> u64,
-        run: impl FnOnce(Lent, &mut [u8]) -> u32,
-    ) -> Outcome {
-        let mut after = Outcome {
+    pub fn by<P: Program>(&self, program: &P) -> Outcome {
+        let mut after = self.before();
+        after.returned = self.call_in(program, &mut after);
+        after
+    }
+
+    /// The lent slices as they are before the call.
+    pub fn before(&self) -> Outcome {
+        Outcome {
             returned: 0,
             held: self.held.clone(),
             settled: self.settled.clone(),
             parts: self.parts.clone(),
             answer: self.answer.clone(),
+            parts_answer: self.parts_answer.clone(),
+        }
+    }
+
+    /// Makes the call in these buffers and tells what it returned.
+    pub fn call_in<P: Program>(&self, program: &P, after: &mut Outcome) -> u64 {
+        let (tables, query) = (self.tables(), self.query);
+        match self.call {
+            Call::Check => program.check(tables),
+            Call::Run => {
+                let lent = Lent {
+                    held: &mut after.held,
+                    settled: &mut after.settled,
+                };
+                let answer = &mut after.answer;
+                u64::from(program.run(tables, query, self.limit, lent, answer))
+            }
+            Call::Parts => {
+                let (parts, answer) = (&mut after.parts, &mut after.parts_answer);
+                u64::from(program.parts(tables, query, &self.list, parts, answer))
+            }
+            Call::Pair => {
+                let [run, parts] = program.pair(self, after).map(u64::from);
+                run << 32 | parts
+            }
+        }
+    }
+
+    /// The refusal and place that the call answers; of a pair the run's, and
+    /// where that is accepted, that of the parts.
+    pub fn refusal(&self, after: &Outcome) -> (u32, u32) {
+        let run = || {
+            let six = Answer::read(&after.answer);
+            (six.refusal, six.place)
         };
-        let lent = Lent {
-            held: &mut after.held,
-            settled: &mut after.settled,
-            parts: &mut after.parts,
+        let parts = || {
+            let three = PartsAnswer::read(&after.parts_answer);
+            (three.refusal, three.place)
         };
-        after.returned = match self.call {
-            Call::Check => check(),
-            Call::Run => u64::from(run(lent, &mut after.answer)),
-        };
-        after
+        match self.call {
+            Call::Check => ((after.returned >> 32) as u32, after.returned as u32),
+            Call::Run => run(),
+            Call::Parts => parts(),
+            Call::Pair if run().0 != 0 => run(),
+            Call::Pair => parts(),
+        }
     }
 
     /// Whether `slow` can look at every step in a fair time.

@@ -10,6 +10,7 @@ pub const HELD: usize = 16;
 pub const SETTLED: usize = 8;
 pub const PART: usize = 12;
 pub const ANSWER: usize = 24;
+pub const PARTS_ANSWER: usize = 12;
 pub const JOB: usize = 20;
 
 /// The big-endian word that begins at byte `at`.
@@ -193,11 +194,10 @@ pub struct Tables<'a> {
     pub hops: &'a [u8],
 }
 
-/// The three lent buffers.
+/// The two buffers lent to a run.
 pub struct Lent<'a> {
     pub held: &'a mut [u8],
     pub settled: &'a mut [u8],
-    pub parts: &'a mut [u8],
 }
 
 #[derive(Clone, Copy, Debug, PartialEq, Eq)]
@@ -215,7 +215,8 @@ impl Refusal {
     }
 }
 
-/// The six answers of a run, in the order of their bytes.
+/// The six answers of a run, in the order of their bytes. The part count is 0
+/// where the run writes no parts.
 #[derive(Clone, Copy, Debug, Default, PartialEq, Eq)]
 pub struct Answer {
     pub refusal: u32,
@@ -255,5 +256,35 @@ impl Answer {
             self.held,
             self.finished,
         ])
+    }
+}
+
+/// The three answers of the parts operation, in the order of their bytes.
+#[derive(Clone, Copy, Debug, Default, PartialEq, Eq)]
+pub struct PartsAnswer {
+    pub refusal: u32,
+    pub place: u32,
+    pub parts: u32,
+}
+
+impl PartsAnswer {
+    pub fn refused(refusal: Refusal) -> Self {
+        PartsAnswer {
+            refusal: refusal.number,
+            place: refusal.place,
+            parts: 0,
+        }
+    }
+
+    pub fn read(bytes: &[u8]) -> Self {
+        PartsAnswer {
+            refusal: word(bytes, 0),
+            place: word(bytes, 4),
+            parts: word(bytes, 8),
+        }
+    }
+
+    pub fn bytes(&self) -> [u8; PARTS_ANSWER] {
+        lay(&[self.refusal, self.place, self.parts])
     }
 }

@@ -4,8 +4,8 @@ use std::fmt::Write;
 
 use crate::outcome::{Call, Case, Outcome};
 use crate::records::{
-    Answer, Held, Hop, Part, Settled, Vertex, Walk, ANSWER, HELD, HOP, NONE, PART, SETTLED, VERTEX,
-    WALK,
+    Answer, Held, Hop, Part, PartsAnswer, Settled, Vertex, Walk, ANSWER, HELD, HOP, NONE, PART,
+    PARTS_ANSWER, SETTLED, VERTEX, WALK,
 };
 
 /// More records than this are only counted.
@@ -74,15 +74,31 @@ pub fn case(case: &Case) -> String {
         "query {} {} {} {} {}",
         q.record, q.offset, q.arrival, q.duration, q.speed
     );
-    let _ = writeln!(
-        text,
-        "# limit {}, bytes lent: held {}, settled {}, parts {}, answer {}",
-        case.limit,
-        case.held.len(),
-        case.settled.len(),
-        case.parts.len(),
-        case.answer.len()
-    );
+    if case.call.runs() {
+        let _ = writeln!(
+            text,
+            "# limit {}, bytes lent: held {}, settled {}, answer {}",
+            case.limit,
+            case.held.len(),
+            case.settled.len(),
+            case.answer.len()
+        );
+    }
+    if case.call == Call::Parts {
+        let _ = writeln!(text, "# list:{}", settled_rows(&case.list));
+        let rest = case.list.len() % SETTLED;
+        if rest != 0 {
+            let _ = writeln!(text, "# and {rest} bytes more");
+        }
+    }
+    if case.call.parts() {
+        let _ = writeln!(
+            text,
+            "# bytes lent: parts {}, their answer {}",
+            case.parts.len(),
+            case.parts_answer.len()
+        );
+    }
     text
 }
 
@@ -92,31 +108,42 @@ pub fn outcome(case: &Case, after: &Outcome) -> String {
         let (number, place) = (after.returned >> 32, after.returned & 0xffff_ffff);
         return format!("  check {number} {place}\n");
     }
-    let mut text = format!("  returned {}\n", after.returned);
-    if after.answer.len() == ANSWER {
-        let _ = writeln!(text, "  {:?}", Answer::read(&after.answer));
-    }
+    let mut text = format!("  returned {:x}\n", after.returned);
     let changed = |name: &str, before: &[u8], now: &[u8], list: String| match now {
         now if now == before => format!("  {name}: as it was lent\n"),
         now if now.iter().all(|&b| b == 0) => format!("  {name}: all zero\n"),
         _ => format!("  {name}:{list}\n"),
     };
-    let held = rows(&after.held, HELD, |i| {
-        let h = Held::read(&after.held, i);
-        format!(" ({} {} {} {})", h.vertex, h.distance, h.state, h.remaining)
-    });
-    let settled = rows(&after.settled, SETTLED, |i| {
-        let s = Settled::read(&after.settled, i);
-        format!(" ({} {})", s.vertex, s.distance)
-    });
-    let parts = rows(&after.parts, PART, |i| {
-        let p = Part::read(&after.parts, i);
-        format!(" ({} {} {})", p.record, p.start, p.end)
-    });
-    text += &changed("held", &case.held, &after.held, held);
-    text += &changed("settled", &case.settled, &after.settled, settled);
-    text += &changed("parts", &case.parts, &after.parts, parts);
+    if case.call.runs() {
+        if after.answer.len() == ANSWER {
+            let _ = writeln!(text, "  {:?}", Answer::read(&after.answer));
+        }
+        let held = rows(&after.held, HELD, |i| {
+            let h = Held::read(&after.held, i);
+            format!(" ({} {} {} {})", h.vertex, h.distance, h.state, h.remaining)
+        });
+        text += &changed("held", &case.held, &after.held, held);
+        let settled = settled_rows(&after.settled);
+        text += &changed("settled", &case.settled, &after.settled, settled);
+    }
+    if case.call.parts() {
+        if after.parts_answer.len() == PARTS_ANSWER {
+            let _ = writeln!(text, "  {:?}", PartsAnswer::read(&after.parts_answer));
+        }
+        let parts = rows(&after.parts, PART, |i| {
+            let p = Part::read(&after.parts, i);
+            format!(" ({} {} {})", p.record, p.start, p.end)
+        });
+        text += &changed("parts", &case.parts, &after.parts, parts);
+    }
     text
+}
+
+fn settled_rows(bytes: &[u8]) -> String {
+    rows(bytes, SETTLED, |i| {
+        let s = Settled::read(bytes, i);
+        format!(" ({} {})", s.vertex, s.distance)
+    })
 }
 
 fn rows(bytes: &[u8], size: usize, row: impl Fn(usize) -> String) -> String {

@@ -7,7 +7,7 @@ use std::process::{Command, Stdio};
 use outside::commands::exchange;
 use outside::network::Scene;
 use outside::outcome::Case;
-use outside::records::{Answer, Held, Part, Refusal, Settled, NONE};
+use outside::records::{Answer, Held, Part, PartsAnswer, Refusal, Settled, NONE};
 
 /// An accepted answer.
 #[derive(Debug, Default, PartialEq, Eq)]
@@ -93,22 +93,23 @@ pub fn check(driver: &[String], case: &Case) -> Result<Option<Refusal>, String> 
     Ok((refusal.number != 0).then_some(refusal))
 }
 
-/// The library's answer to a query, with room for everything.
+/// The library's answer to a query, with room for everything: a run, and the
+/// parts of its list.
 pub fn library(driver: &[String], scene: &Scene) -> Result<Reply, String> {
-    let outcome = exchange::ask(driver, &scene.run_case(NONE))?;
-    let answer = Answer::read(&outcome.answer);
-    if answer.refusal != 0 {
-        return Ok(Reply::Refused(Refusal {
-            number: answer.refusal,
-            place: answer.place,
-        }));
+    let case = scene.pair_case(NONE);
+    let outcome = exchange::ask(driver, &case)?;
+    let (number, place) = case.refusal(&outcome);
+    if number != 0 {
+        return Ok(Reply::Refused(Refusal { number, place }));
     }
+    let answer = Answer::read(&outcome.answer);
+    let parts = PartsAnswer::read(&outcome.parts_answer).parts;
     let count = |count: u32| 0..count as usize;
     Ok(Reply::Found(Found {
         settled: count(answer.settled)
             .map(|i| Settled::read(&outcome.settled, i))
             .collect(),
-        parts: count(answer.parts)
+        parts: count(parts)
             .map(|i| Part::read(&outcome.parts, i))
             .collect(),
         held: count(answer.held)

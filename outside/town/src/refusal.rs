@@ -20,6 +20,7 @@ pub fn meaning(number: u32) -> &'static str {
         8 => "there is too little room for held records",
         9 => "there is too little room for settled records",
         10 => "there is too little room for parts",
+        21 => "an entry of the list names no vertex, one that an earlier entry has or, for parts, a distance above the duration",
         _ => "there is no such refusal",
     }
 }

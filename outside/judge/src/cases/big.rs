@@ -1,5 +1,6 @@
 //! Cases at the limits of the tables, with the refusal known beforehand.
 
+use super::big_lists as lists;
 use crate::network::{full_scene, Network, Plan, Scene};
 use crate::outcome::Case;
 use crate::records::{Query, Vertex, NONE};
@@ -40,7 +41,8 @@ impl Big {
 
 pub const ALL: &[Big] = &[
     big("full size", || full().run_case(NONE), 0, 0),
-    big("full size, 1,000 steps", || full().run_case(1_000), 0, 0),
+    big("full size, both", || full().pair_case(NONE), 0, 0),
+    big("full size, 1,000 steps", || full().pair_case(1_000), 0, 0),
     big("full size, check", || full().network.check_case(), 0, 0),
     somewhere(
         "full size, held room",
@@ -64,6 +66,7 @@ pub const ALL: &[Big] = &[
     big("last walk's order", || broken(walk_order), 4, 262_143),
     big("last hop's order", || broken(hop_order), 5, 262_143),
     big("last vertex", || broken(last_vertex), 6, 65_535),
+    big("last vertex, parts", lists::broken_parts, 6, 65_535),
     big("65,536 vertices, no walk", || lonely(65_536), 7, 0),
     big("65,537 vertices, no walk", || lonely(65_537), 1, 0),
     big("65,535 walks depart", || hub(65_535, 0), 0, 0),
@@ -76,9 +79,89 @@ pub const ALL: &[Big] = &[
     big("200,000 held slots", wide_room, 0, 0),
     big("a line of 65,536 vertices", || line(65_536), 0, 0),
     big("262,144 walks into one vertex", funnel, 0, 0),
+    big("65,536 entries", || lists::listed(|list| list), 0, 0),
+    big(
+        "65,536 entries, backwards",
+        || lists::listed(lists::backwards),
+        0,
+        0,
+    ),
+    big("65,536 entries, room exact", || lists::listed_in(0), 0, 0),
+    somewhere("65,536 entries, room one less", || lists::listed_in(1), 10),
+    big(
+        "65,536 entries, no room",
+        || Case {
+            parts: Vec::new(),
+            ..lists::listed(|list| list)
+        },
+        10,
+        0,
+    ),
+    big(
+        "the last entry twice",
+        || lists::listed(lists::twice),
+        21,
+        65_536,
+    ),
+    big(
+        "the first entry once more",
+        || lists::listed(lists::once_more),
+        21,
+        65_536,
+    ),
+    big(
+        "a repeat as the last entry",
+        || lists::listed(lists::repeat),
+        21,
+        65_535,
+    ),
+    big(
+        "a repeat in the upper half",
+        || lists::listed(lists::upper),
+        21,
+        65_535,
+    ),
+    big(
+        "an upper repeat first",
+        || lists::listed(lists::upper_first),
+        21,
+        40_000,
+    ),
+    big(
+        "a lower repeat first",
+        || lists::listed(lists::lower_first),
+        21,
+        40_000,
+    ),
+    big(
+        "32,767 and 32,768 twice",
+        || lists::listed(lists::middle),
+        21,
+        65_535,
+    ),
+    big(
+        "the last vertex too high",
+        || lists::listed(lists::too_high),
+        21,
+        65_535,
+    ),
+    big(
+        "the last distance too far",
+        || lists::listed(lists::too_far),
+        21,
+        65_535,
+    ),
+    big(
+        "the last distance is D",
+        || lists::listed(lists::just_in),
+        0,
+        0,
+    ),
+    big("a whole settled buffer", lists::whole_buffer, 21, 1_001),
+    big("300,000 equal entries", || lists::equal(300_000), 21, 1),
 ];
 
-fn full() -> Scene {
+pub fn full() -> Scene {
     full_scene(3_600)
 }
 
@@ -108,7 +191,7 @@ fn more(vertices: usize, walks: usize, hops: usize) -> Case {
 /// The full network with so many held, settled and part slots. So few that
 /// `slow` comes to the step that lacks room in a fair time.
 fn short(room: [usize; 3]) -> Case {
-    let mut case = full().run_case(NONE);
+    let mut case = full().pair_case(NONE);
     case.held = vec![0xee; room[0] * 16];
     case.settled = vec![0xee; room[1] * 8];
     case.parts = vec![0xee; room[2] * 12];
@@ -150,7 +233,7 @@ fn hop_order(network: &mut Network) {
     network.vertices[0].departing += 1;
 }
 
-fn last_vertex(network: &mut Network) {
+pub fn last_vertex(network: &mut Network) {
     network.vertices[65_535].departing += 1;
 }
 
@@ -183,7 +266,7 @@ fn hub(walks: usize, hops: usize) -> Case {
         scene.network.vertices[1].departing = 0;
         scene.query.record = 0;
     }
-    scene.run_case(NONE)
+    scene.pair_case(NONE)
 }
 
 fn wide_room() -> Case {
@@ -193,7 +276,7 @@ fn wide_room() -> Case {
     };
     plan.road(0, 1, 10);
     plan.road(1, 2, 10);
-    let mut case = scene(plan, 100).run_case(NONE);
+    let mut case = scene(plan, 100).pair_case(NONE);
     case.held = vec![0xee; 200_000 * 16];
     case.settled = vec![0xee; 300_000 * 8];
     case.parts = vec![0xee; 300_000 * 12];
@@ -209,7 +292,7 @@ fn line(vertices: usize) -> Case {
     for v in 1..vertices {
         plan.road(v - 1, v, 1 + v as u32 % 7);
     }
-    scene(plan, 86_400).run_case(NONE)
+    scene(plan, 86_400).pair_case(NONE)
 }
 
 fn funnel() -> Case {
@@ -220,7 +303,7 @@ fn funnel() -> Case {
     for i in 0..262_144 {
         plan.one_way(i % 8, 8, 1 + (i % 1_000) as u32);
     }
-    scene(plan, 700).run_case(NONE)
+    scene(plan, 700).pair_case(NONE)
 }
 
 fn scene(plan: Plan, duration: u32) -> Scene {

@@ -213,15 +213,17 @@ pub fn extremes(case: &Case, old: u32, index: usize) -> Vec<u32> {
         0x0800_0000 + index,
     ]);
     values.extend([1, NONE, 0x8000_0000, 0x1000_0000, 0x0001_0000].map(|d| old.wrapping_add(d)));
+    let window = case.query.duration.wrapping_mul(case.query.speed);
+    values.extend([0, 1, NONE].map(|d| window.wrapping_add(d)));
     values
 }
 
 /// Every field of one record set to extremes: two fifths of all there are,
 /// so that such groups do not outgrow the others.
 pub fn sweep(case: &Case, rng: &mut Rng) -> Vec<Case> {
-    let sizes = [12, 16, 16];
-    let tables = [&case.vertices, &case.walks, &case.hops];
-    let pick = rng.below(3);
+    let sizes = [12, 16, 16, 8];
+    let tables = [&case.vertices, &case.walks, &case.hops, &case.list];
+    let pick = rng.below(3 + usize::from(!case.list.is_empty()));
     let (table, size) = (tables[pick], sizes[pick]);
     if table.is_empty() {
         return Vec::new();
@@ -231,10 +233,13 @@ pub fn sweep(case: &Case, rng: &mut Rng) -> Vec<Case> {
     for at in (index * size..(index + 1) * size).step_by(4) {
         for value in extremes(case, word(table, at), index) {
             let mut one = case.clone();
-            let tables = [&mut one.vertices, &mut one.walks, &mut one.hops];
-            let [vertices, walks, hops] = tables;
-            let table = [vertices, walks, hops].into_iter().nth(pick);
-            if let Some(table) = table {
+            let tables = [
+                &mut one.vertices,
+                &mut one.walks,
+                &mut one.hops,
+                &mut one.list,
+            ];
+            if let Some(table) = tables.into_iter().nth(pick) {
                 table[at..at + 4].copy_from_slice(&value.to_be_bytes());
             }
             cases.push(one);

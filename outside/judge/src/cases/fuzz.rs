@@ -3,9 +3,13 @@
 //! that what was changed comes as far as the search.
 
 use super::{jobs, small};
+use crate::mutant::Sound;
 use crate::network::{Network, Scene};
 use crate::outcome::{Call, Case};
-use crate::records::{word, Hop, Walk, HELD, HOP, JOB, NONE, PART, SETTLED, VERTEX, WALK};
+use crate::records::{
+    word, Answer, Hop, Walk, ANSWER, HELD, HOP, JOB, NONE, PART, PARTS_ANSWER, SETTLED, VERTEX,
+    WALK,
+};
 use crate::rng::Rng;
 
 /// The case of this number.
@@ -22,7 +26,16 @@ pub fn case(seed: u64, index: u64) -> Case {
         1 => any_number(rng, scene.network.vertices.len()),
         _ => NONE,
     };
-    let mut case = scene.run_case(limit);
+    let mut case = scene.pair_case(limit);
+    case.call = match rng.below(20) {
+        0..=2 => Call::Check,
+        3..=6 => Call::Run,
+        7..=12 => Call::Pair,
+        _ => Call::Parts,
+    };
+    if case.call == Call::Parts {
+        list(&mut case, &scene, rng);
+    }
     for _ in 0..rng.pick(&[0, 0, 0, 1, 1, 2, 3, 9]) {
         any_table(&mut case, rng);
     }
@@ -34,10 +47,20 @@ pub fn case(seed: u64, index: u64) -> Case {
     }
     rooms(&mut case, rng);
     case.null = rng.chance(50);
-    if rng.chance(15) {
-        case.call = Call::Check;
-    }
     case
+}
+
+/// What a run settles, and some changes to it.
+fn list(case: &mut Case, scene: &Scene, rng: &mut Rng) {
+    let after = scene.run_case(case.limit).fast(Sound);
+    let count = Answer::read(&after.answer).settled as usize;
+    // Now and then the zeros behind the list are passed along.
+    let end = count + rng.pick(&[0, 0, 0, 0, 0, 1, 2]);
+    case.list = after.settled;
+    case.list.truncate(end * SETTLED);
+    for _ in 0..rng.pick(&[0, 0, 0, 1, 1, 2, 3]) {
+        damage(&mut case.list, SETTLED, rng);
+    }
 }
 
 /// The job of this number.
@@ -89,8 +112,10 @@ fn damage(table: &mut Vec<u8>, size: usize, rng: &mut Rng) {
         1 => table[one + rng.below(size)] = rng.draw() as u8,
         2 | 3 => put(table, field, any_number(rng, count)),
         4 => {
-            let near = word(table, field).wrapping_add(rng.pick(&[1, 2, u32::MAX]));
-            put(table, field, near);
+            // A little more or less, or so much that only lower bits stay.
+            let more = rng.pick(&[1, 2, u32::MAX, 1 << 16, 1 << 28, 1 << 29, 1 << 31]);
+            let number = word(table, field).wrapping_add(more);
+            put(table, field, number);
         }
         5 => table.copy_within(one..one + size, other),
         6 => (0..size).for_each(|i| table.swap(one + i, other + i)),
@@ -146,8 +171,12 @@ fn mend(case: &mut Case) {
         network.count(vertices);
     }
     let query = case.query;
-    let whole = Scene { network, query }.run_case(case.limit);
-    *case = Case { ..whole };
+    let whole = Scene { network, query }.pair_case(case.limit);
+    *case = Case {
+        call: case.call,
+        list: std::mem::take(&mut case.list),
+        ..whole
+    };
 }
 
 fn query(case: &mut Case, rng: &mut Rng) {
@@ -178,9 +207,14 @@ fn rooms(case: &mut Case, rng: &mut Rng) {
         };
         *buffer = rng.bytes(len);
     }
-    let len = match rng.below(12) {
-        0 => rng.below(60),
-        _ => 24,
-    };
-    case.answer = rng.bytes(len);
+    for (answer, size) in [
+        (&mut case.answer, ANSWER),
+        (&mut case.parts_answer, PARTS_ANSWER),
+    ] {
+        let len = match rng.below(12) {
+            0 => rng.below(60),
+            _ => size,
+        };
+        *answer = rng.bytes(len);
+    }
 }

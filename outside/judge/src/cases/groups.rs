@@ -3,11 +3,11 @@
 use std::collections::BTreeSet;
 
 use super::damage::{any, several, sweep};
-use super::small;
+use super::{lists, small};
 use crate::mutant::Sound;
 use crate::network::Scene;
 use crate::outcome::{Call, Case};
-use crate::records::{word, Answer, HELD, PART, SETTLED};
+use crate::records::{word, Answer, PartsAnswer, HELD, PART, SETTLED};
 use crate::rng::Rng;
 
 /// The cases of one group; the kind of group follows from its number.
@@ -24,16 +24,18 @@ pub fn group(seed: u64, index: u64) -> Vec<Case> {
     cases.into_iter().map(|case| dress(case, rng)).collect()
 }
 
+/// Twelve groups about the run and its pair, then twelve about lists.
 fn varied(index: u64, scene: &Scene, rng: &mut Rng) -> Vec<Case> {
-    match index % 12 {
+    match index % 24 {
         0..=3 => limits(scene, rng),
         4..=6 => rooms(scene, rng),
         7 => every_room(scene),
         8 => each_place(scene, rng),
-        9 => sweep(&one_of_both(scene, rng), rng),
+        9 => sweep(&one_of_all(scene, rng), rng),
         10 => several_faults(scene, rng),
-        _ if index % 24 == 11 => lengths(scene, rng),
-        _ => queries(scene, rng),
+        11 if index % 48 == 11 => lengths(scene, rng),
+        11 => queries(scene, rng),
+        turn => lists::varied(turn - 12, scene, rng),
     }
 }
 
@@ -45,6 +47,7 @@ fn dress(mut case: Case, rng: &mut Rng) -> Case {
         &mut case.settled,
         &mut case.parts,
         &mut case.answer,
+        &mut case.parts_answer,
     ];
     for buffer in lent {
         match rng.below(4) {
@@ -56,12 +59,13 @@ fn dress(mut case: Case, rng: &mut Rng) -> Case {
     case
 }
 
-/// A run or a check of the same tables.
-fn one_of_both(scene: &Scene, rng: &mut Rng) -> Case {
-    if rng.chance(40) {
-        scene.network.check_case()
-    } else {
-        scene.run_case(u32::MAX)
+/// A check, a run, or parts over the same tables.
+fn one_of_all(scene: &Scene, rng: &mut Rng) -> Case {
+    match rng.below(10) {
+        0..=2 => scene.network.check_case(),
+        3..=5 => lists::some_case(scene, rng),
+        6..=7 => scene.pair_case(u32::MAX),
+        _ => scene.run_case(u32::MAX),
     }
 }
 
@@ -70,38 +74,55 @@ fn needs(scene: &Scene, limit: u32) -> Answer {
     Answer::read(&scene.run_case(limit).fast(Sound).answer)
 }
 
-/// Every limit there is to tell apart, and the far ones.
+/// Every limit there is to tell apart with the parts of the run's own list,
+/// and the far ones.
 fn limits(scene: &Scene, rng: &mut Rng) -> Vec<Case> {
     let last = needs(scene, u32::MAX).settled;
-    let near = 0..=last + 1;
+    let near = (0..=last + 1).map(|limit| scene.pair_case(limit));
     let far = [0x7fff_ffff, 0x8000_0000, u32::MAX];
-    let mut cases: Vec<Case> = near.chain(far).map(|limit| scene.run_case(limit)).collect();
+    let mut cases: Vec<Case> = near.chain(far.map(|limit| scene.run_case(limit))).collect();
     for case in &mut cases {
         let more = rng.below(3);
         case.held.resize(case.held.len() + more * HELD, 0);
         case.settled.resize(case.settled.len() + more * SETTLED, 0);
-        case.parts.resize(case.parts.len() + more * PART, 0);
+        if case.call.parts() {
+            case.parts.resize(case.parts.len() + more * PART, 0);
+        }
     }
     cases.push(scene.network.check_case());
     cases
 }
 
-/// The room a run needs: the most that is held after any step, and the ends.
+/// The room a run needs: the most that is held after any step, and the ends;
+/// and then its parts.
 fn exact(scene: &Scene, limit: u32) -> [usize; 3] {
     let end = needs(scene, limit);
     let held = (0..=end.settled).map(|k| needs(scene, k).held).max();
+    let pair = scene.pair_case(limit).fast(Sound);
+    let parts = match end.refusal {
+        0 => PartsAnswer::read(&pair.parts_answer).parts,
+        _ => 0,
+    };
     [
         held.unwrap_or(0) as usize,
         end.settled as usize,
-        end.parts as usize,
+        parts as usize,
     ]
 }
 
 fn with_room(scene: &Scene, limit: u32, room: [usize; 3]) -> Case {
-    let mut case = scene.run_case(limit);
+    let mut case = scene.pair_case(limit);
     case.held = vec![0; room[0] * HELD];
     case.settled = vec![0; room[1] * SETTLED];
     case.parts = vec![0; room[2] * PART];
+    case
+}
+
+/// The run of a pair without its parts.
+fn alone(mut case: Case) -> Case {
+    case.call = Call::Run;
+    case.parts.clear();
+    case.parts_answer.clear();
     case
 }
 
@@ -123,7 +144,7 @@ fn rooms(scene: &Scene, rng: &mut Rng) -> Vec<Case> {
         let fewer = need.map(|n| rng.range(0, n as i64 + 1) as usize);
         cases.push(with_room(scene, limit, fewer));
         let one = need.map(|n| n.saturating_sub(rng.below(2)));
-        cases.push(with_room(scene, limit, one));
+        cases.push(alone(with_room(scene, limit, one)));
     }
     cases
 }
@@ -152,16 +173,18 @@ fn few(scene: &Scene, rng: &mut Rng) -> Vec<Case> {
     let mut cases = Vec::new();
     for limit in [u32::MAX, rng.range(0, i64::from(all)) as u32] {
         let need = exact(scene, limit);
-        cases.push(scene.run_case(limit));
+        cases.push(scene.pair_case(limit));
         cases.push(with_room(scene, limit, need));
         for i in 0..3 {
             let mut lent = need;
             lent[i] = lent[i].saturating_sub(1);
             cases.push(with_room(scene, limit, lent));
             let fewer = need.map(|n| rng.range(n as i64 / 2, n as i64) as usize);
-            cases.push(with_room(scene, limit, fewer));
+            cases.push(alone(with_room(scene, limit, fewer)));
         }
+        cases.push(scene.run_case(limit));
     }
+    cases.extend(lists::few(scene, rng));
     cases
 }
 
@@ -175,6 +198,7 @@ fn each_place(scene: &Scene, rng: &mut Rng) -> Vec<Case> {
             harm.put(&mut scene.network, place, rng);
             cases.push(scene.network.check_case());
             cases.push(scene.run_case(u32::MAX));
+            cases.push(lists::some_case(&scene, rng));
         }
     }
     cases
@@ -187,9 +211,9 @@ fn several_faults(scene: &Scene, rng: &mut Rng) -> Vec<Case> {
         if rng.chance(30) {
             scene.query.speed = rng.pick(&[0, 101]);
         }
-        let mut case = one_of_both(&scene, rng);
+        let mut case = one_of_all(&scene, rng);
         if rng.chance(30) {
-            let odd = rng.below(6);
+            let odd = rng.below(7);
             off_length(&mut case, odd, rng);
         }
         case
@@ -197,7 +221,7 @@ fn several_faults(scene: &Scene, rng: &mut Rng) -> Vec<Case> {
     (0..12).map(harmed).collect()
 }
 
-/// Makes one of the six slices longer or shorter by some bytes.
+/// Makes one of the seven slices longer or shorter by some bytes.
 fn off_length(case: &mut Case, slice: usize, rng: &mut Rng) {
     let slices = [
         &mut case.vertices,
@@ -205,6 +229,7 @@ fn off_length(case: &mut Case, slice: usize, rng: &mut Rng) {
         &mut case.hops,
         &mut case.held,
         &mut case.settled,
+        &mut case.list,
         &mut case.parts,
     ];
     let Some(bytes) = slices.into_iter().nth(slice) else {
@@ -222,27 +247,32 @@ fn off_length(case: &mut Case, slice: usize, rng: &mut Rng) {
 /// slices of every other length.
 fn lengths(scene: &Scene, rng: &mut Rng) -> Vec<Case> {
     let mut cases = Vec::new();
-    for slice in 0..6 {
+    for slice in 0..7 {
         for _ in 0..3 {
-            let mut case = one_of_both(scene, rng);
+            let mut case = match slice {
+                0..=2 => one_of_all(scene, rng),
+                3..=4 => scene.run_case(u32::MAX),
+                5 => lists::some_case(scene, rng),
+                _ => scene.pair_case(u32::MAX),
+            };
             off_length(&mut case, slice, rng);
             if rng.chance(30) {
-                off_length(&mut case, rng.below(6), rng);
+                off_length(&mut case, rng.below(7), rng);
             }
             cases.push(case);
         }
     }
     for empty in 0..3 {
-        let mut case = one_of_both(scene, rng);
+        let mut case = one_of_all(scene, rng);
         let [vertices, walks, hops] = [&mut case.vertices, &mut case.walks, &mut case.hops];
         [vertices, walks, hops][empty].clear();
         cases.push(case);
     }
-    for len in [0, 1, 4, 20, 23, 25, 28, 48] {
+    for len in [0, 1, 4, 12, 20, 23, 25, 28, 48] {
         let mut case = scene.run_case(rng.below(4) as u32);
         case.answer = vec![0; len];
         if rng.chance(30) {
-            off_length(&mut case, rng.below(6), rng);
+            off_length(&mut case, rng.below(7), rng);
         }
         cases.push(case);
     }
@@ -251,7 +281,10 @@ fn lengths(scene: &Scene, rng: &mut Rng) -> Vec<Case> {
 
 /// Each field of the query at its limits and beyond.
 fn queries(scene: &Scene, rng: &mut Rng) -> Vec<Case> {
-    let case = scene.run_case(u32::MAX);
+    let case = match rng.chance(50) {
+        true => scene.run_case(u32::MAX),
+        false => lists::some_case(scene, rng),
+    };
     let record = scene.query.record as usize;
     let at = record * 16 + 8;
     let length = if case.walks.is_empty() {
@@ -281,7 +314,6 @@ fn queries(scene: &Scene, rng: &mut Rng) -> Vec<Case> {
 }
 
 fn set(case: &mut Case, field: usize, value: u32) {
-    debug_assert!(case.call == Call::Run);
     match field {
         0 => case.query.record = value,
         1 => case.query.offset = value,

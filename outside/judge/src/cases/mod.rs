@@ -2,10 +2,12 @@
 //! fixed cases at the limits of the tables.
 
 pub mod big;
+mod big_lists;
 pub mod damage;
 pub mod fuzz;
 pub mod groups;
 pub mod jobs;
+pub mod lists;
 pub mod small;
 
 use crate::outcome::Case;

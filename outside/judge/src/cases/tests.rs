@@ -3,72 +3,83 @@
 use std::collections::{BTreeMap, BTreeSet};
 
 use super::{big, fuzz, groups, jobs, stream};
-use crate::commands::selftest::refusal;
 use crate::fast;
-use crate::mutant::Sound;
+use crate::mutant::{Mutant, Sound};
 use crate::outcome::{Call, Case, Outcome};
-use crate::records::{Answer, Held, Hop, Part, Settled, Walk, HOP, NONE, VERTEX};
+use crate::pair;
+use crate::records::{
+    Answer, Held, Hop, Part, PartsAnswer, Settled, Walk, HOP, NONE, SETTLED, VERTEX,
+};
 use crate::slow;
 
-const CASES: usize = 20_000;
+const CASES: usize = 40_000;
 
-/// How often each refusal (or 0) is given at each place, by call.
-fn refusals() -> BTreeMap<(u8, (u32, u32)), usize> {
-    let mut seen = BTreeMap::new();
-    for case in stream(1).take(CASES) {
-        let outcome = case.fast(Sound);
-        if case.call == Call::Check || outcome.returned == 0 {
-            *seen
-                .entry((case.call as u8, refusal(&case, &outcome)))
-                .or_insert(0) += 1;
-        }
+/// The refusals (or 0) and places that the operations of a case answer.
+fn answers(case: &Case, after: &Outcome) -> Vec<(&'static str, (u32, u32))> {
+    if case.call != Call::Check && after.returned != 0 {
+        return vec![];
     }
-    seen
+    let (refusal, accepted) = (case.refusal(after), (0, 0));
+    match case.call {
+        Call::Check => vec![("check", refusal)],
+        Call::Run => vec![("run", refusal)],
+        Call::Parts => vec![("parts", refusal)],
+        Call::Pair if Answer::read(&after.answer).refusal != 0 => vec![("run", refusal)],
+        Call::Pair => vec![("run", accepted), ("parts", refusal)],
+    }
 }
 
 #[test]
 fn every_refusal_arises() {
-    let seen = refusals();
-    let count = |call: Call, number: u32, place: u32| {
-        *seen.get(&(call as u8, (number, place))).unwrap_or(&0)
-    };
-    for place in 0..6 {
-        assert!(count(Call::Run, 1, place) >= 20, "1 {place}");
-        assert!(count(Call::Check, 1, place) >= 10 || place > 2, "1 {place}");
-    }
-    for number in 2..=6 {
-        for place in 0..8 {
-            let first = (number == 4 || number == 5) && place == 0;
-            assert!(
-                first || count(Call::Run, number, place) >= 3,
-                "{number} {place}"
-            );
-            assert!(
-                first || count(Call::Check, number, place) >= 1,
-                "{number} {place}"
-            );
+    let mut seen = BTreeMap::new();
+    for case in stream(1).take(CASES) {
+        for answer in answers(&case, &case.fast(Sound)) {
+            *seen.entry(answer).or_insert(0) += 1;
         }
+    }
+    let often = |operation: &'static str, number: u32, place: u32, least: usize| {
+        let count = *seen.get(&(operation, (number, place))).unwrap_or(&0);
+        assert!(count >= least, "{operation} {number} {place}: {count}");
+    };
+    for (operation, places) in [
+        ("check", &[0, 1, 2][..]),
+        ("run", &[0, 1, 2, 3, 4]),
+        ("parts", &[0, 1, 2, 4, 5]),
+    ] {
+        for &place in places {
+            often(operation, 1, place, 10);
+        }
+        for number in 2..=6 {
+            let first = u32::from(number == 4 || number == 5);
+            for place in first..8 {
+                often(operation, number, place, 1);
+            }
+        }
+        often(operation, 0, 0, 100);
     }
     for place in 0..5 {
-        assert!(count(Call::Run, 7, place) >= 20, "7 {place}");
+        often("run", 7, place, 20);
+        often("parts", 7, place, 20);
     }
-    for (number, steps) in [(8, 0..7), (9, 1..8), (10, 0..7)] {
-        for step in steps {
-            assert!(count(Call::Run, number, step) >= 10, "{number} {step}");
-        }
+    for step in 0..7 {
+        often("run", 8, step, 10);
+        often("run", 9, step + 1, 10);
+        often("parts", 10, step, 10);
+        often("parts", 21, step, 20);
     }
-    assert!(count(Call::Check, 0, 0) >= 100);
-    assert!(count(Call::Run, 0, 0) >= CASES / 4);
+    often("run", 0, 0, CASES / 8);
+    often("parts", 0, 0, CASES / 8);
 }
 
-/// The features of an accepted run that rules turn on.
+/// The features of an accepted pair that rules turn on.
 fn features(case: &Case, outcome: &Outcome) -> Vec<&'static str> {
     let six = Answer::read(&outcome.answer);
     let settled = |i| Settled::read(&outcome.settled, i);
     let settled: Vec<Settled> = (0..six.settled as usize).map(settled).collect();
     let window = case.query.duration * case.query.speed;
     let held = |i| Held::read(&outcome.held, i);
-    let records = (0..six.parts as usize).map(|i| Part::read(&outcome.parts, i).record);
+    let parts = PartsAnswer::read(&outcome.parts_answer).parts as usize;
+    let records = (0..parts).map(|i| Part::read(&outcome.parts, i).record);
     let distinct = records.collect::<BTreeSet<u32>>().len();
     let length = Walk::read(&case.walks, case.query.record as usize).length;
     let mut list = vec![];
@@ -86,7 +97,7 @@ fn features(case: &Case, outcome: &Outcome) -> Vec<&'static str> {
         (0..six.held as usize).any(|i| held(i).distance == NONE),
         "none",
     );
-    add(distinct < six.parts as usize, "two parts on a record");
+    add(distinct < parts, "two parts on a record");
     add(on_time(case, &settled, 0), "hop at the last moment");
     add(on_time(case, &settled, 1), "hop less than a second late");
     add(case.query.offset == 0, "offset 0");
@@ -120,19 +131,133 @@ fn on_time(case: &Case, settled: &[Settled], late: i64) -> bool {
     })
 }
 
+fn tally<'a>(seen: &mut BTreeMap<&'a str, usize>, names: Vec<&'a str>) {
+    for name in names {
+        *seen.entry(name).or_insert(0) += 1;
+    }
+}
+
 #[test]
 fn every_feature_arises() {
     let mut seen = BTreeMap::new();
-    for case in stream(1).take(CASES).filter(|case| case.call == Call::Run) {
+    for case in stream(1).take(CASES).filter(|case| case.call == Call::Pair) {
         let outcome = case.fast(Sound);
-        if outcome.returned == 0 && Answer::read(&outcome.answer).refusal == 0 {
-            for name in features(&case, &outcome) {
-                *seen.entry(name).or_insert(0) += 1;
-            }
+        if outcome.returned == 0 && case.refusal(&outcome).0 == 0 {
+            tally(&mut seen, features(&case, &outcome));
         }
     }
     assert_eq!(seen.len(), 12);
     assert!(seen.values().all(|&count| count >= 100), "{seen:#?}");
+}
+
+/// The features of a list that rules turn on, accepted or refused.
+fn list_features(case: &Case, outcome: &Outcome) -> Vec<&'static str> {
+    let three = PartsAnswer::read(&outcome.parts_answer);
+    let entry = |i| Settled::read(&case.list, i);
+    let list: Vec<Settled> = (0..case.list.len() / SETTLED).map(entry).collect();
+    let window = case.query.duration * case.query.speed;
+    let zero = list
+        .last()
+        .is_some_and(|e| (e.vertex, e.distance) == (0, 0));
+    let falls = list.windows(2).any(|w| w[0].distance > w[1].distance);
+    let (good, bad) = (three.refusal == 0, three.refusal == 21);
+    let mut names = vec![];
+    let mut add = |holds: bool, name| {
+        if holds {
+            names.push(name)
+        }
+    };
+    add(good && list.is_empty(), "an empty list");
+    add(good && falls, "distances in any order");
+    add(
+        good && list.iter().any(|e| e.distance == window),
+        "distance D",
+    );
+    add(good && zero, "a zero record that passes");
+    add(bad && zero, "zero records that do not");
+    add(
+        good && three.parts > 0 && case.parts.len() == 12 * three.parts as usize,
+        "room exact",
+    );
+    if bad {
+        let at = three.place as usize;
+        let told = list[at];
+        let before = list[..at].iter().position(|e| e.vertex == told.vertex);
+        let exists = (told.vertex as usize) < case.vertices.len() / VERTEX;
+        add(!exists, "no such vertex");
+        add(exists && before.is_none(), "a distance above D");
+        add(told.distance == window + 1, "a distance of D and 1");
+        add(before.is_some_and(|b| b + 1 < at), "a repeat far off");
+        add(
+            before.is_some_and(|b| list[b].distance != told.distance),
+            "a repeat at another distance",
+        );
+        add(
+            told.vertex >= 32_768 && exists,
+            "a repeat in the upper half",
+        );
+        add(at + 1 == list.len(), "the last entry");
+    }
+    names
+}
+
+#[test]
+fn every_kind_of_list_arises() {
+    let mut seen = BTreeMap::new();
+    for case in stream(1)
+        .take(CASES)
+        .filter(|case| case.call == Call::Parts)
+    {
+        let outcome = case.fast(Sound);
+        if outcome.returned == 0 {
+            tally(&mut seen, list_features(&case, &outcome));
+        }
+    }
+    assert_eq!(seen.len(), 13, "{seen:#?}");
+    assert!(seen.values().all(|&count| count >= 5), "{seen:#?}");
+    let few = |name: &str| name == "a repeat in the upper half";
+    let often = |(name, count): (&&str, &usize)| *count >= 100 || few(name);
+    assert!(seen.iter().all(often), "{seen:#?}");
+}
+
+/// The two operations give the bytes of the one, at every limit.
+#[test]
+fn pairs_give_the_old_bytes() {
+    let (mut accepted, mut others) = (0, 0);
+    for (number, case) in stream(3).take(CASES / 4).enumerate() {
+        let outcome = case.fast(Sound);
+        if let Some(same) = pair::gives_old_bytes(&case, &outcome, case.small()) {
+            assert!(same, "case {number}");
+            match case.refusal(&outcome).0 {
+                0 => accepted += 1,
+                _ => others += 1,
+            }
+        }
+    }
+    assert!(accepted >= 500 && others >= 500, "{accepted} {others}");
+}
+
+/// A pair whose bytes are not the old ones is noticed.
+#[test]
+fn other_bytes_are_noticed() {
+    let wrong = [
+        Mutant::RunPartCount,
+        Mutant::PartsNoStart,
+        Mutant::PartsStepOff,
+        Mutant::ListByDistance,
+        Mutant::ListDistanceTight,
+        Mutant::TailKept,
+        Mutant::ClipTwin,
+    ];
+    for mutant in wrong {
+        let told = stream(3).take(4_000).any(|case| {
+            let outcome = case.fast(mutant);
+            pair::gives_old_bytes(&case, &outcome, case.small()) == Some(false)
+        });
+        // A run's own list ascends by distance, so that taking it by distance
+        // changes nothing.
+        assert_eq!(told, mutant != Mutant::ListByDistance, "{mutant:?}");
+    }
 }
 
 /// What `every_room` is for: at each limit the first case has room, no other
@@ -141,9 +266,9 @@ fn every_feature_arises() {
 fn exact_room_is_tried_at_every_limit() {
     let mut limits = 0;
     // Every 80th group is a town.
-    for index in (7..1_200).step_by(12).filter(|index| index % 80 != 79) {
+    for index in (7..2_400).step_by(24).filter(|index| index % 80 != 79) {
         let cases = groups::group(1, index);
-        let given = |case: &Case| (case.limit, refusal(case, &case.fast(Sound)).0);
+        let given = |case: &Case| (case.limit, case.refusal(&case.fast(Sound)).0);
         let given: Vec<(u32, u32)> = cases.iter().map(given).collect();
         if given == [(0, 7)] {
             continue;
@@ -157,7 +282,7 @@ fn exact_room_is_tried_at_every_limit() {
             limits += 1;
         }
     }
-    assert!(limits > 400, "{limits}");
+    assert!(limits >= 400, "{limits}");
 }
 
 /// Vertices in both halves of the largest table, with room and without.
@@ -168,7 +293,10 @@ fn far_vertices_arise() {
     let (mut given, mut both) = (BTreeMap::new(), 0);
     for case in far {
         let outcome = case.fast(Sound);
-        *given.entry(refusal(&case, &outcome).0).or_insert(0) += 1;
+        *given.entry(case.refusal(&outcome).0).or_insert(0) += 1;
+        if !case.call.runs() {
+            continue;
+        }
         let count = Answer::read(&outcome.answer).held as usize;
         let held = (0..count).map(|i| Held::read(&outcome.held, i).vertex);
         let halves: BTreeSet<u32> = held.map(|vertex| vertex / 32_768).collect();
@@ -176,7 +304,7 @@ fn far_vertices_arise() {
     }
     let often = |number: &u32| given.get(number).is_some_and(|&count| count >= 5);
     assert!(
-        [0, 8, 9, 10].iter().all(often) && both >= 5,
+        [0, 8, 9, 10, 21].iter().all(often) && both >= 5,
         "{given:?} {both}"
     );
 }
@@ -218,7 +346,7 @@ fn big_cases_give_what_they_are_built_for() {
     for big in big::ALL {
         let case = (big.make)();
         let outcome = case.fast(Sound);
-        assert!(big.fits(refusal(&case, &outcome)), "{}", big.name);
+        assert!(big.fits(case.refusal(&outcome)), "{}", big.name);
     }
 }
 
@@ -237,19 +365,20 @@ fn fast_and_slow_agree() {
 /// often enough as far as an accepted run.
 #[test]
 fn damaged_cases_come_everywhere() {
-    let mut seen = [0; 11];
+    let mut seen = [0; 22];
     let mut strange = 0;
-    for index in 0..4_000 {
+    for index in 0..6_000 {
         let case = fuzz::case(1, index);
         let outcome = case.fast(Sound);
-        match case.call == Call::Run && outcome.returned == 1 {
+        match case.call != Call::Check && outcome.returned != 0 {
             true => strange += 1,
-            false => seen[refusal(&case, &outcome).0 as usize] += 1,
+            false => seen[case.refusal(&outcome).0 as usize] += 1,
         }
     }
     assert!(strange >= 100, "{strange} answers of another length");
     assert!(seen[0] >= 800, "{} accepted", seen[0]);
-    for (number, &count) in seen.iter().enumerate() {
+    for number in (0..=10).chain([21]) {
+        let count = seen[number];
         // Walks that are moved mostly lose their twins first, which is refusal 2.
         assert!(
             count >= 20 || number == 4 && count >= 3,

@@ -3,10 +3,11 @@
 use std::hint::black_box;
 use std::time::{Duration, Instant};
 
-use crate::fast;
 use crate::mutant::Sound;
 use crate::network::{full_scene, grid_scene, Scene};
-use crate::records::{Answer, Lent};
+use crate::outcome::{Case, Fast, Program};
+use crate::pair::OneRun;
+use crate::records::{Answer, PartsAnswer, Settled};
 
 /// The networks measured, with names: the city grid and the largest there is.
 pub fn city_scenes() -> Vec<(String, Scene)> {
@@ -31,30 +32,56 @@ pub fn growing_scenes() -> Vec<(String, Scene)> {
 }
 
 pub fn run(rounds: usize) -> Result<(), String> {
-    println!("medians of {rounds} rounds; a run checks the tables first");
+    println!("medians of {rounds} rounds in ms; every call but the check checks the tables first");
     println!(
-        "{:<21}{:>9}{:>9}{:>9}{:>9}{:>9}{:>8}{:>11}{:>11}",
-        "network", "vertices", "walks", "hops", "settled", "parts", "held", "check ms", "run ms"
+        "{:<21}{:>9}{:>9}{:>9}{:>9}{:>9}{:>8}{:>9}{:>9}{:>9}{:>9}{:>9}",
+        "network",
+        "vertices",
+        "walks",
+        "hops",
+        "settled",
+        "parts",
+        "held",
+        "check",
+        "run",
+        "parts",
+        "both",
+        "one run"
     );
     for (name, scene) in city_scenes().into_iter().chain(growing_scenes()) {
-        let check = median(rounds, || time_check(&scene));
-        let (answer, _) = time_run(&scene);
-        let run = median(rounds, || time_run(&scene).1);
-        let network = &scene.network;
-        println!(
-            "{:<21}{:>9}{:>9}{:>9}{:>9}{:>9}{:>8}{:>11.3}{:>11.3}",
-            name,
-            network.vertices.len(),
-            network.walks.len(),
-            network.hops.len(),
-            answer.settled,
-            answer.parts,
-            answer.held,
-            check.as_secs_f64() * 1e3,
-            run.as_secs_f64() * 1e3
-        );
+        println!("{name:<21}{}", line(&scene, rounds));
     }
     Ok(())
+}
+
+/// The counts of a network, and the times of each call and of the one run.
+fn line(scene: &Scene, rounds: usize) -> String {
+    let network = &scene.network;
+    let pair = scene.pair_case(u32::MAX);
+    let after = pair.fast(Sound);
+    let six = Answer::read(&after.answer);
+    let parts = scene.parts_case(&own_list(&after.settled, six));
+    let calls = [network.check_case(), scene.run_case(u32::MAX), parts];
+    let fast = |case: &Case| median(rounds, || time(case, &Fast(Sound)));
+    let mut times: Vec<Duration> = calls.iter().chain([&pair]).map(fast).collect();
+    times.push(median(rounds, || time(&pair, &OneRun)));
+    let times = times.iter().map(|time| time.as_secs_f64() * 1e3);
+    let times: String = times.map(|ms| format!("{ms:>9.3}")).collect();
+    format!(
+        "{:>9}{:>9}{:>9}{:>9}{:>9}{:>8}{times}",
+        network.vertices.len(),
+        network.walks.len(),
+        network.hops.len(),
+        six.settled,
+        PartsAnswer::read(&after.parts_answer).parts,
+        six.held,
+    )
+}
+
+/// The entries that a run wrote.
+pub fn own_list(settled: &[u8], six: Answer) -> Vec<Settled> {
+    let entry = |i| Settled::read(settled, i as usize);
+    (0..six.settled).map(entry).collect()
 }
 
 fn median(rounds: usize, mut once: impl FnMut() -> Duration) -> Duration {
@@ -67,24 +94,9 @@ pub fn middle(mut times: Vec<Duration>) -> Duration {
     times[times.len() / 2]
 }
 
-fn time_check(scene: &Scene) -> Duration {
-    let case = scene.network.check_case();
+fn time<P: Program>(case: &Case, program: &P) -> Duration {
+    let mut after = case.before();
     let start = Instant::now();
-    black_box(fast::check(black_box(case.tables()), Sound));
+    black_box(case.call_in(program, &mut after));
     start.elapsed()
-}
-
-fn time_run(scene: &Scene) -> (Answer, Duration) {
-    let mut case = scene.run_case(u32::MAX);
-    let mut held = std::mem::take(&mut case.held);
-    let mut settled = std::mem::take(&mut case.settled);
-    let mut parts = std::mem::take(&mut case.parts);
-    let mut lent = Lent {
-        held: &mut held,
-        settled: &mut settled,
-        parts: &mut parts,
-    };
-    let start = Instant::now();
-    let answer = fast::run(case.tables(), case.query, case.limit, &mut lent, Sound);
-    (black_box(answer), start.elapsed())
 }

@@ -10,6 +10,7 @@ use crate::cases::{big, stream};
 use crate::marked::{self, Marked};
 use crate::mutant::Sound;
 use crate::outcome::{Call, Case, Outcome};
+use crate::pair;
 use crate::show;
 
 /// Which cases are meant: those of a seed, the big ones, or the marked ones.
@@ -25,14 +26,14 @@ impl Choice {
         match self {
             Choice::Seed(seed, count) => Box::new(stream(seed).take(count)),
             Choice::Big => Box::new(big::ALL.iter().map(|big| (big.make)())),
-            Choice::Marked => Box::new(marked::ALL.iter().map(|marked| (marked.make)())),
+            Choice::Marked => Box::new(marked::all().map(|marked| (marked.make)())),
         }
     }
 
-    /// What RULES 16 says of the case of this number, if it is a marked one.
+    /// What the rules say of the case of this number, if it is a marked one.
     fn marked(self, number: usize) -> Option<&'static Marked> {
         match self {
-            Choice::Marked => marked::ALL.get(number),
+            Choice::Marked => marked::all().nth(number),
             Choice::Seed(..) | Choice::Big => None,
         }
     }
@@ -41,6 +42,17 @@ impl Choice {
 pub const END: u8 = 0;
 const CHECK: u8 = 1;
 const RUN: u8 = 2;
+const PARTS: u8 = 3;
+const PAIR: u8 = 4;
+
+fn kind(call: Call) -> u8 {
+    match call {
+        Call::Check => CHECK,
+        Call::Run => RUN,
+        Call::Parts => PARTS,
+        Call::Pair => PAIR,
+    }
+}
 
 pub fn make(choice: Choice) -> Result<(), String> {
     let mut out = BufWriter::with_capacity(1 << 16, std::io::stdout().lock());
@@ -53,11 +65,7 @@ pub fn make(choice: Choice) -> Result<(), String> {
 }
 
 pub fn write_case(out: &mut impl Write, case: &Case) -> std::io::Result<()> {
-    let kind = match case.call {
-        Call::Check => CHECK,
-        Call::Run => RUN,
-    };
-    out.write_all(&[kind, u8::from(case.null)])?;
+    out.write_all(&[kind(case.call), u8::from(case.null)])?;
     for table in [&case.vertices, &case.walks, &case.hops] {
         write_slice(out, table)?;
     }
@@ -65,19 +73,22 @@ pub fn write_case(out: &mut impl Write, case: &Case) -> std::io::Result<()> {
         return Ok(());
     }
     let q = case.query;
-    let numbers = [
-        q.record,
-        q.offset,
-        q.arrival as u32,
-        q.duration,
-        q.speed,
-        case.limit,
-    ];
+    let numbers = [q.record, q.offset, q.arrival as u32, q.duration, q.speed];
     for number in numbers {
         out.write_all(&number.to_be_bytes())?;
     }
-    for buffer in [&case.held, &case.settled, &case.parts, &case.answer] {
-        write_slice(out, buffer)?;
+    if case.call.runs() {
+        out.write_all(&case.limit.to_be_bytes())?;
+        write_slice(out, &case.held)?;
+        write_slice(out, &case.settled)?;
+        write_slice(out, &case.answer)?;
+    }
+    if case.call == Call::Parts {
+        write_slice(out, &case.list)?;
+    }
+    if case.call.parts() {
+        write_slice(out, &case.parts)?;
+        write_slice(out, &case.parts_answer)?;
     }
     Ok(())
 }
@@ -92,7 +103,7 @@ pub struct Reply {
     pub outcome: Outcome,
     /// One bit for each slice whose surroundings (or, for a table, contents)
     /// were changed.
-    pub touched: u8,
+    pub touched: u16,
 }
 
 pub fn judge(choice: Choice) -> Result<(), String> {
@@ -157,12 +168,13 @@ pub fn ask(driver: &[String], case: &Case) -> Result<Outcome, String> {
 /// it can look at every step.
 pub fn judge_one(name: &str, case: &Case, reply: &Reply, ask_slow: bool, tally: &mut Tally) {
     let right = case.fast(Sound);
-    let agreed = !ask_slow || case.slow() == right;
+    let old = pair::gives_old_bytes(case, &right, ask_slow).unwrap_or(true);
+    let agreed = old && (!ask_slow || case.slow() == right);
     let good = agreed && reply.outcome == right && reply.touched == 0;
     tally.count(good, || {
         let mut text = format!("{name}\n{}", show::case(case));
         if !agreed {
-            text += "fast and slow differ here\n";
+            text += "fast and slow, or two operations and one, differ here\n";
         }
         if reply.touched != 0 {
             text += &format!("touched beside the slices: {}\n", names(reply.touched));
@@ -185,9 +197,17 @@ fn judge_marked(marked: &Marked, case: &Case, reply: &Reply, tally: &mut Tally) 
     judge_one(marked.name, case, reply, case.small(), tally);
 }
 
-fn names(touched: u8) -> String {
+fn names(touched: u16) -> String {
     let slices = [
-        "vertices", "walks", "hops", "held", "settled", "parts", "answer", "?",
+        "vertices",
+        "walks",
+        "hops",
+        "held",
+        "settled",
+        "answer",
+        "list",
+        "parts",
+        "the parts' answer",
     ];
     let bits = slices.iter().enumerate();
     let set: Vec<&str> = bits
@@ -198,30 +218,24 @@ fn names(touched: u8) -> String {
 }
 
 pub fn read_reply(input: &mut impl Read, case: &Case) -> std::io::Result<Reply> {
-    let [kind] = read_bytes(input)?;
-    let right = match case.call {
-        Call::Check => CHECK,
-        Call::Run => RUN,
-    };
-    if kind != right {
-        let text = format!("kind {kind} instead of {right}");
+    let [told] = read_bytes(input)?;
+    let right = kind(case.call);
+    if told != right {
+        let text = format!("kind {told} instead of {right}");
         return Err(std::io::Error::new(ErrorKind::InvalidData, text));
     }
-    let returned = u64::from_be_bytes(read_bytes(input)?);
-    let mut outcome = Outcome {
-        returned,
-        held: case.held.clone(),
-        settled: case.settled.clone(),
-        parts: case.parts.clone(),
-        answer: case.answer.clone(),
-    };
-    if case.call == Call::Run {
+    let mut outcome = case.before();
+    outcome.returned = u64::from_be_bytes(read_bytes(input)?);
+    if case.call.runs() {
         outcome.held = read_slice(input)?;
         outcome.settled = read_slice(input)?;
-        outcome.parts = read_slice(input)?;
         outcome.answer = read_slice(input)?;
     }
-    let [touched] = read_bytes(input)?;
+    if case.call.parts() {
+        outcome.parts = read_slice(input)?;
+        outcome.parts_answer = read_slice(input)?;
+    }
+    let touched = u16::from_be_bytes(read_bytes(input)?);
     Ok(Reply { outcome, touched })
 }
 

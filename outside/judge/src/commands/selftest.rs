@@ -4,8 +4,9 @@ use super::Tally;
 use crate::cases::{big, jobs, stream};
 use crate::fast;
 use crate::mutant::{Fault, Sound};
-use crate::outcome::{Call, Case, Outcome};
-use crate::records::{Answer, Walk, WALK};
+use crate::outcome::{Case, Outcome};
+use crate::pair;
+use crate::records::{Answer, Walk, ANSWER, WALK};
 use crate::show;
 use crate::slow;
 
@@ -17,6 +18,11 @@ pub fn run<F: Fault>(seed: u64, cases: usize, fault: F) -> Result<(), String> {
         tally.count(same, || {
             told(&format!("case {number}"), &case, &fast, &slow)
         });
+        if let Some(same) = pair::gives_old_bytes(&case, &slow, case.small()) {
+            tally.count(same, || {
+                format!("case {number}: not the old bytes\n{}", show::case(&case))
+            });
+        }
         if finished(&case, &slow) {
             let stray = strayed(&case);
             tally.count(stray.is_none(), || {
@@ -56,26 +62,17 @@ pub fn jobs_for(cases: usize) -> usize {
 fn judge_big<F: Fault>(big: &big::Big, fault: F, tally: &mut Tally) {
     let case = (big.make)();
     let (fast, slow) = (case.fast(fault), case.slow());
-    let built = big.fits(refusal(&case, &fast));
-    tally.count(built && fast == slow, || {
+    let built = big.fits(case.refusal(&fast));
+    let old = pair::gives_old_bytes(&case, &fast, case.small()).unwrap_or(true);
+    tally.count(built && old && fast == slow, || {
         told(big.name, &case, &fast, &slow)
     });
 }
 
-pub fn refusal(case: &Case, outcome: &Outcome) -> (u32, u32) {
-    match case.call {
-        Call::Check => ((outcome.returned >> 32) as u32, outcome.returned as u32),
-        Call::Run => {
-            let answer = Answer::read(&outcome.answer);
-            (answer.refusal, answer.place)
-        }
-    }
-}
-
 /// An accepted run to the end.
 fn finished(case: &Case, outcome: &Outcome) -> bool {
-    let whole = case.call == Call::Run && outcome.returned == 0;
-    whole && Answer::read(&outcome.answer).finished == 1
+    let whole = case.call.runs() && outcome.answer.len() == ANSWER;
+    whole && outcome.returned == 0 && Answer::read(&outcome.answer).finished == 1
 }
 
 /// Where distances or parts and the journeys themselves disagree. Points are

@@ -1,9 +1,9 @@
 //! Refusals 1 to 7. Each number is judged over the whole of its table before
 //! the next one, since the lowest number wins before the lowest place.
 
-use crate::mutant::{Fault, Mutant};
+use crate::mutant::{Fault, Mutant, Sound};
 use crate::records::{
-    Hop, Query, Refusal, Tables, Vertex, Walk, HELD, HOP, NONE, PART, SETTLED, VERTEX, WALK,
+    Hop, Lent, Query, Refusal, Tables, Vertex, Walk, HELD, HOP, NONE, PART, SETTLED, VERTEX, WALK,
 };
 
 const MOST_VERTICES: usize = 65_536;
@@ -12,16 +12,52 @@ const MOST_LENGTH: u32 = 100_000;
 const FIRST_TIME: i32 = -86_400;
 const LAST_TIME: i32 = 172_800;
 
-/// Lengths in bytes of the held, settled and part buffers.
-pub type Lengths = [usize; 3];
+/// A lent slice: its place in refusal 1, its length in bytes, its record size.
+type Length = (usize, usize, usize);
 
 /// The check alone: 1 (places 0 to 2) to 6.
 pub fn check<F: Fault>(tables: Tables, fault: F) -> Option<Refusal> {
     sizes(tables, fault).or_else(|| contents(tables, fault))
 }
 
-/// Everything that is judged before step 0.
-pub fn judge<F: Fault>(tables: Tables, query: Query, lent: Lengths, fault: F) -> Option<Refusal> {
+/// Everything that a run judges before step 0.
+pub fn judge_run<F: Fault>(tables: Tables, query: Query, lent: &Lent, fault: F) -> Option<Refusal> {
+    let (held, settled) = (lent.held.len(), lent.settled.len());
+    judge(
+        tables,
+        query,
+        &[(3, held, HELD), (4, settled, SETTLED)],
+        fault,
+    )
+}
+
+/// Everything that the parts operation judges before its list.
+pub fn judge_parts<F: Fault>(
+    tables: Tables,
+    query: Query,
+    list: usize,
+    parts: usize,
+    fault: F,
+) -> Option<Refusal> {
+    let rows = [(4, list, SETTLED), (5, parts, PART)];
+    if fault.is(Mutant::PartsBeforeList) {
+        return judge(tables, query, &[rows[1], rows[0]], fault);
+    }
+    judge(tables, query, &rows, fault)
+}
+
+/// Everything that the one run of RULES 11.7 judges before step 0.
+pub fn judge_one_run(tables: Tables, query: Query, lent: &Lent, parts: &[u8]) -> Option<Refusal> {
+    let rows = [
+        (3, lent.held.len(), HELD),
+        (4, lent.settled.len(), SETTLED),
+        (5, parts.len(), PART),
+    ];
+    judge(tables, query, &rows, Sound)
+}
+
+/// Refusals 1 to 7 with the slices lent.
+fn judge<F: Fault>(tables: Tables, query: Query, lent: &[Length], fault: F) -> Option<Refusal> {
     if fault.is(Mutant::QueryFirst) {
         return sizes(tables, fault)
             .or_else(|| asked(tables, query, fault))
@@ -57,20 +93,20 @@ fn sizes<F: Fault>(tables: Tables, fault: F) -> Option<Refusal> {
     Some(Refusal::at(1, bad))
 }
 
-/// The lent buffers have no limits of count, only whole records.
-fn buffers<F: Fault>(tables: Tables, lent: Lengths, fault: F) -> Option<Refusal> {
-    if fault.is(Mutant::HeldCount) && lent[0] / HELD > tables.vertices.len() / VERTEX {
+/// Lent slices have no limits of count, only whole records.
+fn buffers<F: Fault>(tables: Tables, lent: &[Length], fault: F) -> Option<Refusal> {
+    let many =
+        |&(place, len, size): &Length| place == 3 && len / size > tables.vertices.len() / VERTEX;
+    if fault.is(Mutant::HeldCount) && lent.iter().any(many) {
         return Some(Refusal::at(1, 3));
     }
-    let sizes = [HELD, SETTLED, PART];
+    let passed = |place: usize| {
+        (fault.is(Mutant::BufferCut) && place == 5) || (fault.is(Mutant::ListCut) && place == 4)
+    };
     let bad = lent
         .iter()
-        .zip(sizes)
-        .position(|(len, size)| len % size != 0)?;
-    if fault.is(Mutant::BufferCut) && bad == 2 {
-        return None;
-    }
-    Some(Refusal::at(1, 3 + bad))
+        .find(|&&(place, len, size)| len % size != 0 && !passed(place))?;
+    Some(Refusal::at(1, bad.0))
 }
 
 fn contents<F: Fault>(tables: Tables, fault: F) -> Option<Refusal> {

@@ -2,7 +2,7 @@
 
 use std::fmt::Write;
 
-use super::run;
+use super::{parts, run};
 use crate::mutant::{Fault, Mutant};
 use crate::records::{
     word, Answer, Held, Lent, Part, Query, Settled, Tables, HELD, HOP, JOB, PART, SETTLED, VERTEX,
@@ -116,31 +116,38 @@ pub fn print<F: Fault>(bytes: &[u8], fault: F) -> String {
     let vertices = job.vertices.len() / VERTEX;
     let mut held = vec![0; vertices * HELD];
     let mut settled = vec![0; vertices * SETTLED];
-    let mut parts = vec![0; (job.walks.len() / WALK + 2) * PART];
     let mut lent = Lent {
         held: &mut held,
         settled: &mut settled,
-        parts: &mut parts,
     };
     let answer = run(tables, job.query, u32::MAX, &mut lent, fault);
-    lines(answer, &lent, fault)
-}
-
-fn lines<F: Fault>(answer: Answer, lent: &Lent, fault: F) -> String {
     let mut text = format!("answer {} {}\n", answer.refusal, answer.place);
     if answer.refusal != 0 && !fault.is(Mutant::JobRefusalEnd) {
         return text;
     }
+    let list = &settled[..answer.settled as usize * SETTLED];
+    let mut buffer = vec![0; (job.walks.len() / WALK + 2) * PART];
+    let count = parts(tables, job.query, list, &mut buffer, fault).parts;
+    let answer = Answer {
+        parts: count,
+        ..answer
+    };
+    lines(&mut text, answer, [&held, &settled, &buffer]);
+    text
+}
+
+/// The lines behind the first.
+fn lines(text: &mut String, answer: Answer, [held, settled, parts]: [&[u8]; 3]) {
     for i in 0..answer.settled as usize {
-        let Settled { vertex, distance } = Settled::read(lent.settled, i);
+        let Settled { vertex, distance } = Settled::read(settled, i);
         let _ = writeln!(text, "vertex {vertex} {distance}");
     }
     for i in 0..answer.parts as usize {
-        let Part { record, start, end } = Part::read(lent.parts, i);
+        let Part { record, start, end } = Part::read(parts, i);
         let _ = writeln!(text, "part {record} {start} {end}");
     }
     for i in 0..answer.held as usize {
-        let h = Held::read(lent.held, i);
+        let h = Held::read(held, i);
         let _ = writeln!(
             text,
             "held {} {} {} {}",
@@ -153,5 +160,4 @@ fn lines<F: Fault>(answer: Answer, lent: &Lent, fault: F) -> String {
         "end {} {} {} {}",
         a.settled, a.parts, a.held, a.finished
     );
-    text
 }

@@ -2,16 +2,18 @@
 
 mod check;
 mod job;
+mod list;
 mod parts;
 mod run;
 mod search;
 
 pub use check::check;
 pub use job::{print, read, Job};
-pub use run::run;
+pub use parts::parts;
+pub use run::{one_run, run};
 
 use crate::mutant::{Fault, Mutant};
-use crate::records::{Lent, Query, Tables, ANSWER};
+use crate::records::{Lent, Query, Tables, ANSWER, PARTS_ANSWER};
 
 /// The check as C sees it.
 pub fn call_check<F: Fault>(tables: Tables, fault: F) -> u64 {
@@ -19,6 +21,12 @@ pub fn call_check<F: Fault>(tables: Tables, fault: F) -> u64 {
         None => 0,
         Some(refusal) => u64::from(refusal.number) << 32 | u64::from(refusal.place),
     }
+}
+
+/// Whether an answer slice of this length is filled.
+fn answers<F: Fault>(answer: &[u8], size: usize, fault: F) -> bool {
+    let loose = fault.is(Mutant::AnswerLoose) && answer.len() > size;
+    answer.len() == size || loose
 }
 
 /// The run as C sees it.
@@ -30,8 +38,7 @@ pub fn call_run<F: Fault>(
     answer: &mut [u8],
     fault: F,
 ) -> u32 {
-    let loose = fault.is(Mutant::AnswerLoose) && answer.len() > ANSWER;
-    if answer.len() != ANSWER && !loose {
+    if !answers(answer, ANSWER, fault) {
         if fault.is(Mutant::AnswerLate) {
             run(tables, query, limit, &mut lent, fault);
         }
@@ -41,6 +48,29 @@ pub fn call_run<F: Fault>(
     if fault.is(Mutant::AnswerOrder) {
         std::mem::swap(&mut six.settled, &mut six.held);
     }
+    if fault.is(Mutant::RunPartCount) {
+        six.parts = six.settled;
+    }
     answer[..ANSWER].copy_from_slice(&six.bytes());
+    0
+}
+
+/// The parts operation as C sees it.
+pub fn call_parts<F: Fault>(
+    tables: Tables,
+    query: Query,
+    list: &[u8],
+    buffer: &mut [u8],
+    answer: &mut [u8],
+    fault: F,
+) -> u32 {
+    if !answers(answer, PARTS_ANSWER, fault) {
+        if fault.is(Mutant::PartsAnswerLate) {
+            parts(tables, query, list, buffer, fault);
+        }
+        return 1;
+    }
+    let three = parts(tables, query, list, buffer, fault);
+    answer[..PARTS_ANSWER].copy_from_slice(&three.bytes());
     0
 }

@@ -1,10 +1,12 @@
 //! A run: steps up to the limit, room after each of them, and the answer.
 
-use super::check::judge;
+use super::check::{judge_one_run, judge_run};
+use super::parts::Parts;
 use super::search::Search;
-use crate::mutant::{Fault, Mutant};
-use crate::records::{Answer, Held, Lent, Query, Refusal, Tables, HELD, PART, SETTLED};
+use crate::mutant::{Fault, Mutant, Sound};
+use crate::records::{Answer, Held, Lent, Query, Refusal, Tables, HELD, SETTLED};
 
+/// Settled and held.
 pub fn run<F: Fault>(
     tables: Tables,
     query: Query,
@@ -12,14 +14,13 @@ pub fn run<F: Fault>(
     lent: &mut Lent,
     fault: F,
 ) -> Answer {
-    let lengths = [lent.held.len(), lent.settled.len(), lent.parts.len()];
-    if let Some(refusal) = judge(tables, query, lengths, fault) {
+    if let Some(refusal) = judge_run(tables, query, lent, fault) {
         if fault.is(Mutant::RefusalZeroes) {
             wipe(lent);
         }
         return Answer::refused(refusal);
     }
-    let mut search = Search::new(tables, query, lent, fault);
+    let mut search = Search::new(tables, query, lent, None, fault);
     let refused = search.advance(limit_read(limit, fault));
     let Some(refusal) = refused else {
         return search.answer(limit);
@@ -30,7 +31,6 @@ pub fn run<F: Fault>(
         _ if fault.is(Mutant::RefusalKept) => {}
         8 if own => lent.held.fill(0),
         9 if own => lent.settled.fill(0),
-        10 if own => lent.parts.fill(0),
         _ => wipe(lent),
     }
     let mut answer = Answer::refused(refusal);
@@ -38,6 +38,28 @@ pub fn run<F: Fault>(
         answer.settled = settled;
     }
     answer
+}
+
+/// The one run of RULES 11.7, which writes the parts as it goes: what a run
+/// and the parts of its list are measured and held against.
+pub fn one_run(
+    tables: Tables,
+    query: Query,
+    limit: u32,
+    lent: &mut Lent,
+    parts: &mut [u8],
+) -> Answer {
+    if let Some(refusal) = judge_one_run(tables, query, lent, parts) {
+        return Answer::refused(refusal);
+    }
+    let own = Parts::new(tables, query, parts, Sound);
+    let mut search = Search::new(tables, query, lent, Some(own), Sound);
+    let Some(refusal) = search.advance(limit) else {
+        return search.answer(limit);
+    };
+    wipe(lent);
+    parts.fill(0);
+    Answer::refused(refusal)
 }
 
 fn limit_read<F: Fault>(limit: u32, fault: F) -> u32 {
@@ -53,7 +75,6 @@ fn limit_read<F: Fault>(limit: u32, fault: F) -> u32 {
 fn wipe(lent: &mut Lent) {
     lent.held.fill(0);
     lent.settled.fill(0);
-    lent.parts.fill(0);
 }
 
 impl<F: Fault> Search<'_, '_, F> {
@@ -101,13 +122,9 @@ impl<F: Fault> Search<'_, '_, F> {
         let slots = lent.settled.len() / SETTLED;
         let (tight, loose) = (Mutant::SettledRoomTight, Mutant::SettledRoomLoose);
         let nine = self.settled > room(slots, fault, tight, loose);
-        let slots = lent.parts.len() / PART;
-        let ten = self.parts > room(slots, fault, Mutant::PartRoomTight, Mutant::PartRoomLoose);
+        let ten = self.parts.as_ref().is_some_and(Parts::lack);
         if fault.is(Mutant::NineBeforeEight) && nine {
             return Some(9);
-        }
-        if fault.is(Mutant::TenBeforeNine) && ten && !eight {
-            return Some(10);
         }
         let lacks = [(8, eight), (9, nine), (10, ten)];
         let first = lacks.iter().find(|(_, lack)| *lack);
@@ -123,13 +140,17 @@ impl<F: Fault> Search<'_, '_, F> {
         if !self.fault.is(Mutant::TailKept) {
             rest(self.lent.held, self.held * HELD);
             rest(self.lent.settled, self.settled * SETTLED);
-            rest(self.lent.parts, self.parts * PART);
+        }
+        let parts = self.parts.take();
+        let count = parts.as_ref().map_or(0, |parts| parts.count);
+        if let Some(parts) = parts {
+            parts.close();
         }
         Answer {
             refusal: 0,
             place: 0,
             settled: self.settled as u32,
-            parts: self.parts as u32,
+            parts: count as u32,
             held: self.held as u32,
             finished: u32::from(finished),
         }

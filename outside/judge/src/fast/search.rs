@@ -2,7 +2,9 @@
 
 use std::cmp::Reverse;
 use std::collections::BinaryHeap;
+use std::ops::Range;
 
+use super::parts::Parts;
 use crate::mutant::{Fault, Mutant};
 use crate::records::{
     Hop, Lent, Query, Settled, Tables, Vertex, Walk, HOP, NONE, SETTLED, VERTEX, WALK,
@@ -17,6 +19,16 @@ pub struct Entry {
     pub settled: bool,
 }
 
+/// The run of the walk table that arrives at a vertex.
+pub fn walks_into(tables: Tables, vertex: u32) -> Range<usize> {
+    let vertices = tables.vertices.len() / VERTEX;
+    let first = |v: usize| match v < vertices {
+        true => Vertex::read(tables.vertices, v).first_walk as usize,
+        false => tables.walks.len() / WALK,
+    };
+    first(vertex as usize)..first(vertex as usize + 1)
+}
+
 pub struct Search<'a, 'b, F> {
     pub tables: Tables<'a>,
     pub query: Query,
@@ -28,15 +40,22 @@ pub struct Search<'a, 'b, F> {
     /// Distance in the upper half, number in the lower: the least comes first.
     heap: BinaryHeap<Reverse<u64>>,
     pub lent: &'a mut Lent<'b>,
+    /// Only the one run of RULES 11.7 writes parts as it goes.
+    pub parts: Option<Parts<'a, F>>,
     pub settled: usize,
-    pub parts: usize,
     pub held: usize,
     /// Entries dropped by the step under way; only a mutant looks at it.
     pub dropped: usize,
 }
 
 impl<'a, 'b, F: Fault> Search<'a, 'b, F> {
-    pub fn new(tables: Tables<'a>, query: Query, lent: &'a mut Lent<'b>, fault: F) -> Self {
+    pub fn new(
+        tables: Tables<'a>,
+        query: Query,
+        lent: &'a mut Lent<'b>,
+        parts: Option<Parts<'a, F>>,
+        fault: F,
+    ) -> Self {
         let less = u32::from(fault.is(Mutant::RemainingStart));
         let entry = |v| Entry {
             known: NONE,
@@ -53,14 +72,14 @@ impl<'a, 'b, F: Fault> Search<'a, 'b, F> {
             entries: (0..tables.vertices.len() / VERTEX).map(entry).collect(),
             heap: BinaryHeap::new(),
             lent,
+            parts,
             settled: 0,
-            parts: 0,
             held: 0,
             dropped: 0,
         }
     }
 
-    /// Step 0: the query's ends and the parts on its own road.
+    /// Step 0: the query's ends.
     pub fn start(&mut self) {
         let (road, o) = (self.road, self.query.offset);
         let back = road.length - o;
@@ -83,7 +102,9 @@ impl<'a, 'b, F: Fault> Search<'a, 'b, F> {
                 self.meet(vertex, Some(distance), false);
             }
         }
-        self.first_parts(road, o);
+        if let Some(parts) = &mut self.parts {
+            parts.start();
+        }
     }
 
     /// The nearest unsettled vertex within the window. Old heap entries of a
@@ -121,19 +142,13 @@ impl<'a, 'b, F: Fault> Search<'a, 'b, F> {
         self.arriving_hops(vertex, distance);
     }
 
-    /// The run of the walk table that arrives at a vertex.
     fn arriving_walks(&mut self, vertex: u32, distance: u32) {
-        let first = |v| Vertex::read(self.tables.vertices, v).first_walk as usize;
-        let next = vertex as usize + 1;
-        let end = if next < self.entries.len() {
-            first(next)
-        } else {
-            self.tables.walks.len() / WALK
-        };
         let mut before = NONE;
-        for record in first(vertex as usize)..end {
+        for record in walks_into(self.tables, vertex) {
             let walk = Walk::read(self.tables.walks, record);
-            self.arriving_part(record as u32, walk, distance);
+            if let Some(parts) = &mut self.parts {
+                parts.arriving(record as u32, walk, distance);
+            }
             let twice = self.fault.is(Mutant::ParallelOnce) && before == walk.from;
             self.meet(walk.from, Some(distance + walk.length), !twice);
             before = walk.from;

@@ -23,17 +23,20 @@ pub fn hops(tables: Tables) -> Vec<Hop> {
 }
 
 /// The least place at which a statement holds, as a refusal of this number.
-fn least(number: u64, places: usize, holds: impl Fn(usize) -> bool) -> Option<Given> {
+pub fn least(number: u64, places: usize, holds: impl Fn(usize) -> bool) -> Option<Given> {
     let place = (0..places).find(|&p| holds(p))?;
     Some((number, place as u64))
 }
 
 pub fn check(tables: Tables) -> Option<Given> {
-    lengths(tables, [0, 0, 0]).or_else(|| records(tables))
+    lengths(tables, &[]).or_else(|| records(tables))
 }
 
-/// All that goes before the room: 1 to 7 in this order.
-pub fn before_room(tables: Tables, query: Query, lent: [usize; 3]) -> Option<Given> {
+/// A lent slice: its place in refusal 1, its length, the size of a record.
+pub type Lent = (usize, usize, usize);
+
+/// 1 to 7 in this order, with what else is lent beside the tables.
+pub fn up_to_query(tables: Tables, query: Query, lent: &[Lent]) -> Option<Given> {
     lengths(tables, lent)
         .or_else(|| records(tables))
         .or_else(|| asked(tables, query))
@@ -43,15 +46,15 @@ fn cut(length: usize, size: usize) -> bool {
     length / size * size != length
 }
 
-fn lengths(tables: Tables, lent: [usize; 3]) -> Option<Given> {
+fn lengths(tables: Tables, lent: &[Lent]) -> Option<Given> {
     let (v, w, h) = (tables.vertices.len(), tables.walks.len(), tables.hops.len());
     least(1, 6, |place| match place {
         0 => cut(v, 12) || !(1..=65_536).contains(&(v / 12)),
         1 => cut(w, 16) || w / 16 > 262_144,
         2 => cut(h, 16) || h / 16 > 262_144,
-        3 => cut(lent[0], 16),
-        4 => cut(lent[1], 8),
-        _ => cut(lent[2], 12),
+        _ => lent
+            .iter()
+            .any(|&(own, length, size)| own == place && cut(length, size)),
     })
 }
 

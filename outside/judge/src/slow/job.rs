@@ -1,6 +1,6 @@
 //! The job, judged record by record from the list of causes.
 
-use super::run;
+use super::one_run;
 use crate::records::{word, Answer, Held, Lent, Part, Query, Settled, Tables};
 
 pub fn print(bytes: &[u8]) -> String {
@@ -60,9 +60,9 @@ fn answered(vertices: &[u8], walks: &[u8], hops: &[u8], query: Query) -> String 
     let lent = Lent {
         held: &mut held,
         settled: &mut settled,
-        parts: &mut parts,
     };
-    let six = run(tables, query, u32::MAX, lent);
+    // `fast` prints from the two operations: here the text is that of one run.
+    let six = one_run(tables, query, u32::MAX, lent, &mut parts);
     let mut lines = vec![format!("answer {} {}", six.refusal, six.place)];
     if six.refusal == 0 {
         lines.extend(lists(six, &settled, &parts, &held));

@@ -5,14 +5,17 @@ mod check;
 mod job;
 mod journeys;
 mod model;
+mod parts;
 mod points;
 mod run;
+mod write;
 
 pub use check::check;
 pub use job::print;
 pub use journeys::mistimed;
+pub use parts::parts;
 pub use points::uncovered;
-pub use run::run;
+pub use run::{one_run, run};
 
 use crate::records::{Lent, Query, Tables};
 
@@ -26,6 +29,23 @@ pub fn call_run(tables: Tables, query: Query, limit: u32, lent: Lent, answer: &m
     if answer.len() == 24 {
         let six = run(tables, query, limit, lent);
         answer.copy_from_slice(&six.bytes());
+        0
+    } else {
+        1
+    }
+}
+
+/// The parts operation as C sees it.
+pub fn call_parts(
+    tables: Tables,
+    query: Query,
+    list: &[u8],
+    buffer: &mut [u8],
+    answer: &mut [u8],
+) -> u32 {
+    if answer.len() == 12 {
+        let three = parts(tables, query, list, buffer);
+        answer.copy_from_slice(&three.bytes());
         0
     } else {
         1

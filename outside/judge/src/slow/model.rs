@@ -17,17 +17,22 @@ pub struct Model {
 
 impl Model {
     pub fn new(tables: Tables, query: Query) -> Self {
-        let mut model = Model {
+        let mut model = Model::plain(tables, query);
+        model.distance = model.distances();
+        model.order = model.ordered();
+        model
+    }
+
+    /// Tables and query alone, without distances and order.
+    pub fn plain(tables: Tables, query: Query) -> Self {
+        Model {
             vertices: check::vertices(tables).len(),
             walks: check::walks(tables),
             hops: check::hops(tables),
             query,
             distance: Vec::new(),
             order: Vec::new(),
-        };
-        model.distance = model.distances();
-        model.order = model.ordered();
-        model
+        }
     }
 
     pub fn place(&self) -> Walk {
@@ -158,15 +163,19 @@ impl Model {
         walks.chain(hops)
     }
 
-    /// The parts that step k writes.
+    /// The parts of step k of a run.
     pub fn parts(&self, k: usize) -> Vec<Part> {
-        let mut parts = Vec::new();
         if k == 0 {
-            self.first_parts(&mut parts);
-            return parts;
+            return self.first_parts();
         }
         let vertex = self.order[k - 1];
-        let left = self.window() - self.distance[vertex].unwrap_or(0);
+        self.parts_at(vertex, self.distance[vertex].unwrap_or(0))
+    }
+
+    /// The parts of a vertex that is settled, or listed, at this distance.
+    pub fn parts_at(&self, vertex: usize, distance: i64) -> Vec<Part> {
+        let mut parts = Vec::new();
+        let left = self.window() - distance;
         let first = self.walks.partition_point(|w| (w.to as usize) < vertex);
         let arriving = self.walks.iter().enumerate().skip(first);
         for (record, walk) in arriving.take_while(|(_, w)| w.to as usize == vertex) {
@@ -177,13 +186,16 @@ impl Model {
         parts
     }
 
-    fn first_parts(&self, parts: &mut Vec<Part>) {
+    /// The parts of step 0.
+    pub fn first_parts(&self) -> Vec<Part> {
+        let mut parts = Vec::new();
         let start = |end: i64| (end - self.window()).max(0);
         let (o, back) = (self.offset(), self.back());
-        put(parts, self.query.record, start(o), o);
+        put(&mut parts, self.query.record, start(o), o);
         if self.place().twin != NONE {
-            put(parts, self.place().twin, start(back), back);
+            put(&mut parts, self.place().twin, start(back), back);
         }
+        parts
     }
 
     /// No part at a vertex begins before the place itself on the query's road.
