@@ -1,12 +1,14 @@
 /* A map server in small: many queries at once, from threads over one copy of
  * the tables.
  *
- *   server VERTICES WALKS HOPS THREADS <queries
+ *   server VERTICES WALKS HOPS THREADS [parts] <queries
  *
- * The three words are files with the tables, as `make city` writes them. A
- * query is a line of numbers: record, offset, arrival, duration, speed. For
- * each query a line is printed, in the order in which they were asked. Where
- * the library is installed (`make install`):
+ * The first three words are files with the tables, as `make city` writes them.
+ * A query is a line of numbers: record, offset, arrival, duration, speed. For
+ * each query a line is printed, in the order in which they were asked: the list
+ * page, which needs the run alone; with "parts" the map page, which also
+ * needs the parts of the run's list. Where the library is installed (`make
+ * install`):
  *
  *   gcc -std=c11 -pthread examples/server.c $(pkg-config --cflags --libs siltbrow)
  *
@@ -20,6 +22,7 @@
 #include <pthread.h>
 #include <stdio.h>
 #include <stdlib.h>
+#include <string.h>
 #include <sys/mman.h>
 #include <sys/stat.h>
 #include <unistd.h>
@@ -36,8 +39,9 @@ typedef struct {
     int32_t arrival;
     uint32_t duration, speed;
     siltbrow_answer answer;
-    uint64_t metres; /* of covered parts, both ways of a street counted */
-    uint32_t sum;    /* over every byte that was answered */
+    siltbrow_parts_answer covered; /* with "parts" */
+    uint64_t metres;               /* of it, both ways of a street counted */
+    uint32_t sum;                  /* over every byte that was answered */
 } Query;
 
 /* What one thread lends to the library. */
@@ -47,6 +51,7 @@ typedef struct {
 } Room;
 
 static Slice vertices, walks, hops;
+static int with_parts;
 
 static Query *queries;
 static size_t query_count;
@@ -91,22 +96,33 @@ static Room make_room(void)
     Room room;
     room.held_len = SILTBROW_HELD_BYTES(vertices.len);
     room.settled_len = SILTBROW_SETTLED_BYTES(vertices.len);
-    room.parts_len = SILTBROW_PART_BYTES(walks.len);
+    room.parts_len = with_parts ? SILTBROW_PART_BYTES(walks.len) : 0;
     room.held = allocate(room.held_len);
     room.settled = allocate(room.settled_len);
     room.parts = allocate(room.parts_len);
     return room;
 }
 
-/* The one place that calls the library. */
-static siltbrow_answer ask(const Query *q, const Room *room)
+/* The vertices: all that a list page asks for. */
+static siltbrow_answer run(const Query *q, const Room *room)
 {
     uint8_t bytes[SILTBROW_ANSWER_SIZE];
     (void)siltbrow_run(vertices.bytes, vertices.len, walks.bytes, walks.len, hops.bytes, hops.len,
                        q->record, q->offset, q->arrival, q->duration, q->speed, SILTBROW_NO_LIMIT,
-                       room->held, room->held_len, room->settled, room->settled_len, room->parts,
-                       room->parts_len, bytes, sizeof bytes);
+                       room->held, room->held_len, room->settled, room->settled_len, bytes,
+                       sizeof bytes);
     return siltbrow_read_answer(bytes);
+}
+
+/* The streets, from the records that the run has settled. */
+static siltbrow_parts_answer cover(const Query *q, const Room *room)
+{
+    uint8_t bytes[SILTBROW_PARTS_ANSWER_SIZE];
+    (void)siltbrow_parts(vertices.bytes, vertices.len, walks.bytes, walks.len, hops.bytes, hops.len,
+                         q->record, q->offset, q->arrival, q->duration, q->speed, room->settled,
+                         SILTBROW_LIST_BYTES(q->answer.settled), room->parts, room->parts_len,
+                         bytes, sizeof bytes);
+    return siltbrow_read_parts(bytes);
 }
 
 static uint32_t add_up(uint32_t sum, const uint8_t *bytes, size_t len)
@@ -116,18 +132,24 @@ static uint32_t add_up(uint32_t sum, const uint8_t *bytes, size_t len)
     return sum;
 }
 
-static void answer_one(Query *q, const Room *room)
+static void answer_parts(Query *q, const Room *room)
 {
-    q->answer = ask(q, room);
-    q->metres = 0;
-    for (size_t i = 0; i < q->answer.parts; i++) {
+    q->covered = cover(q, room);
+    for (size_t i = 0; i < q->covered.parts; i++) {
         const uint8_t *part = room->parts + SILTBROW_PART_SIZE * i;
         q->metres += siltbrow_get(part + 8) - siltbrow_get(part + 4);
     }
     q->metres /= 10;
+    q->sum = add_up(q->sum, room->parts, SILTBROW_PART_SIZE * (size_t)q->covered.parts);
+}
+
+static void answer_one(Query *q, const Room *room)
+{
+    q->answer = run(q, room);
     q->sum = add_up(2166136261u, room->held, SILTBROW_HELD_SIZE * (size_t)q->answer.held);
-    q->sum = add_up(q->sum, room->settled, SILTBROW_SETTLED_SIZE * (size_t)q->answer.settled);
-    q->sum = add_up(q->sum, room->parts, SILTBROW_PART_SIZE * (size_t)q->answer.parts);
+    q->sum = add_up(q->sum, room->settled, SILTBROW_LIST_BYTES(q->answer.settled));
+    if (with_parts && q->answer.refusal == SILTBROW_ACCEPTED)
+        answer_parts(q, room);
 }
 
 /* The next query that nobody has taken, or NULL. */
@@ -169,24 +191,28 @@ static void read_queries(void)
 
 static int print_query(size_t number, const Query *q)
 {
-    siltbrow_answer a = q->answer;
-    if (a.refusal != SILTBROW_ACCEPTED)
-        printf("query %zu: refused, %s (%" PRIu32 "; %s %" PRIu32 ")\n", number,
-               siltbrow_refusal_text(a.refusal), a.refusal, siltbrow_place_text(a.refusal), a.place);
-    else
-        printf("query %zu: %" PRIu32 " corners, %" PRIu64 " m in %" PRIu32 " parts, %" PRIu32
-               " held, sum %08" PRIx32 "\n",
-               number, a.settled, q->metres, a.parts, a.held, q->sum);
-    return a.refusal != SILTBROW_ACCEPTED;
+    uint32_t run = q->answer.refusal, refusal = run != SILTBROW_ACCEPTED ? run : q->covered.refusal;
+    printf("query %zu: ", number);
+    if (refusal != SILTBROW_ACCEPTED) {
+        printf("refused, %s (%" PRIu32 "; %s %" PRIu32 ")\n", siltbrow_refusal_text(refusal), refusal,
+               siltbrow_place_text(refusal), run != SILTBROW_ACCEPTED ? q->answer.place : q->covered.place);
+        return 1;
+    }
+    printf("%" PRIu32 " corners, ", q->answer.settled);
+    if (with_parts)
+        printf("%" PRIu64 " m in %" PRIu32 " parts, ", q->metres, q->covered.parts);
+    printf("%" PRIu32 " held, sum %08" PRIx32 "\n", q->answer.held, q->sum);
+    return 0;
 }
 
 int main(int words, char **word)
 {
     enum { MOST_THREADS = 256 };
     pthread_t thread[MOST_THREADS];
-    int threads = words == 5 ? atoi(word[4]) : 0, refused = 0;
+    with_parts = words == 6 && strcmp(word[5], "parts") == 0;
+    int threads = words == 5 || with_parts ? atoi(word[4]) : 0, refused = 0;
     if (threads < 1 || threads > MOST_THREADS) {
-        fprintf(stderr, "usage: server VERTICES WALKS HOPS THREADS <queries\n");
+        fprintf(stderr, "usage: server VERTICES WALKS HOPS THREADS [parts] <queries\n");
         return 2;
     }
     vertices = map_table(word[1]);

@@ -40,16 +40,26 @@ static uint8_t held[SILTBROW_HELD_BYTES(sizeof vertices)];
 static uint8_t settled[SILTBROW_SETTLED_BYTES(sizeof vertices)];
 static uint8_t parts[SILTBROW_PART_BYTES(sizeof walks)];
 
-/* The one place that calls the library. */
-static siltbrow_answer ask(uint32_t offset)
+/* Which vertices, with what distance. */
+static siltbrow_answer run(uint32_t offset)
 {
     uint8_t bytes[SILTBROW_ANSWER_SIZE];
     /* It returns 1 only where the answer has another size. */
     (void)siltbrow_run(vertices, sizeof vertices, walks, sizeof walks, hops, sizeof hops,
                        RECORD_ASKED, offset, ARRIVAL, DURATION, SPEED, SILTBROW_NO_LIMIT, held,
-                       sizeof held, settled, sizeof settled, parts, sizeof parts, bytes,
-                       sizeof bytes);
+                       sizeof held, settled, sizeof settled, bytes, sizeof bytes);
     return siltbrow_read_answer(bytes);
+}
+
+/* Which streets, from the records that the run has settled: the zeros behind
+ * them are no list. */
+static siltbrow_parts_answer cover(uint32_t offset, uint32_t count)
+{
+    uint8_t bytes[SILTBROW_PARTS_ANSWER_SIZE];
+    (void)siltbrow_parts(vertices, sizeof vertices, walks, sizeof walks, hops, sizeof hops,
+                         RECORD_ASKED, offset, ARRIVAL, DURATION, SPEED, settled,
+                         SILTBROW_LIST_BYTES(count), parts, sizeof parts, bytes, sizeof bytes);
+    return siltbrow_read_parts(bytes);
 }
 
 static void print_vertex(const uint8_t *record)
@@ -68,17 +78,25 @@ static void print_part(const uint8_t *record)
            siltbrow_get(walk + 8) / 10.0);
 }
 
+static int refused(uint32_t refusal, uint32_t place)
+{
+    if (refusal != SILTBROW_ACCEPTED)
+        printf("refused: %s (refusal %u, place %u)\n", siltbrow_refusal_text(refusal), refusal, place);
+    return refusal != SILTBROW_ACCEPTED;
+}
+
 int main(int words, char **word)
 {
-    siltbrow_answer answer = ask(words > 1 ? (uint32_t)strtoul(word[1], NULL, 10) : 1500);
-    if (answer.refusal != SILTBROW_ACCEPTED) {
-        printf("refused: %s (refusal %u, place %u)\n", siltbrow_refusal_text(answer.refusal),
-               answer.refusal, answer.place);
+    uint32_t offset = words > 1 ? (uint32_t)strtoul(word[1], NULL, 10) : 1500;
+    siltbrow_answer answer = run(offset);
+    if (refused(answer.refusal, answer.place))
         return 1;
-    }
+    siltbrow_parts_answer covered = cover(offset, answer.settled);
+    if (refused(covered.refusal, covered.place))
+        return 1;
     for (unsigned i = 0; i < answer.settled; i++)
         print_vertex(settled + SILTBROW_SETTLED_SIZE * i);
-    for (unsigned i = 0; i < answer.parts; i++)
+    for (unsigned i = 0; i < covered.parts; i++)
         print_part(parts + SILTBROW_PART_SIZE * i);
     printf("%u vertices still held, %s\n", answer.held,
            answer.finished ? "nothing is left to settle" : "the limit came first");

@@ -55,8 +55,8 @@
  * Distances are in ticks before the arrival: a second has "speed" of them, and
  * a decimetre walked takes one. "None" is FFFFFFFF.
  *
- * It fills three lent buffers with big-endian records, and what is left of
- * each with zero. All fields have 4 bytes.
+ * It fills two lent buffers with big-endian records, and what is left of each
+ * with zero. All fields have 4 bytes.
  *
  *   held,    16 bytes: vertex, distance or none, state (0 unsettled,
  *                      1 settled), remaining: how many of its departing
@@ -64,19 +64,18 @@
  *                      order of vertex. These are the vertices that the search
  *                      has met and still needs.
  *   settled,  8 bytes: vertex, distance; in the order of settling
- *   parts,   12 bytes: walk record, start, end: from there to there the walk
- *                      is covered, both ends included; in the order found. One
- *                      walk can have two parts.
  *
- * One held and one settled record for each vertex, and two parts more than
- * there are walks, are always enough. Less may do: a run is refused only if
- * what it has to write, or holds after one of its steps, does not fit.
+ * One held and one settled record for each vertex are always enough. Less may
+ * do: a run is refused only if what it has to write, or holds after one of its
+ * steps, does not fit.
  *
  * The answer is one more slice, of 24 bytes: six numbers of 4 bytes each,
  * big-endian.
  *
  *   refusal, place: both 0 where nothing is refused
- *   settled count, part count, held count: the records written; 0 in a refusal
+ *   settled count: the records written; 0 in a refusal
+ *   part count: always 0, parts are made by siltbrow_parts
+ *   held count: the records written; 0 in a refusal
  *   finished: 1 if nothing within the duration is left to settle, 0 if the
  *             limit came first; 0 in a refusal
  *
@@ -85,17 +84,58 @@
  *
  *   refusals 1 to 6: as in the check; and 1 also where the length of a lent
  *                    buffer is no whole number of records (place: 3 held,
- *                    4 settled, 5 parts)
+ *                    4 settled)
  *   refusal 7:  the query (place: 0 record, 1 offset, 2 arrival, 3 duration,
  *               4 speed)
  *   refusal 8:  too little room for held records (place: the step)
  *   refusal 9:  too little room for settled records (the step)
- *   refusal 10: too little room for parts (the step)
  *
- * The lowest number is given, then the lowest place; but of 8 to 10 that of
+ * The lowest number is given, then the lowest place; but of 8 and 9 that of
  * the earliest step, then the lowest number. Step 0 comes before any vertex is
- * settled. Refusals 1 to 7 change no byte of the three lent buffers; 8 to 10
- * leave all three zero.
+ * settled. Refusals 1 to 7 change no byte of the two lent buffers; 8 and 9
+ * leave both zero.
+ *
+ * siltbrow_parts tells which parts of the walks are covered, from a list of
+ * settled vertices that it only reads. The query is that of the run, without
+ * its limit. A page that shows no streets has no need of it.
+ *
+ *   list,   8 bytes a record: vertex, distance; any vertices that exist and
+ *           differ, in any order, at distances up to the duration in ticks
+ *   parts, 12 bytes a record: walk record, start, end: from there to there the
+ *           walk is covered, both ends included; first those at the query
+ *           place (step 0), then those of each entry of the list in turn. One
+ *           walk can have two parts. What is left of the buffer is zero.
+ *
+ * The list is the slice as it is given. For the list of a run that is 8 bytes
+ * times its settled count (SILTBROW_LIST_BYTES), and not its whole settled
+ * buffer: the zeros behind the list would be read as vertex 0 at distance 0.
+ * Two such records are refused as a repeat. One of them, where vertex 0 is not
+ * settled, is not, and gives parts that need not be covered.
+ *
+ * Two parts more than there are walks are always enough, whatever the list.
+ *
+ * The answer is one more slice, of 12 bytes: three numbers of 4 bytes each,
+ * big-endian.
+ *
+ *   refusal, place: both 0 where nothing is refused
+ *   part count: the records written; 0 in a refusal
+ *
+ * It returns 0, for a refusal too. Where the answer slice is not 12 bytes it
+ * returns 1 and writes nothing at all.
+ *
+ *   refusals 1 to 6: as in the check; and 1 also where the length of the list
+ *                    or of the part buffer is no whole number of records
+ *                    (place: 4 list, 5 parts)
+ *   refusal 7:  the query, as in the run
+ *   refusal 21: an entry of the list: its vertex does not exist, an earlier
+ *               entry has it, or its distance is above the duration in ticks
+ *               (place: the entry, counted from 0)
+ *   refusal 10: too little room for parts (place: the step: 0 for the parts
+ *               at the query place, otherwise the entry of the list plus 1)
+ *
+ * They are judged in this order, so that 21 comes before 10, and of one number
+ * the lowest place is given. Refusals 1 to 7 and 21 change no byte of the part
+ * buffer; 10 leaves it zero. The list and a run's buffers are never written.
  *
  * siltbrow_frame answers the frame of a settled list on the map: the smallest
  * and the largest of each coordinate of the listed vertices. It reads the
@@ -127,13 +167,14 @@
  * The lowest number is given, then the lowest place.
  *
  * Until it returns, a call uses its buffers and its answer alone: they overlap
- * neither one another nor the tables.
+ * neither one another nor what the call reads.
  *
  * What a call costs:
  *
- * - Each run checks its tables first, which takes as long as siltbrow_check.
- *   At the full size of 65,536 vertices and 9.2 MB that is some 10 to 100 ms,
- *   more than the search of a short query. docs/BENCH.md has the times.
+ * - Each run checks its tables first, which takes as long as siltbrow_check,
+ *   and so does each siltbrow_parts. At the full size of 65,536 vertices and
+ *   9.2 MB that is some 10 to 100 ms, more than the search of a short query.
+ *   docs/BENCH.md has the times.
  * - Vertices that lie near one another should have near numbers: with numbers
  *   that say nothing of the place the check takes up to nine times as long.
  * - Every lent buffer is written whole, with zero behind the records. A buffer
@@ -154,10 +195,15 @@
 #include <string.h>
 
 /* The second number moves where a call changes, the third where only the
- * inside does; the first becomes 1 when all calls are there. */
-#define SILTBROW_VERSION "0.2.0"
+ * inside does; the first becomes 1 when all calls are there.
+ *
+ * 0.3: siltbrow_run has lost its part buffer, its part count is always 0 and
+ *      refusal 10 is gone from it; siltbrow_parts makes the parts. A page that
+ *      shows streets calls it with the records that the run has settled.
+ * 0.2: siltbrow_frame is new. */
+#define SILTBROW_VERSION "0.3.0"
 #define SILTBROW_VERSION_MAJOR 0
-#define SILTBROW_VERSION_MINOR 2
+#define SILTBROW_VERSION_MINOR 3
 #define SILTBROW_VERSION_PATCH 0
 
 #ifdef __cplusplus
@@ -175,16 +221,24 @@ uint32_t siltbrow_run(const uint8_t *vertices, size_t vertices_len,
                       uint32_t duration, uint32_t speed, uint32_t limit,
                       uint8_t *held, size_t held_len,
                       uint8_t *settled, size_t settled_len,
-                      uint8_t *parts, size_t parts_len,
                       uint8_t *answer, size_t answer_len);
+
+uint32_t siltbrow_parts(const uint8_t *vertices, size_t vertices_len,
+                        const uint8_t *walks, size_t walks_len,
+                        const uint8_t *hops, size_t hops_len,
+                        uint32_t record, uint32_t offset, int32_t arrival,
+                        uint32_t duration, uint32_t speed,
+                        const uint8_t *list, size_t list_len,
+                        uint8_t *parts, size_t parts_len,
+                        uint8_t *answer, size_t answer_len);
 
 uint32_t siltbrow_frame(const uint8_t *vertices, size_t vertices_len,
                         const uint8_t *list, size_t list_len,
                         const uint8_t *coordinates, size_t coordinates_len,
                         uint8_t *answer, size_t answer_len);
 
-/* The bytes of each record, of a point of the coordinate table, and of the
- * answer of a run or a frame. */
+/* The bytes of each record, of a point of the coordinate table, of the answer
+ * of a run or a frame, and of that of siltbrow_parts. */
 #define SILTBROW_VERTEX_SIZE 12u
 #define SILTBROW_WALK_SIZE 16u
 #define SILTBROW_HOP_SIZE 16u
@@ -193,6 +247,7 @@ uint32_t siltbrow_frame(const uint8_t *vertices, size_t vertices_len,
 #define SILTBROW_PART_SIZE 12u
 #define SILTBROW_POINT_SIZE 8u
 #define SILTBROW_ANSWER_SIZE 24u
+#define SILTBROW_PARTS_ANSWER_SIZE 12u
 
 /* "None" as a distance, and "no twin". */
 #define SILTBROW_NONE 0xFFFFFFFFu
@@ -210,8 +265,8 @@ uint32_t siltbrow_frame(const uint8_t *vertices, size_t vertices_len,
 #define SILTBROW_MAX_DURATION 86400u
 #define SILTBROW_MAX_SPEED 100u
 
-/* The refusals: 1 to 10 of the check and of a run; 1, 21, 23 and 24 of a
- * frame. */
+/* The refusals: 1 to 6 of the check; 1 to 9 of a run; 1 to 7, 21 and 10 of
+ * parts; 1, 21, 23 and 24 of a frame. */
 #define SILTBROW_ACCEPTED 0u
 #define SILTBROW_BAD_LENGTH 1u
 #define SILTBROW_BAD_WALK 2u
@@ -227,13 +282,17 @@ uint32_t siltbrow_frame(const uint8_t *vertices, size_t vertices_len,
 #define SILTBROW_BAD_POINT 23u
 #define SILTBROW_EMPTY_LIST 24u
 
+/* The bytes of a list, from the settled count of a run: what siltbrow_parts and
+ * siltbrow_frame are given of the settled buffer. */
+#define SILTBROW_LIST_BYTES(settled) ((size_t)(settled) * SILTBROW_SETTLED_SIZE)
+
 /* Bytes that are always enough, from the bytes of a table: for buffers that
  * are arrays as well as for those that are allocated. */
 #define SILTBROW_HELD_BYTES(vertices_len) ((vertices_len) / SILTBROW_VERTEX_SIZE * SILTBROW_HELD_SIZE)
 #define SILTBROW_SETTLED_BYTES(vertices_len) ((vertices_len) / SILTBROW_VERTEX_SIZE * SILTBROW_SETTLED_SIZE)
 #define SILTBROW_PART_BYTES(walks_len) (((walks_len) / SILTBROW_WALK_SIZE + 2u) * SILTBROW_PART_SIZE)
 
-/* The answer of a run. */
+/* The answer of a run; "parts" is 0. */
 typedef struct siltbrow_answer {
     uint32_t refusal;
     uint32_t place;
@@ -242,6 +301,13 @@ typedef struct siltbrow_answer {
     uint32_t held;
     uint32_t finished;
 } siltbrow_answer;
+
+/* The answer of siltbrow_parts. */
+typedef struct siltbrow_parts_answer {
+    uint32_t refusal;
+    uint32_t place;
+    uint32_t parts;
+} siltbrow_parts_answer;
 
 /* The answer of siltbrow_frame. */
 typedef struct siltbrow_frame_answer {
@@ -304,6 +370,16 @@ static inline siltbrow_answer siltbrow_read_answer(const uint8_t *bytes)
     return answer;
 }
 
+/* The answer in the 12 bytes that siltbrow_parts has filled. */
+static inline siltbrow_parts_answer siltbrow_read_parts(const uint8_t *bytes)
+{
+    siltbrow_parts_answer answer;
+    answer.refusal = siltbrow_get(bytes);
+    answer.place = siltbrow_get(bytes + 4);
+    answer.parts = siltbrow_get(bytes + 8);
+    return answer;
+}
+
 /* The answer in the 24 bytes that siltbrow_frame has filled. */
 static inline siltbrow_frame_answer siltbrow_read_frame(const uint8_t *bytes)
 {
@@ -343,7 +419,7 @@ static inline const char *siltbrow_refusal_text(uint32_t refusal)
     case SILTBROW_HELD_ROOM: return "there is too little room for held records";
     case SILTBROW_SETTLED_ROOM: return "there is too little room for settled records";
     case SILTBROW_PART_ROOM: return "there is too little room for parts";
-    case SILTBROW_BAD_ENTRY: return "an entry of the list names no vertex, or one that an earlier entry has";
+    case SILTBROW_BAD_ENTRY: return "an entry of the list names no vertex, one that an earlier entry has or, for parts, a distance above the duration";
     case SILTBROW_BAD_POINT: return "a coordinate is not finite";
     case SILTBROW_EMPTY_LIST: return "the list is empty";
     default: return "there is no such refusal";
@@ -362,8 +438,8 @@ static inline const char *siltbrow_place_text(uint32_t refusal)
     case SILTBROW_BAD_VERTEX: return "vertex record";
     case SILTBROW_BAD_QUERY: return "field: 0 record, 1 offset, 2 arrival, 3 duration, 4 speed";
     case SILTBROW_HELD_ROOM:
-    case SILTBROW_SETTLED_ROOM:
-    case SILTBROW_PART_ROOM: return "step";
+    case SILTBROW_SETTLED_ROOM: return "step";
+    case SILTBROW_PART_ROOM: return "step: 0 at the query place, otherwise the entry of the list plus 1";
     case SILTBROW_BAD_ENTRY: return "entry of the list";
     case SILTBROW_BAD_POINT: return "vertex";
     default: return "nothing";

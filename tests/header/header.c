@@ -50,18 +50,28 @@ static void fill(void)
 }
 
 static siltbrow_answer ask(uint32_t record, uint32_t offset, int32_t arrival, uint32_t duration,
-                           uint32_t speed, size_t held_len, size_t settled_len, size_t parts_len)
+                           uint32_t speed, size_t held_len, size_t settled_len)
 {
     uint8_t bytes[SILTBROW_ANSWER_SIZE];
     (void)siltbrow_run(vertices, sizeof vertices, walks, sizeof walks, hops, sizeof hops, record,
                        offset, arrival, duration, speed, SILTBROW_NO_LIMIT, held, held_len, settled,
-                       settled_len, parts, parts_len, bytes, sizeof bytes);
+                       settled_len, bytes, sizeof bytes);
     return siltbrow_read_answer(bytes);
 }
 
 static siltbrow_answer ask_fully(uint32_t duration, uint32_t speed)
 {
-    return ask(0, 0, SILTBROW_MAX_TIME, duration, speed, sizeof held, sizeof settled, sizeof parts);
+    return ask(0, 0, SILTBROW_MAX_TIME, duration, speed, sizeof held, sizeof settled);
+}
+
+/* The parts of the first bytes of the settled buffer, with the widest query. */
+static siltbrow_parts_answer cover(uint32_t record, uint32_t offset, size_t list_len, size_t parts_len)
+{
+    uint8_t bytes[SILTBROW_PARTS_ANSWER_SIZE];
+    (void)siltbrow_parts(vertices, sizeof vertices, walks, sizeof walks, hops, sizeof hops, record,
+                         offset, SILTBROW_MAX_TIME, SILTBROW_MAX_DURATION, SILTBROW_MAX_SPEED,
+                         settled, list_len, parts, parts_len, bytes, sizeof bytes);
+    return siltbrow_read_parts(bytes);
 }
 
 static void refused(siltbrow_answer answer, uint32_t refusal, uint32_t place, const char *what)
@@ -128,23 +138,70 @@ static void query_test(void)
 {
     int32_t late = SILTBROW_MAX_TIME;
     uint32_t longest = SILTBROW_MAX_LENGTH, day = SILTBROW_MAX_DURATION, fast = SILTBROW_MAX_SPEED;
-    size_t h = sizeof held, s = sizeof settled, p = sizeof parts;
+    size_t h = sizeof held, s = sizeof settled;
     siltbrow_answer all = ask_fully(day, fast);
-    count(all.refusal == SILTBROW_ACCEPTED && all.settled == 2 && all.parts == 2 && all.finished == 1,
+    count(all.refusal == SILTBROW_ACCEPTED && all.settled == 2 && all.parts == 0 && all.finished == 1,
           "the widest query is accepted, with the room that is always enough");
     count(siltbrow_get(settled) == 1 && siltbrow_get(settled + 4) == 0, "the place itself is settled first");
-    count(ask(0, longest / 2, late, day, fast, h, s, p).parts == 4, "a place in the middle gives two parts more than there are walks");
-    refused(ask(2, 0, late, day, fast, h, s, p), SILTBROW_BAD_QUERY, 0, "no such walk");
-    refused(ask(0, longest + 1, late, day, fast, h, s, p), SILTBROW_BAD_QUERY, 1, "an offset beyond the end");
-    refused(ask(0, 0, late + 1, day, fast, h, s, p), SILTBROW_BAD_QUERY, 2, "an arrival that is too late");
+    refused(ask(2, 0, late, day, fast, h, s), SILTBROW_BAD_QUERY, 0, "no such walk");
+    refused(ask(0, longest + 1, late, day, fast, h, s), SILTBROW_BAD_QUERY, 1, "an offset beyond the end");
+    refused(ask(0, 0, late + 1, day, fast, h, s), SILTBROW_BAD_QUERY, 2, "an arrival that is too late");
     refused(ask_fully(day + 1, fast), SILTBROW_BAD_QUERY, 3, "a duration that is too long");
     refused(ask_fully(day, fast + 1), SILTBROW_BAD_QUERY, 4, "a speed that is too high");
-    refused(ask(0, 0, late, day, fast, h - 1, s, p), SILTBROW_BAD_LENGTH, 3, "a cut held record");
-    refused(ask(0, 0, late, day, fast, h, s - 1, p), SILTBROW_BAD_LENGTH, 4, "a cut settled record");
-    refused(ask(0, 0, late, day, fast, h, s, p - 1), SILTBROW_BAD_LENGTH, 5, "a cut part");
-    refused(ask(0, 0, late, day, fast, 0, s, p), SILTBROW_HELD_ROOM, 0, "no room for held records");
-    refused(ask(0, 0, late, day, fast, h, 0, p), SILTBROW_SETTLED_ROOM, 1, "no room for settled records");
-    refused(ask(0, 0, late, day, fast, h, s, 0), SILTBROW_PART_ROOM, 0, "no room for parts");
+    refused(ask(0, 0, late, day, fast, h - 1, s), SILTBROW_BAD_LENGTH, 3, "a cut held record");
+    refused(ask(0, 0, late, day, fast, h, s - 1), SILTBROW_BAD_LENGTH, 4, "a cut settled record");
+    refused(ask(0, 0, late, day, fast, 0, s), SILTBROW_HELD_ROOM, 0, "no room for held records");
+    refused(ask(0, 0, late, day, fast, h, 0), SILTBROW_SETTLED_ROOM, 1, "no room for settled records");
+}
+
+/* Whether every byte of the part buffer is this one. */
+static int parts_are(uint8_t byte)
+{
+    for (size_t i = 0; i < sizeof parts; i++)
+        if (parts[i] != byte)
+            return 0;
+    return 1;
+}
+
+/* A refusal of parts: it leaves the buffer zero where it is 10, and otherwise
+ * as it was. */
+static void uncovered(uint32_t record, size_t list_len, size_t parts_len, uint32_t refusal, uint32_t place, const char *what)
+{
+    memset(parts, 7, sizeof parts);
+    siltbrow_parts_answer answer = cover(record, SILTBROW_MAX_LENGTH / 2, list_len, parts_len);
+    count(answer.refusal == refusal && answer.place == place && answer.parts == 0, what);
+    if (refusal == SILTBROW_PART_ROOM)
+        memset(parts + parts_len, 0, sizeof parts - parts_len);
+    count(parts_are(refusal == SILTBROW_PART_ROOM ? 0 : 7), "the bytes that a refusal leaves");
+}
+
+static void parts_test(void)
+{
+    uint32_t half = SILTBROW_MAX_LENGTH / 2, farthest = SILTBROW_MAX_DURATION * SILTBROW_MAX_SPEED;
+    size_t p = sizeof parts;
+    siltbrow_answer all = ask(0, half, SILTBROW_MAX_TIME, SILTBROW_MAX_DURATION, SILTBROW_MAX_SPEED, sizeof held, sizeof settled);
+    size_t l = SILTBROW_LIST_BYTES(all.settled);
+    count(l == sizeof settled, "the list of a run that settles all");
+    siltbrow_parts_answer covered = cover(0, half, l, p);
+    count(covered.refusal == SILTBROW_ACCEPTED && covered.place == 0 && covered.parts == 4,
+          "a place in the middle gives two parts more than there are walks");
+    count(siltbrow_get(parts) == 0 && siltbrow_get(parts + 4) == 0 && siltbrow_get(parts + 8) == half, "the first part ends at the place");
+    count(cover(0, half, 0, p).parts == 2 && siltbrow_get(parts + 2 * SILTBROW_PART_SIZE) == 0, "an empty list gives the parts of step 0, and zeros");
+    count(siltbrow_parts(vertices, sizeof vertices, walks, sizeof walks, hops, sizeof hops, 0, half, 0, 1, 1, settled, l,
+                         parts, p, NULL, 0) == 1, "an answer that is too short");
+    uncovered(2, l, p, SILTBROW_BAD_QUERY, 0, "no such walk");
+    uncovered(0, l - 1, p, SILTBROW_BAD_LENGTH, 4, "a cut entry");
+    uncovered(0, l, p - 1, SILTBROW_BAD_LENGTH, 5, "a cut part");
+    uncovered(0, l, SILTBROW_PART_SIZE, SILTBROW_PART_ROOM, 0, "no room for the parts of step 0");
+    uncovered(0, l, 3 * SILTBROW_PART_SIZE, SILTBROW_PART_ROOM, 2, "no room for the parts of the last entry");
+    siltbrow_put(settled + 12, farthest + 1);
+    uncovered(0, l, 0, SILTBROW_BAD_ENTRY, 1, "a distance above the duration, before all room");
+    siltbrow_put(settled + 12, farthest);
+    count(cover(0, half, l, p).parts == 3, "a distance of the whole duration gives no part");
+    siltbrow_put(settled + 8, siltbrow_get(settled));
+    uncovered(0, l, p, SILTBROW_BAD_ENTRY, 1, "a vertex twice");
+    siltbrow_put(settled + 8, 2);
+    uncovered(0, l, p, SILTBROW_BAD_ENTRY, 1, "no such vertex");
 }
 
 static void count_test(void)
@@ -220,6 +277,7 @@ int main(void)
     bytes_test();
     table_test();
     query_test();
+    parts_test();
     count_test();
     frame_test();
     text_test();

@@ -20,7 +20,7 @@ static uint8_t points[VERTICES * SILTBROW_POINT_SIZE];
 static uint8_t answer[SILTBROW_ANSWER_SIZE];
 
 static uint32_t limit;
-static size_t held_len;
+static size_t held_len, list_len;
 static const uint8_t *top; /* where the frame of the caller lies */
 
 /* A grid of streets for one way each, there and back. */
@@ -50,7 +50,18 @@ static void *run(void *unused)
     top = &here;
     (void)siltbrow_run(vertices, sizeof vertices, walks, sizeof walks, NULL, 0, WALKS / 2, 10, 36000,
                        SILTBROW_MAX_DURATION, 14, limit, held, held_len, settled, sizeof settled,
-                       parts, sizeof parts, answer, sizeof answer);
+                       answer, sizeof answer);
+    return unused;
+}
+
+/* The parts of the list that stands in the settled buffer. */
+static void *cover(void *unused)
+{
+    uint8_t here = 0;
+    top = &here;
+    (void)siltbrow_parts(vertices, sizeof vertices, walks, sizeof walks, NULL, 0, WALKS / 2, 10, 36000,
+                         SILTBROW_MAX_DURATION, 14, settled, list_len, parts, sizeof parts, answer,
+                         SILTBROW_PARTS_ANSWER_SIZE);
     return unused;
 }
 
@@ -96,8 +107,8 @@ int main(void)
 {
     static const uint32_t limits[] = {0, 1, 300, 5000, VERTICES / 2, SILTBROW_NO_LIMIT};
     static const size_t rooms[] = {VERTICES, 4000, 600, 0};
-    size_t most = 0;
-    uint32_t whole = 0; /* runs that settle every vertex */
+    size_t most = 0, covering = 0;
+    uint32_t whole = 0; /* runs that settle every vertex, and whose parts are made */
     make_grid();
     for (size_t i = 0; i < sizeof limits / sizeof *limits; i++)
         for (size_t j = 0; j < sizeof rooms / sizeof *rooms; j++) {
@@ -105,15 +116,19 @@ int main(void)
             held_len = rooms[j] * SILTBROW_HELD_SIZE;
             size_t depth = used(run);
             most = depth > most ? depth : most;
-            whole += siltbrow_read_answer(answer).settled == VERTICES;
+            list_len = SILTBROW_LIST_BYTES(siltbrow_read_answer(answer).settled);
+            depth = used(cover);
+            covering = depth > covering ? depth : covering;
+            whole += list_len == sizeof settled && siltbrow_read_parts(answer).parts >= WALKS;
         }
     size_t depth = used(check);
     for (uint32_t v = 0; v < VERTICES; v++)
         siltbrow_put(settled + 8 * v, v);
     size_t framing = used(frame);
     int framed = siltbrow_read_frame(answer).refusal == SILTBROW_ACCEPTED;
-    printf("a check uses %zu bytes of stack, a run at most %zu, a frame %zu\n", depth, most, framing);
-    int good = whole > 0 && framed && depth > 1000 && most > 1000 && framing > 1000 && depth < MOST && most < MOST && framing < MOST;
+    printf("a check uses %zu bytes of stack, a run at most %zu, parts at most %zu, a frame %zu\n", depth, most, covering, framing);
+    int good = whole > 0 && framed && depth > 1000 && most > 1000 && covering > 1000 && framing > 1000 && depth < MOST && most < MOST
+               && covering < MOST && framing < MOST;
     printf("%d passed, %d failed\n", good, !good);
     return !good;
 }
