@@ -9,7 +9,7 @@ use lib.ListN.{length, getD, take, drop, set, length-append, length-drop, drop-o
 use lib.Seq.{sets-eq, take-at, drop-append-add, drop-drop, length-take-le, take-all, getD-append-add, getD-take, getD-drop}
 use borrow.Rule.Slice.PartMut.{putMid}
 use Rattle.journeys.specs.Bytes.{be32, word}
-use Rattle.words.specs.Written.{written}
+use Rattle.words.specs.Written.{written, swapped}
 
 -- four stores, as the code numbers their places
 pub four : (l : List ℕ) (i a b c d : ℕ) → i + 4 ≤ length l
@@ -124,6 +124,23 @@ be32-word a b x =
     let z : length a + 0 ≡ length a = omega arith in
     let first = rw z at (getD-append-add a l 0 0) in
     rw append-assoc (rw (first, getD-append-add a l 1 0, getD-append-add a l 2 0, getD-append-add a l 3 0) (word-back x))
+
+-- ---- bytes the other way round
+bytes-apart : (a b c d x : ℕ) → a < 256 → b < 256 → c < 256 → d < 256 → x ≡ a * 16777216 + b * 65536 + c * 256 + d
+    → (x / 16777216 ≡ a) × (x / 65536 % 256 ≡ b) × (x / 256 % 256 ≡ c) × (x % 256 ≡ d)
+bytes-apart a b c d x ha hb hc hd e = (omega arith, omega arith, omega arith, omega arith)
+
+pub swapped-read : (a b c d x : ℕ) → a < 256 → b < 256 → c < 256 → d < 256 → x ≡ d * 16777216 + c * 65536 + b * 256 + a
+    → swapped x ≡ a * 16777216 + b * 65536 + c * 256 + d
+swapped-read a b c d x ha hb hc hd e =
+    let p = bytes-apart d c b a x hd hc hb ha e in
+    rw (p .0, p .1, p .2, p .3)
+
+pub swapped-word : (x y : ℕ) → x < 4294967296 → y ≡ swapped x → y % 256 ∷ y / 256 % 256 ∷ y / 65536 % 256 ∷ y / 16777216 ∷ [] ≡ word x
+unfolding word
+swapped-word x y h e =
+    let p = bytes-apart (x % 256) (x / 256 % 256) (x / 65536 % 256) (x / 16777216) y (omega arith) (omega arith) (omega arith) (omega arith) e in
+    rw (p .0, p .1, p .2, p .3)
 
 -- what stands behind is as it was
 pub rest-kept : (p l : List ℕ) (k : ℕ) → getD (p ++ drop (length p) l) (length p + k) 0 ≡ getD l (length p + k) 0

@@ -12,7 +12,7 @@ ghost use Rattle.journeys.specs.Bytes.{be16, be32, clock, clocked};
 ghost use Rattle.journeys.specs.Refusals as refusals;
 ghost use Rattle.words.specs.Quantities.{secondsOf, DayTime, ticksBefore};
 ghost use Rattle.words.specs.Told.{told};
-ghost use Rattle.words.specs.Written.{written};
+ghost use Rattle.words.specs.Written.{written, swapped};
 
 // Seconds from midnight of the service day, ticks, and decimetres on a walk record: three quantities, joined by the conversions below alone.
 pub struct Seconds(pub i32);
@@ -50,18 +50,31 @@ pub fn lesser(a: usize, b: usize) -> usize
     if a < b { a } else { b }
 }
 
-// Four bytes, the first the most significant. They are passed by value, so that a read compiles to one load and a byte swap.
+// Four bytes, the first the most significant.
 pub fn word(a: u8, b: u8, c: u8, d: u8) -> u32
     ensures { λ r. ⌜ r ≡ a * 16777216 + b * 65536 + c * 256 + d ⌝ }
 {
     (a as u32) * 16777216 + (b as u32) * 65536 + (c as u32) * 256 + (d as u32)
 }
 
+// The bytes of a number the other way round. The machine has its own bytes that way: so a read compiles to one load and a byte swap, and a
+// write to a byte swap and one store.
+fn swap(x: u32) -> u32
+    ensures { λ r. ⌜ r ≡ swapped x ⌝ }
+{
+    word(
+        (x % 256) as u8,
+        (x / 256 % 256) as u8,
+        (x / 65536 % 256) as u8,
+        (x / 16777216) as u8,
+    )
+}
+
 pub fn word_at(s: &[u8], at: usize) -> u32
     requires { ⌜ at + 4 ≤ length (now s) ⌝ }
     ensures { λ r. ⌜ r ≡ be32 (now (s .entry)) at ⌝ }
 {
-    word(s[at], s[at + 1], s[at + 2], s[at + 3])
+    swap(word(s[at + 3], s[at + 2], s[at + 1], s[at]))
 }
 
 fn half(a: u8, b: u8) -> u32
@@ -82,10 +95,11 @@ pub fn put_word(out: &mut [u8], at: usize, x: u32)
     requires { ⌜ at + 4 ≤ length (now out) ⌝ }
     ensures { λ _. ⌜ now (out .exit) ≡ written (now (out .entry)) at (bytes.word x) ⌝ }
 {
-    out[at] = (x / 16777216) as u8;
-    out[at + 1] = (x / 65536 % 256) as u8;
-    out[at + 2] = (x / 256 % 256) as u8;
-    out[at + 3] = (x % 256) as u8;
+    let swapped = swap(x);
+    out[at] = (swapped % 256) as u8;
+    out[at + 1] = (swapped / 256 % 256) as u8;
+    out[at + 2] = (swapped / 65536 % 256) as u8;
+    out[at + 3] = (swapped / 16777216) as u8;
 }
 
 // Every byte becomes zero.
