@@ -1,4 +1,5 @@
 pub mod Scan
+pub mod InOrder
 pub mod Vertices
 pub mod Whole
 pub mod Determined

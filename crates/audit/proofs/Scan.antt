@@ -2,13 +2,13 @@
 use mathlib.Core.Path.{_≡_, refl, sym, ap, _∙_}
 use mathlib.Core.Logic.{⊎-elim, _≢_}
 use mathlib.Core.Bool.{Bool, true, false}
-use Prim.Native.Nat.{ℕ, zero, suc, _+_, _-_, _≤_, _<_}
-use native.Mathlib.Nat.{sub-zero}
+use Prim.Native.Nat.{ℕ, zero, suc, _+_, _≤_, _<_}
+use native.Mathlib.Nat.{zero-add}
 use native.Mathlib.Omega.{arith}
 use lib.Dec.{eqb}
 use borrow.Author.Tests.{eq-eqb, eqb-true}
 use Rattle.journeys.specs.Refusals.{Refusal, fine, unless, orElse, firstFrom, firstBad}
-use Rattle.journeys.proofs.Tests.{split, never}
+use Rattle.journeys.proofs.Tests.{split, never, same-or-below}
 use Rattle.journeys.proofs.Refusals.{or-first, or-next, unless-good, unless-bad}
 
 abbrev pub refusing : ℕ → (ℕ → Bool) → ℕ → Refusal
@@ -30,6 +30,11 @@ or-assoc a b c =
         let n : a .number ≢ 0 = λ (e : a .number ≡ 0). never (eq-eqb (a .number) 0 e) t in
         ap (λ (x : Refusal). orElse x c) (or-first a b n) ∙ or-first a c n ∙ sym (or-first a (orElse b c) n)
 
+or-none : (good : Bool) (number place : ℕ) → 0 < number → orElse (unless good number place) fine ≡ unless good number place
+unfolding unless
+or-none true number place p = or-next fine fine refl
+or-none false number place p = or-first (record { number = number; place = place }) fine (λ z. omega arith)
+
 -- ---- a scan
 pub scan-append : (f : ℕ → Refusal) (m n i : ℕ) → firstFrom f (m + n) i ≡ orElse (firstFrom f m i) (firstFrom f n (i + m))
 unfolding firstFrom
@@ -43,6 +48,10 @@ scan-append f (suc m) n i =
     ap (λ (x : ℕ). firstFrom f x i) e
     ∙ ap (orElse (f i)) (scan-append f m n (i + 1) ∙ ap (λ (x : ℕ). orElse (firstFrom f m (i + 1)) (firstFrom f n x)) k)
     ∙ sym (or-assoc (f i) (firstFrom f m (i + 1)) (firstFrom f n (i + suc m)))
+
+pub none-more : (f : ℕ → Refusal) (i : ℕ) → ((k : ℕ) → k < i → f k .number ≡ 0) → f i .number ≡ 0 → (k : ℕ) → k < i + 1 → f k .number ≡ 0
+none-more f i before e k l =
+    ⊎-elim (λ (q : k ≡ i). rw q e) (λ (q : k < i). before k q) (same-or-below (let m : k ≤ i = omega arith in m))
 
 module _ (number : ℕ) (good : ℕ → Bool) where
   pub scan-step : (m n i : ℕ) → m ≡ suc n → good i ≡ true → firstFrom (refusing number good) m i ≡ firstFrom (refusing number good) n (i + 1)
@@ -63,19 +72,11 @@ module _ (number : ℕ) (good : ℕ → Bool) where
   unfolding firstFrom
   scan-end m i e = ap (λ (x : ℕ). firstFrom (refusing number good) x i) e
 
-  -- a loop that has come to record i of n, where what is left gives the answer r of the whole: one record more, where it stops, and its end
-  abbrev pub left : ℕ → ℕ → Refusal
-  left n i = firstFrom (refusing number good) (n - i) i
+  -- records scanned so far: none, and one more
+  pub bad-none : firstBad number good 0 ≡ fine
+  unfolding firstBad firstFrom
+  bad-none = refl
 
-  pub left-start : (n : ℕ) → left n 0 ≡ firstBad number good n
-  unfolding firstBad
-  left-start n = rw sub-zero
-
-  pub left-good : {r : Refusal} (n i : ℕ) → i < n → good i ≡ true → left n i ≡ r → left n (i + 1) ≡ r
-  left-good n i l g e = sym (scan-step (n - i) (n - (i + 1)) i (omega arith) g) ∙ e
-
-  pub left-bad : {q r : Refusal} (n i : ℕ) → 0 < number → i < n → good i ≡ false → left n i ≡ r → q ≡ record { number = number; place = i } → q ≡ r
-  left-bad n i p l g e f = f ∙ sym (scan-stop (n - i) (n - (i + 1)) i (omega arith) p g) ∙ e
-
-  pub left-none : {q r : Refusal} (n i : ℕ) → n ≤ i → left n i ≡ r → q ≡ fine → q ≡ r
-  left-none n i l e f = f ∙ sym (scan-end (n - i) i (omega arith)) ∙ e
+  pub bad-more : (i : ℕ) → 0 < number → firstBad number good (i + 1) ≡ orElse (firstBad number good i) (unless (good i) number i)
+  unfolding firstBad firstFrom
+  bad-more i p = scan-append (refusing number good) i 1 0 ∙ ap (orElse (firstBad number good i)) (or-none (good (0 + i)) number (0 + i) p ∙ ap (refusing number good) (zero-add i))

@@ -10,10 +10,11 @@ use Rattle.journeys.specs.Tables.{walkAt, hopAt, tablesOf, vertexCount, walkCou
 use Rattle.journeys.specs.Refusals.{Refusal, unless, orElse, firstFrom, firstBad, wholeOf, tableOf, tableLengths, endsOk, walkOk, hopOk, walkAscends, hopAscends, vertexOk, contents}
 use Rattle.journeys.proofs.Tests.{and-both}
 use Rattle.journeys.proofs.Decoding.{vertex-count, walk-count, hop-count}
-use Rattle.records.specs.Columns.{recordsIn, fromAt, ascendsAt, Ascending}
+use Rattle.records.specs.Columns.{recordsIn, fromAt, ascendsAt}
+use Rattle.records.specs.declared.Kind.the-variants.{Walks, Hops}
 use Rattle.records.proofs.Columns.{walk-to, hop-to}
 use Rattle.records.proofs.Judged.{walk-ok, hop-ok}
-use Rattle.audit.specs.Judging.{Sizes, vertexRefusals}
+use Rattle.audit.specs.Judging.{Sizes, Passed, recordFault, vertexRefusals}
 use Rattle.departing.specs.Scratch.{Low}
 use Rattle.journeys.proofs.Refusals.{or-fine, unless-fine, bad-fine}
 use Rattle.journeys.proofs.Valid.{table-fits, ends-good}
@@ -45,10 +46,10 @@ sizes v w h e =
 -- ---- refusals 2 to 6
 module _ (v w h : List ℕ) where
   abbrev pub walksBad : Refusal
-  walksBad = firstBad 2 (walkOk (tablesOf v w [])) (recordsIn 16 w)
+  walksBad = firstFrom (recordFault Walks v w) (recordsIn 16 w) 0
 
   abbrev pub hopsBad : Refusal
-  hopsBad = firstBad 3 (hopOk (tablesOf v [] h)) (recordsIn 16 h)
+  hopsBad = firstFrom (recordFault Hops v h) (recordsIn 16 h) 0
 
   abbrev pub walksFall : Refusal
   walksFall = firstBad 4 (ascendsAt 16 w) (recordsIn 16 w)
@@ -60,11 +61,13 @@ module _ (v w h : List ℕ) where
   verticesBad = vertexRefusals (tablesOf v w h) (length v / 12) 0
 
   two : firstBad 2 (walkOk (tablesOf v w h)) (walkCount (tablesOf v w h)) ≡ walksBad
+  unfolding firstBad recordFault
   two =
       ap (firstBad 2 (walkOk (tablesOf v w h))) (walk-count v w h)
       ∙ bad-same 2 (walkOk (tablesOf v w h)) (walkOk (tablesOf v w [])) (recordsIn 16 w) (λ i l. walk-ok v w h i l ∙ sym (walk-ok v w [] i l))
 
   three : firstBad 3 (hopOk (tablesOf v w h)) (hopCount (tablesOf v w h)) ≡ hopsBad
+  unfolding firstBad recordFault
   three =
       ap (firstBad 3 (hopOk (tablesOf v w h))) (hop-count v w h)
       ∙ bad-same 3 (hopOk (tablesOf v w h)) (hopOk (tablesOf v [] h)) (recordsIn 16 h) (λ j l. hop-ok v w h j l ∙ sym (hop-ok v [] h j l))
@@ -92,20 +95,24 @@ module _ (v w h : List ℕ) where
   contents-are = ap₂ orElse two (ap₂ orElse three (ap₂ orElse four (ap₂ orElse five six)))
 
   -- ---- what holds where 2 to 5 find nothing
-  low : (n from to : ℕ) → n ≤ 65536 → endsOk n from to ≡ true → from < 65536
-  low n from to m e = omega (arith, ends-good n from to e .0)
+  pub passed : walksBad .number ≡ 0 → hopsBad .number ≡ 0 → walksFall .number ≡ 0 → hopsFall .number ≡ 0 → Passed v w h
+  unfolding firstBad recordFault
+  passed a b c d =
+      record {
+        walks-good = λ i l. walk-ok v w h i l ∙ sym (walk-ok v w [] i l) ∙ bad-fine 2 (walkOk (tablesOf v w [])) (recordsIn 16 w) (omega arith) a i l;
+        hops-good = λ j l. hop-ok v w h j l ∙ sym (hop-ok v [] h j l) ∙ bad-fine 3 (hopOk (tablesOf v [] h)) (recordsIn 16 h) (omega arith) b j l;
+        walks-ascend = bad-fine 4 (ascendsAt 16 w) (recordsIn 16 w) (omega arith) c;
+        hops-ascend = bad-fine 5 (ascendsAt 16 h) (recordsIn 16 h) (omega arith) d;
+      }
 
-  pub walks-low : length v / 12 ≤ 65536 → walksBad .number ≡ 0 → Low 16 w
-  unfolding walkAt
-  walks-low m e i l =
-      low (length v / 12) (walkAt w i .from) (walkAt w i .to) m
-      (and-both _ _ (and-both _ _ (sym (walk-ok v w [] i l) ∙ bad-fine 2 (walkOk (tablesOf v w [])) (recordsIn 16 w) (omega arith) e i l) .0) .0)
+  module _ (few : length v / 12 ≤ 65536) (ok : Passed v w h) where
+    low : (from to : ℕ) → endsOk (length v / 12) from to ≡ true → from < 65536
+    low from to e = omega (arith, ends-good (length v / 12) from to e .0)
 
-  pub hops-low : length v / 12 ≤ 65536 → hopsBad .number ≡ 0 → Low 16 h
-  unfolding hopAt
-  hops-low m e j l =
-      low (length v / 12) (hopAt h j .from) (hopAt h j .to) m
-      (and-both _ _ (sym (hop-ok v [] h j l) ∙ bad-fine 3 (hopOk (tablesOf v [] h)) (recordsIn 16 h) (omega arith) e j l) .0)
+    pub walks-low : Low 16 w
+    unfolding walkAt
+    walks-low i l = low (walkAt w i .from) (walkAt w i .to) (and-both _ _ (and-both _ _ (sym (walk-ok v w h i l) ∙ ok .walks-good i l) .0) .0)
 
-pub ascends : (number : ℕ) (t : List ℕ) → 0 < number → firstBad number (ascendsAt 16 t) (recordsIn 16 t) .number ≡ 0 → Ascending 16 t
-ascends number t p e = bad-fine number (ascendsAt 16 t) (recordsIn 16 t) p e
+    pub hops-low : Low 16 h
+    unfolding hopAt
+    hops-low j l = low (hopAt h j .from) (hopAt h j .to) (and-both _ _ (sym (hop-ok v w h j l) ∙ ok .hops-good j l) .0)

@@ -5,10 +5,9 @@ use departing::BLOCK;
 use departing::clear;
 use departing::count_departing;
 use departing::note_ranges;
-use records::HOP_SIZE;
 use records::HopRead;
+use records::Kind;
 use records::VertexRead;
-use records::WALK_SIZE;
 use records::WalkRead;
 use records::to_at;
 use words::Refusal;
@@ -16,17 +15,22 @@ use words::fine;
 use words::lesser;
 use words::refused;
 ghost use mathlib.Core.Path.{_≡_};
-ghost use mathlib.Core.List.{[]};
 ghost use Prim.Native.Nat.{ℕ, _+_, _-_, _*_, _/_, _<_, _≤_, min};
 ghost use lib.ListN.{length, getD, replicate};
 ghost use Rattle.journeys.specs.Tables.{tablesOf};
 ghost use Rattle.journeys.specs.Records.{departing};
 ghost use Rattle.journeys.specs.Refusals as refusals;
-ghost use Rattle.journeys.specs.Refusals.{tableOf, tableLengths, firstBad, walkOk, hopOk};
+ghost use Rattle.journeys.specs.Refusals.{tableOf, tableLengths, unless, orElse, firstFrom, firstBad};
 ghost use Rattle.words.specs.Told.{told};
 ghost use Rattle.records.specs.Columns.{recordsIn, ascendsAt, Ascending};
-ghost use Rattle.departing.specs.Scratch.{Outside, Noted, Low};
-ghost use Rattle.audit.specs.Judging.{Sizes, vertexRefusals};
+ghost use Rattle.departing.specs.Scratch.{Outside, Noted};
+ghost use Rattle.audit.specs.Judging.{Sizes, Passed, recordFault, vertexRefusals};
+
+// What a pass over a table finds: its first bad record, and, where none is bad, the first one out of order.
+struct Faults {
+    bad: Refusal,
+    order: Refusal,
+}
 
 // Refusal 1: the lengths.
 fn table_ok(table: &[u8], size: usize, low: usize, high: usize) -> bool
@@ -51,54 +55,68 @@ pub fn lengths(vertices: &[u8], walks: &[u8], hops: &[u8]) -> Refusal
     fine()
 }
 
-// Refusals 2 and 3: the records.
-fn walk_records(vertices: &[u8], walks: &[u8]) -> Refusal
-    requires { ⌜ recordsIn 16 (now walks) ≤ 262144 ⌝ }
-    ensures { λ r. ⌜ told r ≡ firstBad 2 (walkOk (tablesOf (now (vertices .entry)) (now (walks .entry)) [])) (recordsIn 16 (now (walks .entry))) ⌝ }
+// Refusals 2 and 3: the record i of the table of a kind, where those before it are good.
+fn record_fault(vertices: &[u8], table: &[u8], kind: Kind, i: u32) -> Refusal
+    requires { ⌜ (i < recordsIn 16 (now table)) × (recordsIn 16 (now table) ≤ 262144) ⌝ }
+    requires { ⌜ ((k : ℕ) → k < i → recordFault kind (now vertices) (now table) k .number ≡ 0) ⌝ }
+    ensures { λ r. ⌜ told r ≡ recordFault kind (now (vertices .entry)) (now (table .entry)) i ⌝ }
 {
-    let n = (walks.len() / 16) as u32;
-    let mut i: u32 = 0;
-    while i < n {
-        let WalkRead::Good(_) = records::read_walk(vertices, walks, i) else {
-            return refused(2, i);
-        };
-        i += 1;
+    match kind {
+        Kind::Walks => {
+            let WalkRead::Good(_) = records::read_walk(vertices, table, i) else {
+                return refused(2, i);
+            };
+            fine()
+        }
+        Kind::Hops => {
+            let HopRead::Good(_) = records::read_hop(vertices, table, i) else {
+                return refused(3, i);
+            };
+            fine()
+        }
     }
-    fine()
 }
 
-fn hop_records(vertices: &[u8], hops: &[u8]) -> Refusal
-    requires { ⌜ recordsIn 16 (now hops) ≤ 262144 ⌝ }
-    ensures { λ r. ⌜ told r ≡ firstBad 3 (hopOk (tablesOf (now (vertices .entry)) [] (now (hops .entry)))) (recordsIn 16 (now (hops .entry))) ⌝ }
+// Refusals 4 and 5: the first record out of order, after the record i.
+fn order_fault(first: Refusal, ascends: bool, number: u32, i: u32) -> Refusal
+    ensures { λ r. ⌜ told r ≡ orElse (told first) (unless ascends number i) ⌝ }
 {
-    let n = (hops.len() / 16) as u32;
-    let mut j: u32 = 0;
-    while j < n {
-        let HopRead::Good(_) = records::read_hop(vertices, hops, j) else {
-            return refused(3, j);
-        };
-        j += 1;
+    if first.number != 0 {
+        return first;
     }
-    fine()
+    if ascends {
+        return fine();
+    }
+    refused(number, i)
 }
 
-// Refusals 4 and 5: the order of "to". `before` is "to" of the record before, or 0.
-fn order(table: &[u8], size: usize, number: u32) -> Refusal
-    requires { ⌜ (8 ≤ size) × (0 < number) × (recordsIn size (now table) ≤ 262144) ⌝ }
-    ensures { λ r. ⌜ told r ≡ firstBad number (ascendsAt size (now (table .entry))) (recordsIn size (now (table .entry))) ⌝ }
+// Both in one pass over the table of a kind; `number` is that of its order. `before` is "to" of the record before, or 0.
+fn table_faults(vertices: &[u8], table: &[u8], kind: Kind, number: u32) -> Faults
+    requires { ⌜ (recordsIn 16 (now table) ≤ 262144) × (0 < number) ⌝ }
+    ensures { λ r. ⌜ told (r .bad) ≡ firstFrom (recordFault kind (now (vertices .entry)) (now (table .entry))) (recordsIn 16 (now (table .entry))) 0 ⌝ }
+    ensures { λ r. ⌜ (r .bad .number ≡ 0 → told (r .order) ≡ firstBad number (ascendsAt 16 (now (table .entry))) (recordsIn 16 (now (table .entry)))) ⌝ }
 {
-    let n = (table.len() / size) as u32;
+    let n = (table.len() / 16) as u32;
+    let mut order = fine();
     let mut before: u32 = 0;
     let mut i: u32 = 0;
     while i < n {
-        let to = to_at(table, size, i as usize);
-        if to < before {
-            return refused(number, i);
+        let bad = record_fault(vertices, table, kind, i);
+        if bad.number != 0 {
+            return Faults {
+                bad: bad,
+                order: order,
+            };
         }
+        let to = to_at(table, 16, i as usize);
+        order = order_fault(order, before <= to, number, i);
         before = to;
         i += 1;
     }
-    fine()
+    Faults {
+        bad: fine(),
+        order: order,
+    }
 }
 
 // The first bad one of the vertices from `base` on, up to `low`, whose departing records are counted.
@@ -176,8 +194,7 @@ fn blocks(vertices: &[u8], walks: &[u8], hops: &[u8], scratch: &mut [u16]) -> Re
 fn vertex_records(vertices: &[u8], walks: &[u8], hops: &[u8], scratch: &mut [u16]) -> Refusal
     requires { ⌜ Sizes (now vertices) (now walks) (now hops) ⌝ }
     requires { ⌜ length (now scratch) ≡ 2048 ⌝ }
-    requires { ⌜ Ascending 16 (now walks) × Ascending 16 (now hops) ⌝ }
-    requires { ⌜ Low 16 (now walks) × Low 16 (now hops) ⌝ }
+    requires { ⌜ Passed (now vertices) (now walks) (now hops) ⌝ }
     ensures { λ r. ⌜ told r ≡ vertexRefusals (tablesOf (now (vertices .entry)) (now (walks .entry)) (now (hops .entry))) (length (now (vertices .entry)) / 12) 0 ⌝ }
 {
     note_ranges(walks, hops, scratch);
@@ -190,21 +207,19 @@ fn first_fault(vertices: &[u8], walks: &[u8], hops: &[u8], scratch: &mut [u16]) 
     requires { ⌜ length (now scratch) ≡ 2048 ⌝ }
     ensures { λ r. ⌜ told r ≡ refusals.contents (tablesOf (now (vertices .entry)) (now (walks .entry)) (now (hops .entry))) ⌝ }
 {
-    let two = walk_records(vertices, walks);
-    if two.number != 0 {
-        return two;
+    let of_walks = table_faults(vertices, walks, Kind::Walks, 4);
+    if of_walks.bad.number != 0 {
+        return of_walks.bad;
     }
-    let three = hop_records(vertices, hops);
-    if three.number != 0 {
-        return three;
+    let of_hops = table_faults(vertices, hops, Kind::Hops, 5);
+    if of_hops.bad.number != 0 {
+        return of_hops.bad;
     }
-    let four = order(walks, WALK_SIZE, 4);
-    if four.number != 0 {
-        return four;
+    if of_walks.order.number != 0 {
+        return of_walks.order;
     }
-    let five = order(hops, HOP_SIZE, 5);
-    if five.number != 0 {
-        return five;
+    if of_hops.order.number != 0 {
+        return of_hops.order;
     }
     vertex_records(vertices, walks, hops, scratch)
 }

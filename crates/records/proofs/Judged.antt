@@ -1,13 +1,14 @@
 -- A record judged in the bytes of its table is judged as `journeys` does. Assumes nothing.
-use mathlib.Core.Path.{_≡_}
-use mathlib.Core.Bool.{true, false, _&&_}
+use mathlib.Core.Path.{_≡_, _∙_}
+use mathlib.Core.Bool.{Bool, true, false, _&&_}
 use mathlib.Core.List.{List, []}
 use Prim.Native.Nat.{ℕ, _/_, _<_}
 use lib.Dec.{eqb}
 use lib.ListN.{length}
-use Rattle.journeys.specs.Tables.{vertexAt, walkAt, hopAt, tablesOf}
+use Rattle.journeys.specs.Tables.{Walk, vertexAt, walkAt, hopAt, tablesOf}
 use Rattle.journeys.specs.Records.{departing}
 use Rattle.journeys.specs.Refusals.{endsOk, lengthOk, twinOk, timesOk, walkOk, hopOk, vertexOk}
+use Rattle.journeys.proofs.Tests.{and-left, and-right}
 use Rattle.journeys.proofs.Decoding.{vertex-at, walk-at, hop-at, vertex-count}
 use Rattle.records.specs.Columns.{recordsIn, arrivingBelow}
 use Rattle.records.specs.declared.VertexRead.the-variants as vertices
@@ -22,6 +23,23 @@ module _ (v w h : List ℕ) where
       → walkOk (tablesOf v w h) i ≡ endsOk (length v / 12) (walkAt w i .from) (walkAt w i .to) && lengthOk (walkAt w i .len) && twinOk (tablesOf [] w []) i (walkAt w i)
   unfolding walkOk tablesOf
   walk-ok i l = rw (walk-at v w h i l, vertex-count v w h)
+
+  -- a test of a walk that fails decides, and the last one does where the others hold
+  module _ (i : ℕ) (l : i < recordsIn 16 w) where
+    abbrev x : Walk
+    x = walkAt w i
+
+    abbrev ends : Bool
+    ends = endsOk (length v / 12) (x .from) (x .to)
+
+    pub ends-decide : ends ≡ false → walkOk (tablesOf v w h) i ≡ false
+    ends-decide e = walk-ok i l ∙ and-left (twinOk (tablesOf [] w []) i x) (and-left (lengthOk (x .len)) e)
+
+    pub length-decides : lengthOk (x .len) ≡ false → walkOk (tablesOf v w h) i ≡ false
+    length-decides e = walk-ok i l ∙ and-left (twinOk (tablesOf [] w []) i x) (and-right ends e)
+
+    pub twin-decides : ends ≡ true → lengthOk (x .len) ≡ true → walkOk (tablesOf v w h) i ≡ twinOk (tablesOf [] w []) i x
+    twin-decides e f = walk-ok i l ∙ rw (e, f)
 
   pub hop-ok : (j : ℕ) → j < recordsIn 16 h
       → hopOk (tablesOf v w h) j ≡ endsOk (length v / 12) (hopAt h j .from) (hopAt h j .to) && timesOk (hopAt h j .departure) (hopAt h j .arrival)

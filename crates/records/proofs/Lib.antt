@@ -1,6 +1,7 @@
 pub mod Sizes
 pub mod Columns
 pub mod Judged
+pub mod Pairs
 pub mod Answered
 pub mod Runs
 pub mod RecordBytes

@@ -14,12 +14,12 @@ use words::word_at;
 ghost use mathlib.Core.Path.{_≡_};
 ghost use mathlib.Core.Bool.{true};
 ghost use mathlib.Core.List.{[], _++_};
-ghost use Prim.Native.Nat.{_+_, _-_, _*_, _/_, _<_, _≤_};
+ghost use Prim.Native.Nat.{ℕ, _+_, _-_, _*_, _/_, _<_, _≤_};
 ghost use lib.Dec.{eqb};
 ghost use lib.ListN.{length, drop};
 ghost use Rattle.journeys.specs.Bytes.{clocked};
 ghost use Rattle.journeys.specs.Tables.{vertexAt, walkAt, hopAt, tablesOf};
-ghost use Rattle.journeys.specs.Refusals.{endsOk, lengthOk, pairOk, twinOk, timesOk};
+ghost use Rattle.journeys.specs.Refusals.{endsOk, lengthOk, pairOk, twinOk, timesOk, walkOk};
 ghost use Rattle.journeys.specs.Records.{departing};
 ghost use Rattle.journeys.specs.Answers.{settledBytes};
 ghost use Rattle.journeys.specs.Parts.{partBytes};
@@ -256,13 +256,34 @@ pub fn read_vertex(vertices: &[u8], walks: &[u8], hops: &[u8], v: u32, departs: 
     }
 }
 
-pub fn read_walk(vertices: &[u8], walks: &[u8], i: u32) -> WalkRead
-    requires { ⌜ i < length (now walks) / 16 ⌝ }
-    ensures { λ r. ⌜ toldWalk r ≡ walkReading (tablesOf (now (vertices .entry)) (now (walks .entry)) []) i ⌝ }
+// A pair is tested once, from its lower record: that one tests the ends and the length of both. So a walk whose twin is lower, and good, is good
+// exactly if the twin names it.
+fn walk_ok(vertices: &[u8], walks: &[u8], i: u32) -> bool
+    requires { ⌜ (i < recordsIn 16 (now walks)) × (recordsIn 16 (now walks) ≤ 262144) ⌝ }
+    requires { ⌜ ((k : ℕ) → k < i → walkOk (tablesOf (now vertices) (now walks) []) k ≡ true) ⌝ }
+    ensures { λ r. ⌜ r ≡ walkOk (tablesOf (now (vertices .entry)) (now (walks .entry)) []) i ⌝ }
 {
     let w = walk_at(walks, i as usize);
-    if ends_ok(vertices.len() / 12, w.from, w.to) & length_ok(w.len.0) & twin_ok(walks, i, w) {
-        WalkRead::Good(w)
+    if w.twin < i {
+        return walk_at(walks, w.twin as usize).twin == i;
+    }
+    if !ends_ok(vertices.len() / 12, w.from, w.to) {
+        return false;
+    }
+    if !length_ok(w.len.0) {
+        return false;
+    }
+    twin_ok(walks, i, w)
+}
+
+// Of a walk those before it are good.
+pub fn read_walk(vertices: &[u8], walks: &[u8], i: u32) -> WalkRead
+    requires { ⌜ (i < recordsIn 16 (now walks)) × (recordsIn 16 (now walks) ≤ 262144) ⌝ }
+    requires { ⌜ ((k : ℕ) → k < i → walkOk (tablesOf (now vertices) (now walks) []) k ≡ true) ⌝ }
+    ensures { λ r. ⌜ toldWalk r ≡ walkReading (tablesOf (now (vertices .entry)) (now (walks .entry)) []) i ⌝ }
+{
+    if walk_ok(vertices, walks, i) {
+        WalkRead::Good(walk_at(walks, i as usize))
     } else {
         WalkRead::Bad(i)
     }

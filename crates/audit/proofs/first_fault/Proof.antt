@@ -5,8 +5,7 @@ use Rattle.journeys.specs.Refusals as refusals
 use Rattle.journeys.specs.Refusals.{orElse}
 use Rattle.journeys.proofs.Refusals.{or-next, or-first}
 use Rattle.audit.proofs.Scan.{same-number}
-use Rattle.audit.proofs.Whole.{contents-are, walks-low, hops-low, ascends}
-use native.Mathlib.Omega.{arith}
+use Rattle.audit.proofs.Whole.{contents-are, passed}
 use borrow.Author.Needs.{needs}
 use Rattle.audit.proofs.first_fault.Statement.{statement}
 use Rattle.audit.proofs.first_fault.Tie as tie
@@ -23,73 +22,74 @@ go-on {r} {a} {b} e z f = f ∙ sym (or-next a b (none e z))
 
 returns : tie.Need-returns
 returns c =
-    let one = c .before .before in
-    let a = one .before .before .before .before .before .args in
-    stop _ (one .walk-records .ensures) (c .if1 .taken) ∙ sym (contents-are (now (a .vertices)) (now (a .walks)) (now (a .hops)))
+    let w = c .before .before .before in
+    let a = w .before .before .before .before .before .args in
+    stop _ (w .table-faults .ensures .0) (c .before .if1 .taken) ∙ sym (contents-are (now (a .vertices)) (now (a .walks)) (now (a .hops)))
 
 returns-2 : tie.Need-returns-2
 returns-2 c =
-    let two = c .before .before in
-    let one = two .before .before .before in
-    let a = one .before .before .before .before .before .args in
-    go-on (one .walk-records .ensures) (two .before .if1 .left) (stop _ (two .hop-records .ensures) (c .if2 .taken)) ∙ sym (contents-are (now (a .vertices)) (now (a .walks)) (now (a .hops)))
+    let h = c .before .before .before in
+    let two = h .before in
+    let w = two .before .before in
+    let a = w .before .before .before .before .before .args in
+    go-on (w .table-faults .ensures .0) (two .if1 .left) (stop _ (h .table-faults2 .ensures .0) (c .before .if2 .taken)) ∙ sym (contents-are (now (a .vertices)) (now (a .walks)) (now (a .hops)))
 
 returns-3 : tie.Need-returns-3
 returns-3 c =
-    let three = c .before .before in
-    let two = three .before .before .before in
-    let one = two .before .before .before in
-    let a = one .before .before .before .before .before .args in
-    go-on (one .walk-records .ensures) (two .before .if1 .left)
-    (go-on (two .hop-records .ensures) (three .before .if2 .left) (stop _ (three .order .ensures) (c .if3 .taken))) ∙ sym (contents-are (now (a .vertices)) (now (a .walks)) (now (a .hops)))
+    let three = c .before .before .before in
+    let h = three .before .before in
+    let two = h .before in
+    let w = two .before .before in
+    let a = w .before .before .before .before .before .args in
+    go-on (w .table-faults .ensures .0) (two .if1 .left)
+    (go-on (h .table-faults2 .ensures .0) (three .if2 .left) (stop _ (w .table-faults .ensures .1 (two .if1 .left)) (c .before .if3 .taken)))
+    ∙ sym (contents-are (now (a .vertices)) (now (a .walks)) (now (a .hops)))
 
 returns-4 : tie.Need-returns-4
 returns-4 c =
-    let four = c .before .before in
-    let three = four .before .before .before in
-    let two = three .before .before .before in
-    let one = two .before .before .before in
-    let a = one .before .before .before .before .before .args in
-    go-on (one .walk-records .ensures) (two .before .if1 .left)
-    (go-on (two .hop-records .ensures) (three .before .if2 .left) (go-on (three .order .ensures) (four .before .if3 .left) (stop _ (four .order2 .ensures) (c .if4 .taken))))
+    let four = c .before .before .before in
+    let three = four .before .before in
+    let h = three .before .before in
+    let two = h .before in
+    let w = two .before .before in
+    let a = w .before .before .before .before .before .args in
+    go-on (w .table-faults .ensures .0) (two .if1 .left)
+    (go-on (h .table-faults2 .ensures .0) (three .if2 .left)
+    (go-on (w .table-faults .ensures .1 (two .if1 .left)) (four .if3 .left) (stop _ (h .table-faults2 .ensures .1 (three .if2 .left)) (c .before .if4 .taken))))
     ∙ sym (contents-are (now (a .vertices)) (now (a .walks)) (now (a .hops)))
 
 vertex-records-requires : tie.Need-vertex-records-requires
 vertex-records-requires c κs =
-    let last = c .before in
-    let four = last .before .before in
-    let three = four .before .before .before in
-    let two = three .before .before .before in
-    let one = two .before .before .before in
-    let s = one .before .before .before .before .before in
+    let five = c .before in
+    let four = five .before .before in
+    let three = four .before .before in
+    let h = three .before .before in
+    let two = h .before in
+    let w = two .before .before in
+    let s = w .before .before .before .before .before in
     let a = s .args in (
       s .pre .0,
       (
         s .pre .1,
-        (
-          (
-            ascends 4 (now (a .walks)) (omega arith) (none (three .order .ensures) (four .before .if3 .left)),
-            ascends 5 (now (a .hops)) (omega arith) (none (four .order2 .ensures) (last .if4 .left)),
-          ),
-          (
-            walks-low (now (a .vertices)) (now (a .walks)) (now (a .hops)) (s .pre .0 .vertices-most) (none (one .walk-records .ensures) (two .before .if1 .left)),
-            hops-low (now (a .vertices)) (now (a .walks)) (now (a .hops)) (s .pre .0 .vertices-most) (none (two .hop-records .ensures) (three .before .if2 .left)),
-          ),
-        ),
+        passed (now (a .vertices)) (now (a .walks)) (now (a .hops)) (none (w .table-faults .ensures .0) (two .if1 .left)) (none (h .table-faults2 .ensures .0) (three .if2 .left))
+            (none (w .table-faults .ensures .1 (two .if1 .left)) (four .if3 .left)) (none (h .table-faults2 .ensures .1 (three .if2 .left)) (five .if4 .left)),
       ),
     )
 
 returns-5 : tie.Need-returns-5
 returns-5 c =
-    let last = c .before .before .before .before in
-    let four = last .before .before in
-    let three = four .before .before .before in
-    let two = three .before .before .before in
-    let one = two .before .before .before in
-    let a = one .before .before .before .before .before .args in
-    go-on (one .walk-records .ensures) (two .before .if1 .left)
-    (go-on (two .hop-records .ensures) (three .before .if2 .left)
-    (go-on (three .order .ensures) (four .before .if3 .left) (go-on (four .order2 .ensures) (last .if4 .left) (c .before .before .vertex-records .ensures))))
+    let call = c .before .before in
+    let five = call .before .before in
+    let four = five .before .before in
+    let three = four .before .before in
+    let h = three .before .before in
+    let two = h .before in
+    let w = two .before .before in
+    let a = w .before .before .before .before .before .args in
+    go-on (w .table-faults .ensures .0) (two .if1 .left)
+    (go-on (h .table-faults2 .ensures .0) (three .if2 .left)
+    (go-on (w .table-faults .ensures .1 (two .if1 .left)) (four .if3 .left)
+    (go-on (h .table-faults2 .ensures .1 (three .if2 .left)) (five .if4 .left) (call .vertex-records .ensures))))
     ∙ sym (contents-are (now (a .vertices)) (now (a .walks)) (now (a .hops)))
 
 pub first-fault-spec : {M : Type 1} → statement M
@@ -100,9 +100,7 @@ first-fault-spec =
     returns
     (λ c κs. search needs)
     returns-2
-    (λ c κs. search needs)
     returns-3
-    (λ c κs. search needs)
     returns-4
     vertex-records-requires
     (λ c. search needs)

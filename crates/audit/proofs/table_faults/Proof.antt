@@ -1,0 +1,116 @@
+-- `audit::table_faults` meets its contract: the records before i are good, and `order` is the first of them out of order. Assumes nothing.
+use mathlib.Core.Path.{_≡_, refl, sym, ap, ap₂, _∙_}
+use mathlib.Core.Logic.{_≢_}
+use mathlib.Core.Bool.{Bool}
+use Prim.Native.Nat.{ℕ, _+_, _-_, _≤_, _<_}
+use lib.Dec.{leb}
+use denote.Ref.{now}
+use Rattle.journeys.specs.Refusals.{Refusal, unless, orElse, firstBad}
+use Rattle.journeys.proofs.Refusals.{from-first, from-none}
+use Rattle.words.specs.Told.{told}
+use Rattle.records.specs.Columns.{recordsIn, toAt, ascendsAt}
+use Rattle.audit.specs.Judging.{recordFault}
+use Rattle.audit.proofs.Scan.{same-number, none-more, bad-none, bad-more}
+use Rattle.audit.proofs.InOrder.{ascends-is}
+use native.Mathlib.Omega.{arith}
+use borrow.Author.Needs.{needs}
+use Rattle.audit.proofs.table_faults.Statement.{statement}
+use Rattle.audit.proofs.table_faults.Tie as tie
+
+abbrev Inv-loop : tie.InvT-loop
+Inv-loop vertices table kind number n order₀ before₀ i₀ order before i =
+    (i ≤ n)
+    × (n ≡ recordsIn 16 table)
+    × (i ≡ 0 → before ≡ 0)
+    × (0 < i → before ≡ toAt 16 table (i - 1))
+    × ((k : ℕ) → k < i → recordFault kind vertices table k .number ≡ 0)
+    × (told order ≡ firstBad number (ascendsAt 16 table) i)
+
+abbrev μ-loop : tie.MeasureT-loop
+μ-loop vertices table kind number n order₀ before₀ i₀ order before i = n - i
+
+cast-n : tie.Need-cast-n Inv-loop μ-loop
+cast-n c = omega arith
+
+loop-holds : tie.Need-loop-holds Inv-loop μ-loop
+loop-holds c =
+    let a = c .before .before .before .args in
+    (omega arith, omega arith, λ h. refl, λ h. absurd (omega arith), λ k l. absurd (omega arith), c .fine .ensures ∙ sym (bad-none (a .number) (ascendsAt 16 (now (a .table)))))
+
+record-fault-requires : tie.Need-record-fault-requires Inv-loop μ-loop
+record-fault-requires c κs =
+    let s = c .before .before .before .before .before in
+    ((omega arith, s .pre .0), c .before .loop .inv .4)
+
+returns : tie.Need-returns Inv-loop μ-loop
+returns c =
+    let call = c .before .before in
+    let loop = call .before .before .loop in
+    let a = call .before .before .before .before .before .before .args in
+    let f = recordFault (a .kind) (now (a .vertices)) (now (a .table)) in
+    let some : f (loop .i) .number ≢ 0 = λ z. c .if1 .taken (same-number (call .record-fault .ensures) ∙ z) in (
+      call .record-fault .ensures ∙ sym (from-first f (recordsIn 16 (now (a .table))) 0 (loop .i) (omega arith) (omega arith) some (λ j l m. loop .inv .4 j m)),
+      λ z. absurd (c .if1 .taken z),
+    )
+
+cast-to-at : tie.Need-cast-to-at Inv-loop μ-loop
+cast-to-at c = omega arith
+
+to-at-requires : tie.Need-to-at-requires Inv-loop μ-loop
+to-at-requires c κs = (omega arith, omega arith)
+
+add-i : tie.Need-add-i Inv-loop μ-loop
+add-i c = omega arith
+
+loop-less : tie.Need-loop-less Inv-loop μ-loop
+loop-less c = omega arith
+
+loop-again : tie.Need-loop-again Inv-loop μ-loop
+loop-again c =
+    let call = c .before .before .before .before in
+    let loop = call .before .before .loop in
+    let s = call .before .before .before .before .before .before in
+    let a = s .args in
+    let t = now (a .table) in
+    let to = c .before .to-at .ensures in
+    let good = sym (same-number (call .record-fault .ensures)) ∙ c .before .before .if1 .left in
+    let up = ap (leb (loop .before)) to ∙ ascends-is 16 t (loop .i) (loop .before) (loop .inv .2) (loop .inv .3) in
+    let e : loop .i + 1 - 1 ≡ loop .i = omega arith in (
+      omega arith,
+      loop .inv .1,
+      λ h. absurd (omega arith),
+      λ h. to ∙ ap (toAt 16 t) (sym e),
+      none-more (recordFault (a .kind) (now (a .vertices)) t) (loop .i) (loop .inv .4) good,
+      c .order-fault .ensures
+          ∙ ap₂ (λ (x : Refusal) (b : Bool). orElse x (unless b (a .number) (loop .i))) (loop .inv .5) up
+          ∙ sym (bad-more (a .number) (ascendsAt 16 t) (loop .i) (s .pre .1)),
+    )
+
+returns-2 : tie.Need-returns-2 Inv-loop μ-loop
+returns-2 c =
+    let loop = c .before .before .loop in
+    let a = c .before .before .before .before .before .before .args in
+    let e : loop .i ≡ recordsIn 16 (now (a .table)) = omega arith in (
+      c .fine2 .ensures ∙ sym (from-none (recordFault (a .kind) (now (a .vertices)) (now (a .table))) (recordsIn 16 (now (a .table))) 0 (λ k l m. loop .inv .4 k (omega arith))),
+      λ z. loop .inv .5 ∙ ap (firstBad (a .number) (ascendsAt 16 (now (a .table)))) e,
+    )
+
+pub table-faults-spec : {M : Type 1} → statement M
+table-faults-spec =
+    tie.close
+    (tie.spec
+    Inv-loop
+    μ-loop
+    cast-n
+    (λ c κs. search needs)
+    loop-holds
+    record-fault-requires
+    returns
+    cast-to-at
+    to-at-requires
+    (λ c κs. search needs)
+    add-i
+    loop-less
+    loop-again
+    (λ c κs. search needs)
+    returns-2)
