@@ -1,9 +1,10 @@
 -- The vertices judged block by block. Assumes nothing.
 use mathlib.Core.Path.{_≡_, sym, ap, _∙_}
 use mathlib.Core.Logic.{⊎-elim, _≢_}
-use mathlib.Core.Bool.{false, _&&_}
+use mathlib.Core.Bool.{true, false, _&&_}
 use mathlib.Core.List.{List}
 use Prim.Native.Nat.{ℕ, _+_, _-_, _*_, _/_, _≤_, _<_, min}
+use native.Mathlib.Nat.{zero-add}
 use native.Mathlib.Omega.{arith}
 use lib.Dec.{eqb}
 use lib.ListN.{length, getD}
@@ -11,15 +12,15 @@ use borrow.Author.Tests.{ne-eqb}
 use Rattle.journeys.specs.Bytes.{be16}
 use Rattle.journeys.specs.Tables.{Tables, vertexAt, tablesOf}
 use Rattle.journeys.specs.Records.{departing}
-use Rattle.journeys.specs.Refusals.{orElse, vertexOk, firstFrom}
+use Rattle.journeys.specs.Refusals.{fine, orElse, vertexOk, firstFrom}
 use Rattle.journeys.proofs.Tests.{and-left, and-right, le-or-lt}
 use Rattle.records.specs.Columns.{leaving, arrivingBelow}
 use Rattle.records.proofs.Columns.{departing-is}
 use Rattle.records.proofs.Judged.{vertex-ok}
 use Rattle.audit.specs.Judging.{vertexRefusals}
 use Rattle.departing.specs.Scratch.{Counted}
-use Rattle.journeys.proofs.Refusals.{or-next, or-first}
-use Rattle.audit.proofs.Scan.{refusing, scan-append, scan-stop, scan-end}
+use Rattle.journeys.proofs.Refusals.{or-next, or-first, from-none, unless-good}
+use Rattle.audit.proofs.Scan.{refusing, same-number, scan-append, scan-stop, scan-end}
 
 -- ---- the counters are the departing records
 module _ (v w h s : List ℕ) (len low base : ℕ) (c : Counted len low s (λ k. leaving 16 w (base + k) + leaving 16 h (base + k))) where
@@ -56,6 +57,15 @@ module _ (N : Tables) (low len base : ℕ) (h : low ≤ len) where
   block-passed z l bad =
       sym (split-block ∙ or-next (vertexRefusals N low base) (vertexRefusals N (len - low) (base + low)) z
       ∙ scan-stop 6 (vertexOk N) (len - low) (len - low - 1) (base + low) (omega arith) (omega arith) bad)
+
+-- ---- vertices that are good: all of them, and the first m of n
+pub all-good : (N : Tables) (n : ℕ) → ((v : ℕ) → v < n → vertexOk N v ≡ true) → vertexRefusals N n 0 ≡ fine
+unfolding vertexRefusals
+all-good N n ok = from-none (refusing 6 (vertexOk N)) n 0 (λ k a b. same-number (unless-good (vertexOk N k) 6 k (ok k (omega arith))))
+
+pub good-before : (N : Tables) (m n : ℕ) → m ≤ n → ((v : ℕ) → v < m → vertexOk N v ≡ true) → vertexRefusals N (n - m) m ≡ vertexRefusals N n 0
+good-before N m n l ok =
+    sym (split-block N m n 0 l ∙ or-next (vertexRefusals N m 0) (vertexRefusals N (n - m) (0 + m)) (same-number (all-good N m ok)) ∙ ap (vertexRefusals N (n - m)) (zero-add m))
 
 -- ---- one block more, of n vertices in all
 module _ (N : Tables) (n g : ℕ) where

@@ -15,12 +15,13 @@ use words::fine;
 use words::lesser;
 use words::refused;
 ghost use mathlib.Core.Path.{_≡_};
+ghost use mathlib.Core.Bool.{true};
 ghost use Prim.Native.Nat.{ℕ, _+_, _-_, _*_, _/_, _<_, _≤_, min};
 ghost use lib.ListN.{length, getD, replicate};
 ghost use Rattle.journeys.specs.Tables.{tablesOf};
 ghost use Rattle.journeys.specs.Records.{departing};
 ghost use Rattle.journeys.specs.Refusals as refusals;
-ghost use Rattle.journeys.specs.Refusals.{tableOf, tableLengths, unless, orElse, firstFrom, firstBad};
+ghost use Rattle.journeys.specs.Refusals.{tableOf, tableLengths, unless, orElse, firstFrom, firstBad, vertexOk};
 ghost use Rattle.words.specs.Told.{told};
 ghost use Rattle.records.specs.Columns.{recordsIn, ascendsAt, Ascending};
 ghost use Rattle.departing.specs.Scratch.{Outside, Noted};
@@ -170,16 +171,18 @@ fn block(vertices: &[u8], walks: &[u8], hops: &[u8], g: usize, scratch: &mut [u1
     found
 }
 
-fn blocks(vertices: &[u8], walks: &[u8], hops: &[u8], scratch: &mut [u16]) -> Refusal
+// The first bad vertex, judged from the block `start` on: those before it are good.
+fn blocks(vertices: &[u8], walks: &[u8], hops: &[u8], start: usize, scratch: &mut [u16]) -> Refusal
     requires { ⌜ Sizes (now vertices) (now walks) (now hops) ⌝ }
-    requires { ⌜ length (now scratch) ≡ 2048 ⌝ }
+    requires { ⌜ (1904 * start ≤ length (now vertices) / 12) × (length (now scratch) ≡ 2048) ⌝ }
+    requires { ⌜ ((v : ℕ) → v < 1904 * start → vertexOk (tablesOf (now vertices) (now walks) (now hops)) v ≡ true) ⌝ }
     requires { ⌜ Ascending 16 (now walks) × Ascending 16 (now hops) ⌝ }
     requires { ⌜ Noted 16 (now walks) 1904 (recordsIn 16 (now walks)) (now scratch) ⌝ }
     requires { ⌜ Noted 16 (now hops) 1974 (recordsIn 16 (now hops)) (now scratch) ⌝ }
     ensures { λ r. ⌜ told r ≡ vertexRefusals (tablesOf (now (vertices .entry)) (now (walks .entry)) (now (hops .entry))) (length (now (vertices .entry)) / 12) 0 ⌝ }
 {
     let n = vertices.len() / 12;
-    let mut g = 0;
+    let mut g = start;
     while BLOCK * g < n {
         let found = block(vertices, walks, hops, g, scratch);
         if found.number != 0 {
@@ -198,7 +201,7 @@ fn vertex_records(vertices: &[u8], walks: &[u8], hops: &[u8], scratch: &mut [u16
     ensures { λ r. ⌜ told r ≡ vertexRefusals (tablesOf (now (vertices .entry)) (now (walks .entry)) (now (hops .entry))) (length (now (vertices .entry)) / 12) 0 ⌝ }
 {
     note_ranges(walks, hops, scratch);
-    blocks(vertices, walks, hops, scratch)
+    blocks(vertices, walks, hops, 0, scratch)
 }
 
 // Refusals 2 to 6, the lowest number first.

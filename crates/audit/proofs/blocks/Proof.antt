@@ -1,6 +1,5 @@
 -- `audit::blocks` meets its contract: what is left of the scan gives the answer of the whole. Assumes nothing.
 use mathlib.Core.Path.{_≡_, refl, sym, _∙_}
-use native.Mathlib.Nat.{sub-zero}
 use mathlib.Core.Logic.{inr}
 use Prim.Native.Nat.{_-_, _*_, _/_, _≤_, min}
 use lib.ListN.{length}
@@ -12,14 +11,14 @@ use Rattle.audit.specs.Judging.{vertexRefusals}
 use Rattle.departing.specs.Scratch.{Noted}
 use Rattle.audit.proofs.Scan.{same-number, scan-end}
 use Rattle.departing.proofs.Ranges.{noted-kept}
-use Rattle.audit.proofs.Vertices.{block-refuses, block-good}
+use Rattle.audit.proofs.Vertices.{good-before, block-refuses, block-good}
 use borrow.Author.Needs.{needs}
 use native.Mathlib.Omega.{arith}
 use Rattle.audit.proofs.blocks.Statement.{statement}
 use Rattle.audit.proofs.blocks.Tie as tie
 
 abbrev Inv-loop : tie.InvT-loop
-Inv-loop vertices walks hops scratch₀ n g₀ scratch g =
+Inv-loop vertices walks hops start scratch₀ n g₀ scratch g =
     (n ≡ length vertices / 12)
     × (g ≤ 35)
     × (length scratch ≡ 2048)
@@ -28,12 +27,14 @@ Inv-loop vertices walks hops scratch₀ n g₀ scratch g =
     × (vertexRefusals (tablesOf vertices walks hops) (length vertices / 12 - 1904 * g) (1904 * g) ≡ vertexRefusals (tablesOf vertices walks hops) (length vertices / 12) 0)
 
 abbrev μ-loop : tie.MeasureT-loop
-μ-loop vertices walks hops scratch₀ n g₀ scratch g = n - 1904 * g
+μ-loop vertices walks hops start scratch₀ n g₀ scratch g = n - 1904 * g
 
 loop-holds : tie.Need-loop-holds Inv-loop μ-loop
 loop-holds c =
     let s = c .before .before .before .before in
-    (refl, omega arith, s .pre .1 .0, s .pre .1 .1 .1 .0, s .pre .1 .1 .1 .1, rw sub-zero)
+    let a = s .args in
+    let ok = good-before (tablesOf (now (a .vertices)) (now (a .walks)) (now (a .hops))) (1904 * a .start) (length (now (a .vertices)) / 12) (s .pre .1 .0 .0) (s .pre .1 .1 .0) in
+    (refl, omega (arith, s .pre .0 .vertices-most), s .pre .1 .0 .1, s .pre .1 .1 .1 .1 .0, s .pre .1 .1 .1 .1 .1, ok)
 
 mul-loop : tie.Need-mul-loop Inv-loop μ-loop
 mul-loop c =
@@ -44,7 +45,7 @@ block-requires : tie.Need-block-requires Inv-loop μ-loop
 block-requires c κs =
     let loop = c .before .before .loop in
     let s = c .before .before .before .before .before .before .before in
-    (s .pre .0, ((omega arith, loop .inv .2), (s .pre .1 .1 .0, (loop .inv .3, loop .inv .4))))
+    (s .pre .0, ((omega arith, loop .inv .2), (s .pre .1 .1 .1 .0, (loop .inv .3, loop .inv .4))))
 
 returns : tie.Need-returns Inv-loop μ-loop
 returns c =

@@ -23,8 +23,16 @@ blocks-requires : tie.Need-blocks-requires
 blocks-requires c κs =
     let noted = c .before .before .before in
     let s = noted .before .before .before .before .before .before in
-    let ok = s .pre .1 .1 in
-    (s .pre .0, (omega (arith, noted .note-ranges .kept), ((ok .walks-ascend, ok .hops-ascend), (noted .note-ranges .ensures .0, noted .note-ranges .ensures .1))))
+    let ok = s .pre .1 .1 in (
+      s .pre .0,
+      (
+        (omega arith, omega (arith, noted .note-ranges .kept)),
+        (
+          λ v l. absurd (omega arith),
+          ((ok .walks-ascend, ok .hops-ascend), (noted .note-ranges .ensures .0, noted .note-ranges .ensures .1)),
+        ),
+      ),
+    )
 
 pub vertex-records-spec : {M : Type 1} → statement M
 vertex-records-spec = tie.close (tie.spec note-ranges-requires blocks-requires (λ c. search needs) (λ c. search needs))
