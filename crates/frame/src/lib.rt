@@ -3,6 +3,7 @@
 // Rests on: the numbers of `words`, the list's judge of `lists`, and the toolchain's comparison of floats. Floats are compared, never computed with.
 use lists::Judged;
 use words::Refusal;
+use words::fine;
 ghost use mathlib.Core.Path.{_≡_};
 ghost use mathlib.Core.Bool.{true};
 ghost use Prim.Native.Nat.{_+_, _-_, _*_, _/_, _<_, _≤_};
@@ -57,17 +58,11 @@ fn points(coordinates: &[u8], n: usize) -> Refusal
     let mut v = 0;
     while v < n {
         if !point_ok(coordinates, v) {
-            return Refusal {
-                number: 23,
-                place: v as u32,
-            };
+            return words::refused(23, v as u32);
         }
         v += 1;
     }
-    Refusal {
-        number: 0,
-        place: 0,
-    }
+    fine()
 }
 
 fn coordinate(bits: u32) -> f32
@@ -152,27 +147,15 @@ fn lengths(vertices: &[u8], list: &[u8], coordinates: &[u8]) -> Refusal
     ensures { λ r. ⌜ told r ≡ frameLengths (now (vertices .entry)) (now (list .entry)) (now (coordinates .entry)) ⌝ }
 {
     if !table_ok(vertices) {
-        return Refusal {
-            number: 1,
-            place: 0,
-        };
+        return words::refused(1, 0);
     }
     if list.len() % 8 != 0 {
-        return Refusal {
-            number: 1,
-            place: 4,
-        };
+        return words::refused(1, 4);
     }
     if coordinates.len() != 8 * (vertices.len() / 12) {
-        return Refusal {
-            number: 1,
-            place: 6,
-        };
+        return words::refused(1, 6);
     }
-    Refusal {
-        number: 0,
-        place: 0,
-    }
+    fine()
 }
 
 fn refused(r: Refusal) -> Framed
@@ -200,30 +183,18 @@ fn entries(vertices: &[u8], list: &[u8], marks: &mut [u16]) -> Refusal
     let n = (vertices.len() / 12) as u32;
     let judged = lists::judge(list, 8, n, words::NONE, marks);
     let Judged::Bad(i) = judged else {
-        return Refusal {
-            number: 0,
-            place: 0,
-        };
+        return fine();
     };
-    Refusal {
-        number: 21,
-        place: i,
-    }
+    words::refused(21, i)
 }
 
 fn nonempty(list: &[u8]) -> Refusal
     ensures { λ r. ⌜ told r ≡ unless (ltb 0 (length (now (list .entry)) / 8)) 24 0 ⌝ }
 {
     if 0 < list.len() / 8 {
-        return Refusal {
-            number: 0,
-            place: 0,
-        };
+        return fine();
     }
-    Refusal {
-        number: 24,
-        place: 0,
-    }
+    words::refused(24, 0)
 }
 
 fn sooner(a: Refusal, b: Refusal) -> Refusal

@@ -8,14 +8,16 @@ use Rattle.frame.proofs.entries.Tie as tie
 returns : tie.Need-returns
 unfolding told
 returns c =
-    let j = c .before .before .before .before in
-    (sym (ap (told 21) (c .enum-told .given .1)) ∙ j .judge .ensures .0, j .judge .ensures .1)
+    let good = c .before in
+    let j = good .before .before .before .before in
+    (c .fine .ensures ∙ sym (ap (told 21) (good .enum-told .given .1)) ∙ j .judge .ensures .0, j .judge .ensures .1)
 
 returns-2 : tie.Need-returns-2
 unfolding told
 returns-2 c =
-    let j = c .before .before .before .before .before in
-    (sym (ap (told 21) (c .before .judged .given .1)) ∙ j .judge .ensures .0, j .judge .ensures .1)
+    let bad = c .before .before in
+    let j = bad .before .before .before .before in
+    (c .refused .ensures ∙ sym (ap (told 21) (bad .judged .given .1)) ∙ j .judge .ensures .0, j .judge .ensures .1)
 
 pub entries-spec : {M : Type 1} → statement M
 entries-spec =
@@ -25,7 +27,9 @@ entries-spec =
     (λ c κs. search needs)
     (λ c. search needs)
     (λ c. search needs)
+    (λ c κs. search needs)
     (λ c. search needs)
     returns
+    (λ c κs. search needs)
     (λ c. search needs)
     returns-2)

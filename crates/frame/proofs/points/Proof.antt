@@ -24,15 +24,17 @@ loop-holds c = (omega arith, λ k h. absurd (omega arith))
 point-ok-requires : tie.Need-point-ok-requires Inv-loop μ-loop
 point-ok-requires c κs = omega arith
 
-cast-t6 : tie.Need-cast-t6 Inv-loop μ-loop
-cast-t6 c = omega arith
+cast-refused : tie.Need-cast-refused Inv-loop μ-loop
+cast-refused c = omega arith
 
 returns : tie.Need-returns Inv-loop μ-loop
 returns c =
-    let L = c .before .before .before .loop in
-    let s = c .before .before .before .before .before in
+    let bad = c .before in
+    let L = bad .before .before .before .loop in
+    let s = bad .before .before .before .before .before in
     let t = now (s .args .coordinates) in
-    first-refused 23 (omega arith) (pointOk t) (s .args .n) (L .v) (record { within = L .inv .0; before = L .inv .1; fails = λ _. sym (c .before .point-ok .ensures) ∙ not-true (c .before .point-ok .result) (c .if1 .taken) }) (c .before .before .loop-test .taken)
+    c .refused .ensures
+    ∙ first-refused 23 (omega arith) (pointOk t) (s .args .n) (L .v) (record { within = L .inv .0; before = L .inv .1; fails = λ _. sym (bad .before .point-ok .ensures) ∙ not-true (bad .before .point-ok .result) (bad .if1 .taken) }) (bad .before .before .loop-test .taken)
 
 loop-again : tie.Need-loop-again Inv-loop μ-loop
 loop-again c =
@@ -44,10 +46,12 @@ loop-again c =
 
 returns-2 : tie.Need-returns-2 Inv-loop μ-loop
 returns-2 c =
-    let L = c .before .loop in
-    let s = c .before .before .before in
+    let end = c .before in
+    let L = end .before .loop in
+    let s = end .before .before .before in
     let t = now (s .args .coordinates) in
-    none-refused 23 (omega arith) (pointOk t) (s .args .n) (L .v) (record { within = L .inv .0; before = L .inv .1; fails = λ h. absurd (omega (arith, c .loop-test .left)) }) (c .loop-test .left)
+    c .fine .ensures
+    ∙ none-refused 23 (omega arith) (pointOk t) (s .args .n) (L .v) (record { within = L .inv .0; before = L .inv .1; fails = λ h. absurd (omega (arith, end .loop-test .left)) }) (end .loop-test .left)
 
 pub points-spec : {M : Type 1} → statement M
 points-spec =
@@ -57,9 +61,11 @@ points-spec =
     μ-loop
     loop-holds
     point-ok-requires
-    cast-t6
+    cast-refused
+    (λ c κs. search needs)
     returns
     (λ c. search needs)
     (λ c. search needs)
     loop-again
+    (λ c κs. search needs)
     returns-2)
