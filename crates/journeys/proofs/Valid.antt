@@ -114,11 +114,11 @@ ends-good n from to e =
     let b = and-both (ltb from n) _ (a .0) in
     (ltb-true _ _ (b .0), ltb-true _ _ (b .1), eqb-false _ _ (not-true _ (a .1)))
 
-module _ (N : Tables) (ok : ValidTables N) where
-  pub good-walk : (i : ℕ) → i < walkCount N → GoodWalk N i
+module _ (N : Tables) where
+  pub walk-says : (i : ℕ) → walkOk N i ≡ true → GoodWalk N i
   unfolding walkOk
-  good-walk i l =
-      let a = and-both (endsOk (vertexCount N) (walk N i .from) (walk N i .to) && lengthOk (walk N i .len)) _ (ok .walks i l) in
+  walk-says i ok =
+      let a = and-both (endsOk (vertexCount N) (walk N i .from) (walk N i .to) && lengthOk (walk N i .len)) _ ok in
       let b = and-both (endsOk (vertexCount N) (walk N i .from) (walk N i .to)) _ (a .0) in
       let c = and-both (leb 1 (walk N i .len)) _ (b .1) in
       let e = ends-good (vertexCount N) (walk N i .from) (walk N i .to) (b .0) in
@@ -134,10 +134,10 @@ module _ (N : Tables) (ok : ValidTables N) where
             (or-cases (eqb (walk N i .twin) none) _ (a .1));
       }
 
-  pub good-hop : (j : ℕ) → j < hopCount N → GoodHop N j
+  pub hop-says : (j : ℕ) → hopOk N j ≡ true → GoodHop N j
   unfolding hopOk
-  good-hop j l =
-      let a = and-both (endsOk (vertexCount N) (hop N j .from) (hop N j .to)) _ (ok .hops j l) in
+  hop-says j ok =
+      let a = and-both (endsOk (vertexCount N) (hop N j .from) (hop N j .to)) _ ok in
       let b = and-both (leb (midnight - 86400) (hop N j .departure) && ltb (hop N j .departure) (hop N j .arrival)) _ (a .1) in
       let c = and-both (leb (midnight - 86400) (hop N j .departure)) _ (b .0) in
       let e = ends-good (vertexCount N) (hop N j .from) (hop N j .to) (a .0) in
@@ -150,6 +150,13 @@ module _ (N : Tables) (ok : ValidTables N) where
         arrival-high = leb-true _ _ (b .1);
       }
 
+module _ (N : Tables) (ok : ValidTables N) where
+  pub good-walk : (i : ℕ) → i < walkCount N → GoodWalk N i
+  good-walk i l = walk-says N i (ok .walks i l)
+
+  pub good-hop : (j : ℕ) → j < hopCount N → GoodHop N j
+  good-hop j l = hop-says N j (ok .hops j l)
+
 -- the twin of a record: the same road the other way
 pub record Paired (N : Tables) (i j : ℕ) : Type 0 where
   pub back : walk N j .twin ≡ i
@@ -157,14 +164,17 @@ pub record Paired (N : Tables) (i j : ℕ) : Type 0 where
   pub to : walk N j .to ≡ walk N i .from
   pub len : walk N j .len ≡ walk N i .len
 
-pub paired : (N : Tables) → ValidTables N → (i : ℕ) → i < walkCount N → walk N i .twin ≢ none → (walk N i .twin < walkCount N) × Paired N i (walk N i .twin)
+pub twin-says : (N : Tables) (i : ℕ) → walkOk N i ≡ true → walk N i .twin ≢ none → (walk N i .twin < walkCount N) × Paired N i (walk N i .twin)
 unfolding pairOk
-paired N ok i l n =
-    let t = good-walk N ok i l .twin n in
+twin-says N i ok n =
+    let t = walk-says N i ok .twin n in
     let a = and-both (eqb (walk N (walk N i .twin) .twin) i && eqb (walk N (walk N i .twin) .from) (walk N i .to) && eqb (walk N (walk N i .twin) .to) (walk N i .from)) _ (t .1) in
     let b = and-both (eqb (walk N (walk N i .twin) .twin) i && eqb (walk N (walk N i .twin) .from) (walk N i .to)) _ (a .0) in
     let c = and-both (eqb (walk N (walk N i .twin) .twin) i) _ (b .0) in
     (t .0, record { back = eqb-true _ _ (c .0); from = eqb-true _ _ (c .1); to = eqb-true _ _ (b .1); len = eqb-true _ _ (a .1) })
+
+pub paired : (N : Tables) → ValidTables N → (i : ℕ) → i < walkCount N → walk N i .twin ≢ none → (walk N i .twin < walkCount N) × Paired N i (walk N i .twin)
+paired N ok i l n = twin-says N i (ok .walks i l) n
 
 -- D is some, and far below none
 pub allowed-some : {N : Tables} {Q : Query} → ValidQuery N Q → 1 ≤ allowed Q

@@ -1,0 +1,2 @@
+pub mod Injection
+pub mod Exchange
