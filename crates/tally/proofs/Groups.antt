@@ -1,7 +1,7 @@
 -- Groups of counters: none laid, one laid behind the others, one taken off a counter, all at zero. Assumes nothing.
 use mathlib.Core.Path.{_≡_, refl, sym, ap, _∙_, subst}
 use mathlib.Core.Logic.{_≢_, ⊎-elim}
-use mathlib.Core.Bool.{Bool, true, false}
+use mathlib.Core.Bool.{Bool, true, false, not}
 use mathlib.Core.List.{List}
 use Prim.Native.Nat.{ℕ, suc, _+_, _-_, _*_, _/_, _%_, _≤_, _<_, _^_}
 use native.Mathlib.Nat.{zero-div, zero-mod}
@@ -10,11 +10,11 @@ use native.Mathlib.Omega.{arith}
 use lib.Dec.{eqb, ltb}
 use lib.ListN.{length, getD, set}
 use lib.Seq.{getD-set-same, getD-set-other}
-use borrow.Author.Tests.{eq-eqb, lt-ltb, le-ltb, ltb-true, ltb-false}
+use borrow.Author.Tests.{eqb-true, eq-eqb, ne-eqb, not-false, lt-ltb, le-ltb, ltb-true, ltb-false}
 use Rattle.journeys.specs.Counting.{one, count}
 use Rattle.journeys.proofs.Tests.{Test, same, other, test, le-or-lt}
-use Rattle.journeys.proofs.Counting.{is-one, count-grows}
-use Rattle.tally.specs.Laid.{entry, start, nibbles, Width, narrow, middle, wide, place, unit, digit, wordOf, left, lowered, packed, listed, times, Same, Placed, Shaped, Laid, More, Met}
+use Rattle.journeys.proofs.Counting.{is-one, is-zero, some-count, count-none, count-grows}
+use Rattle.tally.specs.Laid.{entry, start, nibbles, Width, narrow, middle, wide, place, unit, digit, wordOf, left, lowered, packed, listed, times, filled, Same, Placed, Shaped, Laid, More, Met}
 use Rattle.tally.proofs.Digits.{unit-within, digit-less, digit-other, apart-in-word, packed-digit}
 
 offset : {m : ℕ} → Width m → (j : ℕ) → j < 32 → j * m / 4 < 8 * m
@@ -220,9 +220,21 @@ module _ (groups words size : ℕ) (s t : List ℕ) (least : 8 * groups ≤ word
       (λ w l. stays (words + w) (λ e. omega arith) ∙ packs w l)
 
 -- ---- all at zero
-pub zeros-met : (words : ℕ) (s : List ℕ) → ((i : ℕ) → i < words → getD s i 0 ≡ 0) → Met words s
+pub filled-more : (s : List ℕ) (i : ℕ) → filled s i ≡ 0 → getD s i 0 ≡ 0 → filled s (i + 1) ≡ 0
+unfolding count
+filled-more s i h e =
+    let n : i + 1 ≡ suc i = omega arith in
+    rw n (omega (arith, is-zero (ap not (eq-eqb (getD s i 0) 0 e))))
+
+pub filled-some : (s : List ℕ) (n i : ℕ) → i < n → getD s i 0 ≢ 0 → eqb (filled s n) 0 ≡ false
+filled-some s n i l h = ne-eqb (filled s n) 0 (λ e. omega (arith, some-count (λ j. not (eqb (getD s j 0) 0)) n i l (ap not (ne-eqb (getD s i 0) 0 h))))
+
+pub zeros-met : (words : ℕ) (s : List ℕ) → filled s words ≡ 0 → Met words s
 zeros-met words s z groups claims taken laid k l =
-    let none : left s k ≡ 0 = left-at s k (entry s (k / 32)) 0 refl (z (wordOf s k) (word-within (laid .shape) k l)) ∙ ap (λ (x : ℕ). x % 16 ^ nibbles (entry s (k / 32))) (zero-div (unit (entry s (k / 32)) k)) ∙ zero-mod (16 ^ nibbles (entry s (k / 32))) in
+    let e = entry s (k / 32) in
+    let w = wordOf s k in
+    let zero = eqb-true (getD s w 0) 0 (not-false _ (count-none (λ j. not (eqb (getD s j 0) 0)) words z w (word-within (laid .shape) k l))) in
+    let none : left s k ≡ 0 = left-at s k e 0 refl zero ∙ ap (λ (x : ℕ). x % 16 ^ nibbles e) (zero-div (unit e k)) ∙ zero-mod (16 ^ nibbles e) in
     omega (arith, laid .counted k l)
 
 -- ---- what the code reads of a counter: p is the weight of its lowest bit, q that of the bit above it

@@ -1,7 +1,7 @@
 -- Counters in groups of 32, as narrow as the claims of each group allow, inside a scratch of 2,048 numbers of 16 bits.
 -- The words of the counters stand up to 1,760, an entry for each group up to 1,980, and a list from 1,984 on. Assumes nothing.
 use mathlib.Core.Path.{_≡_}
-use mathlib.Core.Bool.{Bool, true, cond}
+use mathlib.Core.Bool.{Bool, true, cond, not}
 use mathlib.Core.List.{List}
 use Prim.Native.Nat.{ℕ, zero, suc, _+_, _-_, _*_, _/_, _%_, _≤_, _<_, _^_, max}
 use lib.Dec.{eqb, leb, ltb}
@@ -68,6 +68,10 @@ listed s i = getD s (1984 + i) 0
 
 abbrev pub times : List ℕ → ℕ → ℕ → ℕ
 times s n k = count (λ i. eqb (listed s i) k) n
+
+-- how many of the first n words are not zero
+abbrev pub filled : List ℕ → ℕ → ℕ
+filled s n = count (λ i. not (eqb (getD s i 0) 0)) n
 
 -- nothing changed from `low` up to `high`
 abbrev pub Same : ℕ → ℕ → List ℕ → List ℕ → Type 0

@@ -4,10 +4,10 @@
 ghost use mathlib.Core.Path.{_≡_};
 ghost use mathlib.Core.Bool.{true, cond};
 ghost use Prim.Native.Nat.{ℕ, _+_, _*_, _≤_, _<_, _^_, max};
-ghost use lib.Dec.{ltb};
+ghost use lib.Dec.{eqb, ltb};
 ghost use lib.ListN.{length, getD};
 ghost use Rattle.tally.specs.Laid as spec;
-ghost use Rattle.tally.specs.Laid.{Width, Placed, Same, More, Drained, Met, left, lowered, listed, packed, wordsWith};
+ghost use Rattle.tally.specs.Laid.{Width, Placed, Same, More, Drained, Met, left, lowered, listed, filled, packed, wordsWith};
 
 // The words of the counters stand first, then an entry for each group: where its words start and how many nibbles a counter has.
 // A list stands last: of 32 claims to lay, or of up to 64 counters to take one off.
@@ -163,7 +163,7 @@ pub fn drain(scratch: &mut [u16], count: usize) -> bool
 // Every counter is zero if every word is.
 pub fn empty(scratch: &[u16], words: usize) -> bool
     requires { ⌜ (words ≤ 1760) × (length (now scratch) ≡ 2048) ⌝ }
-    ensures { λ r. ⌜ (r ≡ true → Met words (now (scratch .entry))) × (((i : ℕ) → i < words → getD (now (scratch .entry)) i 0 ≡ 0) → r ≡ true) ⌝ }
+    ensures { λ r. ⌜ (r ≡ true → Met words (now (scratch .entry))) × (r ≡ eqb (filled (now (scratch .entry)) words) 0) ⌝ }
 {
     let mut i = 0;
     while i < words {
