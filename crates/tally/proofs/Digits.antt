@@ -2,7 +2,7 @@
 use mathlib.Core.Path.{_≡_, refl, sym, ap, _∙_}
 use mathlib.Core.Logic.{_⊎_, inl, inr, _≢_, ⊎-elim}
 use Prim.Native.Nat.{ℕ, zero, suc, _+_, _-_, _*_, _/_, _%_, _≤_, _<_, _^_, max}
-use native.Mathlib.Nat.{div-eq-of-lt, div-eq-sub-div, div-div-eq-div-mul, add-mul-div-left, add-mul-mod-self-left, mul-assoc, mul-one, one-le-pow, pow-zero, pow-suc}
+use native.Mathlib.Nat.{div-eq-of-lt, div-eq-sub-div, div-div-eq-div-mul, add-mul-div-left, add-mul-mod-self-left, mul-add-mod-self-left, mod-eq-of-lt, mod-lt, div-add-mod, mul-add, mul-suc, mul-assoc, mul-one, mul-le-mul-left, le-mul-of-pos-right, one-le-pow, pow-zero, pow-suc}
 use native.Mathlib.Omega.{arith}
 use Rattle.journeys.proofs.Tests.{le-or-lt, last-or-below}
 use Rattle.tally.specs.Laid.{Width, narrow, middle, wide, packed, greatest}
@@ -48,7 +48,7 @@ less-rest middle y h = omega arith
 less-rest wide y h = omega arith
 
 module _ {m : ℕ} (width : Width m) (x r : ℕ) (some : 0 < x / 16 ^ r % 16 ^ m) where
-  pub unit-within : 16 ^ r ≤ x
+  unit-within : 16 ^ r ≤ x
   unit-within =
       ⊎-elim (λ (l : 16 ^ r ≤ x). l) (λ (l : x < 16 ^ r). absurd (let z : ⊥ = omega (arith, some-whole width (x / 16 ^ r) some, div-eq-of-lt l) in z)) (le-or-lt (16 ^ r) x)
 
@@ -93,6 +93,47 @@ module _ {m : ℕ} (width : Width m) (x r : ℕ) (some : 0 < x / 16 ^ r % 16 ^ m
       ap (λ (n : ℕ). (x - 16 ^ r) / 16 ^ n % 16 ^ m) e
       ∙ ap (λ (y : ℕ). y % 16 ^ m) (digit-above (q - (r + m)))
       ∙ ap (λ (n : ℕ). x / 16 ^ n % 16 ^ m) (sym e)
+
+-- whether there is a digit, by what stands below the digit above it
+module _ (x r m : ℕ) where
+  below-above : x % 16 ^ (r + m) ≡ 16 ^ r * (x / 16 ^ r % 16 ^ m) + x % 16 ^ r
+  below-above =
+      ap (λ (n : ℕ). x % n) (power-more r m)
+      ∙ ap (λ (n : ℕ). n % (16 ^ r * 16 ^ m)) whole
+      ∙ mul-add-mod-self-left (16 ^ r * 16 ^ m) (x / 16 ^ r / 16 ^ m) (16 ^ r * (x / 16 ^ r % 16 ^ m) + x % 16 ^ r)
+      ∙ mod-eq-of-lt small
+    where
+      whole : x ≡ 16 ^ r * 16 ^ m * (x / 16 ^ r / 16 ^ m) + (16 ^ r * (x / 16 ^ r % 16 ^ m) + x % 16 ^ r)
+      whole =
+          omega (
+            arith,
+            div-add-mod x (16 ^ r),
+            ap (λ (n : ℕ). 16 ^ r * n) (div-add-mod (x / 16 ^ r) (16 ^ m)),
+            mul-add (16 ^ r) (16 ^ m * (x / 16 ^ r / 16 ^ m)) (x / 16 ^ r % 16 ^ m),
+            mul-assoc (16 ^ r) (16 ^ m) (x / 16 ^ r / 16 ^ m),
+          )
+
+      small : 16 ^ r * (x / 16 ^ r % 16 ^ m) + x % 16 ^ r < 16 ^ r * 16 ^ m
+      small = omega (arith, mul-le-mul-left (16 ^ r) (mod-lt (x / 16 ^ r) (power-some m)), mul-suc (16 ^ r) (x / 16 ^ r % 16 ^ m), mod-lt x (power-some r))
+
+  pub no-digit : x % 16 ^ (r + m) < 16 ^ r → x / 16 ^ r % 16 ^ m ≡ 0
+  no-digit l =
+      ⊎-elim (λ (h : x / 16 ^ r % 16 ^ m ≤ 0). omega arith)
+      (λ (h : 0 < x / 16 ^ r % 16 ^ m). absurd (let z : ⊥ = omega (arith, below-above, le-mul-of-pos-right (16 ^ r) h) in z))
+      (le-or-lt (x / 16 ^ r % 16 ^ m) 0)
+
+  pub some-digit : 16 ^ r ≤ x % 16 ^ (r + m) → 0 < x / 16 ^ r % 16 ^ m
+  some-digit l =
+      ⊎-elim (λ (h : x / 16 ^ r % 16 ^ m ≤ 0).
+      let e : x / 16 ^ r % 16 ^ m ≡ 0 = omega arith in
+      absurd (let z : ⊥ = omega (arith, below-above, ap (λ (n : ℕ). 16 ^ r * n) e, mod-lt x (power-some r)) in z))
+      (λ (h : 0 < x / 16 ^ r % 16 ^ m). h)
+      (le-or-lt (x / 16 ^ r % 16 ^ m) 0)
+
+pub digit-within : {m : ℕ} → Width m → (j : ℕ) → j * m % 4 + m ≤ 4
+digit-within narrow j = omega arith
+digit-within middle j = omega arith
+digit-within wide j = omega arith
 
 -- two counters of one word
 pub apart-in-word : {m : ℕ} → Width m → (i j : ℕ) → i ≢ j → i * m / 4 ≡ j * m / 4 → (i * m % 4 + m ≤ j * m % 4) ⊎ (j * m % 4 + m ≤ i * m % 4)

@@ -15,7 +15,7 @@ use Rattle.journeys.specs.Counting.{one, count}
 use Rattle.journeys.proofs.Tests.{Test, same, other, test, le-or-lt}
 use Rattle.journeys.proofs.Counting.{is-one, is-zero, some-count, count-none, count-grows}
 use Rattle.tally.specs.Laid.{entry, start, nibbles, Width, narrow, middle, wide, place, unit, digit, wordOf, left, lowered, packed, listed, times, filled, Same, Placed, Shaped, Laid, More, Met}
-use Rattle.tally.proofs.Digits.{unit-within, digit-less, digit-other, apart-in-word, packed-digit}
+use Rattle.tally.proofs.Digits.{digit-less, no-digit, some-digit, digit-other, apart-in-word, packed-digit}
 
 offset : {m : ℕ} → Width m → (j : ℕ) → j < 32 → j * m / 4 < 8 * m
 offset narrow j l = omega arith
@@ -237,23 +237,20 @@ zeros-met words s z groups claims taken laid k l =
     let none : left s k ≡ 0 = left-at s k e 0 refl zero ∙ ap (λ (x : ℕ). x % 16 ^ nibbles e) (zero-div (unit e k)) ∙ zero-mod (16 ^ nibbles e) in
     omega (arith, laid .counted k l)
 
--- ---- what the code reads of a counter: p is the weight of its lowest bit, q that of the bit above it
-module _ (s : List ℕ) (k p q : ℕ) (low : p ≡ unit (entry s (k / 32)) k) (high : q ≡ 16 ^ nibbles (entry s (k / 32))) where
-  left-is : left s k ≡ getD s (wordOf s k) 0 / p % q
+-- ---- what the code reads of a counter: p is the weight of its lowest bit, q that of the lowest bit of the counter above
+module _ (s : List ℕ) (k p q : ℕ) (low : p ≡ unit (entry s (k / 32)) k) (high : q ≡ 16 ^ (k % 32 * nibbles (entry s (k / 32)) % 4 + nibbles (entry s (k / 32)))) where
+  abbrev word : ℕ
+  word = getD s (wordOf s k) 0
+
+  pub none-left : word % q < p → false ≡ ltb 0 (left s k)
   unfolding left
-  left-is = rw (low, high) refl
+  none-left l = sym (le-ltb 0 (left s k) (omega (arith, no-digit word (k % 32 * nibbles (entry s (k / 32)) % 4) (nibbles (entry s (k / 32))) (rw (low, high) at l))))
 
-  pub none-left : getD s (wordOf s k) 0 / p % q ≡ 0 → false ≡ ltb 0 (left s k)
-  none-left e = sym (le-ltb 0 (left s k) (omega (arith, left-is)))
-
-  pub some-left : (getD s (wordOf s k) 0 / p % q ≡ 0 → ⊥) → true ≡ ltb 0 (left s k)
-  some-left n = sym (lt-ltb 0 (left s k) (omega (arith, left-is)))
-
-  pub unit-fits : Placed s k → (getD s (wordOf s k) 0 / p % q ≡ 0 → ⊥) → p ≤ getD s (wordOf s k) 0
+  pub some-left : p ≤ word % q → true ≡ ltb 0 (left s k)
   unfolding left
-  unit-fits placed n = rw low (unit-within (placed .width) (getD s (wordOf s k) 0) (k % 32 * nibbles (entry s (k / 32)) % 4) (omega (arith, left-is)))
+  some-left l = sym (lt-ltb 0 (left s k) (some-digit word (k % 32 * nibbles (entry s (k / 32)) % 4) (nibbles (entry s (k / 32))) (rw (low, high) at l)))
 
-  pub lowered-is : set s (wordOf s k) (getD s (wordOf s k) 0 - p) ≡ lowered s k
+  pub lowered-is : set s (wordOf s k) (word - p) ≡ lowered s k
   unfolding lowered
   lowered-is = rw low refl
 

@@ -134,8 +134,9 @@ fn take(scratch: &mut [u16], k: usize) -> bool
     let nibble = k % 32 * (entry % 8);
     let at = entry / 8 + nibble / 4;
     let unit = power(nibble % 4);
+    let above = power(nibble % 4 + entry % 8);
     let word = scratch[at] as u32;
-    if word / unit % power(entry % 8) == 0 {
+    if word % above < unit {
         return false;
     }
     scratch[at] = (word - unit) as u16;
