@@ -216,7 +216,7 @@ fn times_ok(departure: Seconds, arrival: Seconds) -> bool
 }
 
 // Whether `first` is the number of records with a "to" below v: the one before it has, and the one that it names has not.
-fn first_ok(table: &[u8], size: usize, first: u32, v: u32) -> bool
+pub fn first_ok(table: &[u8], size: usize, first: u32, v: u32) -> bool
     requires { ⌜ 8 ≤ size ⌝ }
     requires { ⌜ Ascending size (now table) ⌝ }
     ensures { λ r. ⌜ r ≡ eqb first (arrivingBelow size (now (table .entry)) v) ⌝ }
