@@ -40,6 +40,10 @@ unfolding aloneIn leaves
 none-leaves t z v =
     none-count _ (recordsIn 16 t) (λ i l. ap (λ (b : Bool). b && eqb (fromAt 16 t i) v) (count-none (λ j. eqb (twinAt t j) none) (recordsIn 16 t) z i l))
 
+pub ordered-less : {vertices walks hops : List ℕ} {limit : ℕ} (less : ℕ) → less ≤ limit → Ordered vertices walks hops limit → Ordered vertices walks hops less
+ordered-less less l o =
+    record { within = omega (arith, o .within); own = λ v m. o .own v (omega arith); next = λ v m. o .next v (omega arith) }
+
 module _ (vertices walks hops : List ℕ) (few : recordsIn 16 walks ≤ 262144) (ok : (i : ℕ) → i < recordsIn 16 walks → walkOk (tablesOf vertices walks hops) i ≡ true) where
   -- walks with a twin that leave v
   twin-leaves : ℕ → ℕ → Bool

@@ -74,7 +74,7 @@ fn sift_one(
 }
 
 // The records from `start` up to `end` that leave one of `len` vertices from `base` on and are counted there join the list. Answers how many stand there.
-fn sift(
+fn sift_each(
     table: &[u8],
     pairs: bool,
     start: usize,
@@ -95,6 +95,27 @@ fn sift(
         i += 1;
     }
     count
+}
+
+// With `pairs` written out: the loop is compiled for both, and reads no twin where none is asked for.
+fn sift(
+    table: &[u8],
+    pairs: bool,
+    start: usize,
+    end: usize,
+    base: usize,
+    len: usize,
+    scratch: &mut [u16],
+    waiting: usize,
+) -> usize
+    requires { ⌜ (start ≤ end) × (waiting + end ≤ start + 64) × (end ≤ recordsIn 16 (now table)) × (base ≤ 65536) × (len ≤ 65536) × (length (now scratch) ≡ 2048) ⌝ }
+    ensures { λ r. ⌜ (r + start ≤ waiting + end) × ((a : ℕ → ℕ) → Listed len waiting (now (scratch .entry)) a (λ k. countedTo pairs (now (table .entry)) (base + k) start) → Listed len r (now (scratch .exit)) a (λ k. countedTo pairs (now (table .entry)) (base + k) end)) ⌝ }
+    ensures { λ _. ⌜ Same 0 1984 (now (scratch .entry)) (now (scratch .exit)) ⌝ }
+{
+    if pairs {
+        return sift_each(table, true, start, end, base, len, scratch, waiting);
+    }
+    sift_each(table, false, start, end, base, len, scratch, waiting)
 }
 
 // A list of more than 32 is drained. Answers how many wait still, or 64 if a counter would fall below zero.
@@ -363,7 +384,39 @@ fn count_alone(walks: &[u8]) -> usize
     found
 }
 
-// Every vertex below the answer is in order. Of the others nothing is said.
+// Up to which vertex from `start` on all are good, by stretches of at most `most` vertices.
+fn advance(
+    vertices: &[u8],
+    walks: &[u8],
+    hops: &[u8],
+    alone: usize,
+    limit: usize,
+    most: usize,
+    start: usize,
+    scratch: &mut [u16],
+) -> usize
+    requires { ⌜ (length (now vertices) / 12 ≤ 65536) × (recordsIn 16 (now walks) ≤ 262144) × (length (now scratch) ≡ 2048) ⌝ }
+    requires { ⌜ Ascending 16 (now walks) × (alone ≡ aloneIn (now walks)) ⌝ }
+    requires { ⌜ ((i : ℕ) → i < recordsIn 16 (now walks) → walkOk (tablesOf (now vertices) (now walks) (now hops)) i ≡ true) ⌝ }
+    requires { ⌜ Ordered (now vertices) (now walks) (now hops) limit ⌝ }
+    requires { ⌜ (start ≤ limit) × (most ≤ 65536) ⌝ }
+    ensures { λ r. ⌜ (start ≤ r) × (r ≤ limit) × ((v : ℕ) → start ≤ v → v < r → vertexOk (tablesOf (now (vertices .entry)) (now (walks .entry)) (now (hops .entry))) v ≡ true) ⌝ }
+{
+    let pairs = 2 * alone <= walks.len() / 16;
+    let mut base = start;
+    while base < limit {
+        let end = lesser(base + most, limit);
+        let len = stretch(vertices, walks, hops, alone, pairs, end, base, scratch);
+        if len == 0 {
+            return base;
+        }
+        base += len;
+    }
+    base
+}
+
+// Every vertex below the answer is good. Of the others nothing is said.
+// Where a long stretch has a bad vertex, short ones come closer to it: the exact check then has less to do.
 pub fn sure(vertices: &[u8], walks: &[u8], hops: &[u8], scratch: &mut [u16]) -> usize
     requires { ⌜ (length (now vertices) / 12 ≤ 65536) × (recordsIn 16 (now walks) ≤ 262144) × (length (now scratch) ≡ 2048) ⌝ }
     requires { ⌜ Ascending 16 (now walks) × Ascending 16 (now hops) ⌝ }
@@ -371,15 +424,7 @@ pub fn sure(vertices: &[u8], walks: &[u8], hops: &[u8], scratch: &mut [u16]) -> 
     ensures { λ r. ⌜ (r ≤ length (now (vertices .entry)) / 12) × ((v : ℕ) → v < r → vertexOk (tablesOf (now (vertices .entry)) (now (walks .entry)) (now (hops .entry))) v ≡ true) ⌝ }
 {
     let alone = count_alone(walks);
-    let pairs = 2 * alone <= walks.len() / 16;
     let limit = ordered(vertices, walks, hops);
-    let mut base = 0;
-    while base < limit {
-        let len = stretch(vertices, walks, hops, alone, pairs, limit, base, scratch);
-        if len == 0 {
-            return base;
-        }
-        base += len;
-    }
-    base
+    let far = advance(vertices, walks, hops, alone, limit, 65536, 0, scratch);
+    advance(vertices, walks, hops, alone, limit, 1024, far, scratch)
 }
