@@ -36,6 +36,11 @@ ghost use Rattle.tally.specs.Laid.{Same, Placed, listed};
 // More than any vertex can claim.
 const UNCLAIMED: usize = 65536;
 
+// The most vertices of a stretch: as many as have room, or whole groups of 32 that are fewer than a block of the exact check.
+const LONG: usize = 65536;
+
+const SHORT: usize = 1888;
+
 // One more where a test holds.
 fn more(count: usize, test: bool) -> usize
     requires { ⌜ count < 18446744073709551615 ⌝ }
@@ -342,15 +347,20 @@ fn in_order(vertices: &[u8], walks: &[u8], hops: &[u8], v: u32) -> bool
     ensures { λ r. ⌜ r ≡ inOrder (now (vertices .entry)) (now (walks .entry)) (now (hops .entry)) v ⌝ }
 {
     let x = vertex_at(vertices, v as usize);
-    first_ok(walks, WALK_SIZE, x.first_walk, v)
-        & first_ok(hops, HOP_SIZE, x.first_hop, v)
-        & (x.zeros == 0)
+    if !first_ok(walks, WALK_SIZE, x.first_walk, v) {
+        return false;
+    }
+    if !first_ok(hops, HOP_SIZE, x.first_hop, v) {
+        return false;
+    }
+    x.zeros == 0
 }
 
-fn before(v: usize) -> usize
-    ensures { λ r. ⌜ r ≡ v - 1 ⌝ }
+// The last whole group of vertices whose runs have their ends where v is the first in no order. Stretches of whole groups meet no vertex behind them.
+fn whole_before(v: usize) -> usize
+    ensures { λ r. ⌜ r ≡ (v - 1) / 32 * 32 ⌝ }
 {
-    if v == 0 { 0 } else { v - 1 }
+    if v == 0 { 0 } else { (v - 1) / 32 * 32 }
 }
 
 // Up to which vertex all are in order, with the next one: its first is where the run ends.
@@ -363,7 +373,7 @@ fn ordered(vertices: &[u8], walks: &[u8], hops: &[u8]) -> usize
     let mut v = 0;
     while v < n {
         if !in_order(vertices, walks, hops, v as u32) {
-            return before(v);
+            return whole_before(v);
         }
         v += 1;
     }
@@ -415,8 +425,27 @@ fn advance(
     base
 }
 
-// Every vertex below the answer is good. Of the others nothing is said.
+// Every vertex below the answer is good. Of the others nothing is said. `alone` walks have no twin.
 // Where a long stretch has a bad vertex, short ones come closer to it: the exact check then has less to do.
+pub fn sure_with(
+    vertices: &[u8],
+    walks: &[u8],
+    hops: &[u8],
+    alone: usize,
+    scratch: &mut [u16],
+) -> usize
+    requires { ⌜ (length (now vertices) / 12 ≤ 65536) × (recordsIn 16 (now walks) ≤ 262144) × (length (now scratch) ≡ 2048) ⌝ }
+    requires { ⌜ Ascending 16 (now walks) × Ascending 16 (now hops) ⌝ }
+    requires { ⌜ ((i : ℕ) → i < recordsIn 16 (now walks) → walkOk (tablesOf (now vertices) (now walks) (now hops)) i ≡ true) ⌝ }
+    requires { ⌜ alone ≡ aloneIn (now walks) ⌝ }
+    ensures { λ r. ⌜ (r ≤ length (now (vertices .entry)) / 12) × ((v : ℕ) → v < r → vertexOk (tablesOf (now (vertices .entry)) (now (walks .entry)) (now (hops .entry))) v ≡ true) ⌝ }
+{
+    let limit = ordered(vertices, walks, hops);
+    let far = advance(vertices, walks, hops, alone, limit, LONG, 0, scratch);
+    advance(vertices, walks, hops, alone, limit, SHORT, far, scratch)
+}
+
+// The same where nobody has counted the walks without twin.
 pub fn sure(vertices: &[u8], walks: &[u8], hops: &[u8], scratch: &mut [u16]) -> usize
     requires { ⌜ (length (now vertices) / 12 ≤ 65536) × (recordsIn 16 (now walks) ≤ 262144) × (length (now scratch) ≡ 2048) ⌝ }
     requires { ⌜ Ascending 16 (now walks) × Ascending 16 (now hops) ⌝ }
@@ -424,7 +453,5 @@ pub fn sure(vertices: &[u8], walks: &[u8], hops: &[u8], scratch: &mut [u16]) -> 
     ensures { λ r. ⌜ (r ≤ length (now (vertices .entry)) / 12) × ((v : ℕ) → v < r → vertexOk (tablesOf (now (vertices .entry)) (now (walks .entry)) (now (hops .entry))) v ≡ true) ⌝ }
 {
     let alone = count_alone(walks);
-    let limit = ordered(vertices, walks, hops);
-    let far = advance(vertices, walks, hops, alone, limit, 65536, 0, scratch);
-    advance(vertices, walks, hops, alone, limit, 1024, far, scratch)
+    sure_with(vertices, walks, hops, alone, scratch)
 }

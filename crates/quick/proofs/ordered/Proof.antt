@@ -33,9 +33,9 @@ returns : tie.Need-returns Inv-loop μ-loop
 returns c =
     let loop = c .before .before .before .before .loop in
     record {
-      within = omega (arith, c .before2 .ensures);
-      own = λ x l. loop .inv .2 x (omega (arith, c .before2 .ensures));
-      next = λ x l m. loop .inv .2 (x + 1) (omega (arith, c .before2 .ensures));
+      within = omega (arith, c .whole-before .ensures);
+      own = λ x l. loop .inv .2 x (omega (arith, c .whole-before .ensures));
+      next = λ x l m. loop .inv .2 (x + 1) (omega (arith, c .whole-before .ensures));
     }
 
 add-v : tie.Need-add-v Inv-loop μ-loop

@@ -1,25 +1,25 @@
--- `quick::sure` meets its contract: what the long stretches leave the short ones go on from. Assumes nothing.
+-- `quick::sure_with` meets its contract: what the long stretches leave the short ones go on from. Assumes nothing.
 use mathlib.Core.Logic.{⊎-elim}
 use Prim.Native.Nat.{_≤_, _<_}
 use native.Mathlib.Omega.{arith}
 use Rattle.journeys.proofs.Tests.{le-or-lt}
 use borrow.Author.Needs.{needs}
-use Rattle.quick.proofs.sure.Statement.{statement}
-use Rattle.quick.proofs.sure.Tie as tie
+use Rattle.quick.proofs.sure_with.Statement.{statement}
+use Rattle.quick.proofs.sure_with.Tie as tie
 
 advance-requires : tie.Need-advance-requires
 advance-requires c κs =
     let order = c .before in
-    let s = order .before .before .before .before .before .before in
-    (s .pre .0, ((s .pre .1 .0 .0, order .before .count-alone .ensures), (s .pre .1 .1, (order .ordered .ensures, (omega arith, omega arith)))))
+    let s = order .before .before .before .before .before in
+    (s .pre .0, ((s .pre .1 .0 .0, s .pre .1 .1 .1), (s .pre .1 .1 .0, (order .ordered .ensures, (omega arith, omega arith)))))
 
 advance-requires-2 : tie.Need-advance-requires-2
 advance-requires-2 c κs =
     let first = c .before .before .before in
     let order = first .before .before in
-    let s = order .before .before .before .before .before .before in (
+    let s = order .before .before .before .before .before in (
       (s .pre .0 .0, s .pre .0 .1, omega (arith, first .advance .kept, s .pre .0)),
-      ((s .pre .1 .0 .0, order .before .count-alone .ensures), (s .pre .1 .1, (order .ordered .ensures, (omega (arith, first .advance .ensures), omega arith)))),
+      ((s .pre .1 .0 .0, s .pre .1 .1 .1), (s .pre .1 .1 .0, (order .ordered .ensures, (omega (arith, first .advance .ensures), omega arith)))),
     )
 
 returns : tie.Need-returns
@@ -34,11 +34,10 @@ returns c =
           (le-or-lt (first .advance .result) v),
     )
 
-pub sure-spec : {M : Type 1} → statement M
-sure-spec =
+pub sure-with-spec : {M : Type 1} → statement M
+sure-with-spec =
     tie.close
     (tie.spec
-    (λ c κs. search needs)
     (λ c κs. search needs)
     advance-requires
     advance-requires-2
