@@ -2,8 +2,10 @@
 //! many vertices it holds. Both are called in the same way, by `Program`, and
 //! every answer of the one is held against the other's.
 
+pub mod checks;
 pub mod figures;
 pub mod frames;
+pub mod hard;
 pub mod machine;
 pub mod networks;
 pub mod page;

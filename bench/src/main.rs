@@ -5,7 +5,7 @@ mod linked;
 use std::fs::{read_to_string, write};
 use std::process::ExitCode;
 
-use bench::{figures, frames, page, speed};
+use bench::{checks, figures, frames, page, speed};
 use linked::Linked;
 
 const USAGE: &str = "usage:
@@ -41,7 +41,12 @@ fn main() -> ExitCode {
 
 /// Prints the times, and puts them in a page where one is named.
 fn measure(rounds: usize, page: Option<&str>) -> Result<(), String> {
-    let report = format!("{}\n{}", speed::report(&Linked, CODE, rounds)?, frames::table(&Linked, rounds)?);
+    let report = [
+        speed::report(&Linked, CODE, rounds)?,
+        checks::table(&Linked, rounds)?,
+        frames::table(&Linked, rounds)?,
+    ]
+    .join("\n");
     print!("{report}");
     match page {
         Some(page) => put(page, &[("speed", report)]),

@@ -35,9 +35,10 @@ pub fn shuffled(mut plan: Plan, vertex: usize) -> (Plan, usize) {
     for last in (1..numbers.len()).rev() {
         numbers.swap(last, rng.below(last + 1));
     }
-    for walk in &mut plan.walks {
-        walk.from = numbers[walk.from as usize];
-        walk.to = numbers[walk.to as usize];
+    let walks = plan.walks.iter_mut().map(|w| [&mut w.from, &mut w.to]);
+    let hops = plan.hops.iter_mut().map(|h| [&mut h.from, &mut h.to]);
+    for end in walks.chain(hops).flatten() {
+        *end = numbers[*end as usize];
     }
     (plan, numbers[vertex] as usize)
 }
