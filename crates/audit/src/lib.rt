@@ -193,15 +193,19 @@ fn blocks(vertices: &[u8], walks: &[u8], hops: &[u8], start: usize, scratch: &mu
     fine()
 }
 
-// Refusal 6: the vertices.
+// Refusal 6: the vertices. The quick judge goes before; where it stops, the exact check begins with that block.
 fn vertex_records(vertices: &[u8], walks: &[u8], hops: &[u8], scratch: &mut [u16]) -> Refusal
     requires { ⌜ Sizes (now vertices) (now walks) (now hops) ⌝ }
     requires { ⌜ length (now scratch) ≡ 2048 ⌝ }
     requires { ⌜ Passed (now vertices) (now walks) (now hops) ⌝ }
     ensures { λ r. ⌜ told r ≡ vertexRefusals (tablesOf (now (vertices .entry)) (now (walks .entry)) (now (hops .entry))) (length (now (vertices .entry)) / 12) 0 ⌝ }
 {
+    let sure = quick::sure(vertices, walks, hops, scratch);
+    if sure == vertices.len() / 12 {
+        return fine();
+    }
     note_ranges(walks, hops, scratch);
-    blocks(vertices, walks, hops, 0, scratch)
+    blocks(vertices, walks, hops, sure / BLOCK, scratch)
 }
 
 // Refusals 2 to 6, the lowest number first.
