@@ -1,6 +1,6 @@
 // The check of the three tables: refusals 1 (places 0 to 2) to 6, or none: RULES 12.12.
 // Promises: for every byte string of every length the answer is that of the definition, the tables are only read, and the lent scratch is zero afterwards.
-// Rests on: the readers of `records`, the counts of `departing` and the definitions of `journeys`. It has no array of its own.
+// Rests on: the readers of `records`, the quick judge of `quick`, the counts of `departing` and the definitions of `journeys`. It has no array of its own.
 use departing::BLOCK;
 use departing::clear;
 use departing::count_departing;
@@ -24,13 +24,16 @@ ghost use Rattle.journeys.specs.Refusals as refusals;
 ghost use Rattle.journeys.specs.Refusals.{tableOf, tableLengths, unless, orElse, firstFrom, firstBad, vertexOk};
 ghost use Rattle.words.specs.Told.{told};
 ghost use Rattle.records.specs.Columns.{recordsIn, ascendsAt, Ascending};
+ghost use Rattle.quick.specs.Claims.{aloneIn};
 ghost use Rattle.departing.specs.Scratch.{Outside, Noted};
 ghost use Rattle.audit.specs.Judging.{Sizes, Passed, recordFault, vertexRefusals};
 
-// What a pass over a table finds: its first bad record, and, where none is bad, the first one out of order.
+// What a pass over a table finds: its first bad record, and, where none is bad, the first one out of order and how many have no twin.
+// Hops have no twin: of them that number says nothing.
 struct Faults {
     bad: Refusal,
     order: Refusal,
+    alone: usize,
 }
 
 // Refusal 1: the lengths.
@@ -91,14 +94,17 @@ fn order_fault(first: Refusal, ascends: bool, number: u32, i: u32) -> Refusal
     refused(number, i)
 }
 
-// Both in one pass over the table of a kind; `number` is that of its order. `before` is "to" of the record before, or 0.
+// All in one pass over the table of a kind; `number` is that of its order. `before` is "to" of the record before, or 0.
+// `alone` is counted here because the quick judge would have to read every walk again for it.
 fn table_faults(vertices: &[u8], table: &[u8], kind: Kind, number: u32) -> Faults
     requires { ⌜ (recordsIn 16 (now table) ≤ 262144) × (0 < number) ⌝ }
     ensures { λ r. ⌜ told (r .bad) ≡ firstFrom (recordFault kind (now (vertices .entry)) (now (table .entry))) (recordsIn 16 (now (table .entry))) 0 ⌝ }
     ensures { λ r. ⌜ (r .bad .number ≡ 0 → told (r .order) ≡ firstBad number (ascendsAt 16 (now (table .entry))) (recordsIn 16 (now (table .entry)))) ⌝ }
+    ensures { λ r. ⌜ (r .bad .number ≡ 0 → r .alone ≡ aloneIn (now (table .entry))) ⌝ }
 {
     let n = (table.len() / 16) as u32;
     let mut order = fine();
+    let mut alone = 0;
     let mut before: u32 = 0;
     let mut i: u32 = 0;
     while i < n {
@@ -107,16 +113,19 @@ fn table_faults(vertices: &[u8], table: &[u8], kind: Kind, number: u32) -> Fault
             return Faults {
                 bad: bad,
                 order: order,
+                alone: alone,
             };
         }
         let to = to_at(table, 16, i as usize);
         order = order_fault(order, before <= to, number, i);
+        alone = quick::more(alone, quick::alone(table, i as usize));
         before = to;
         i += 1;
     }
     Faults {
         bad: fine(),
         order: order,
+        alone: alone,
     }
 }
 
@@ -193,14 +202,20 @@ fn blocks(vertices: &[u8], walks: &[u8], hops: &[u8], start: usize, scratch: &mu
     fine()
 }
 
-// Refusal 6: the vertices. The quick judge goes before; where it stops, the exact check begins with that block.
-fn vertex_records(vertices: &[u8], walks: &[u8], hops: &[u8], scratch: &mut [u16]) -> Refusal
+// Refusal 6: the vertices. The quick judge goes before; where it stops, the exact check begins with that block. `alone` walks have no twin.
+fn vertex_records(
+    vertices: &[u8],
+    walks: &[u8],
+    hops: &[u8],
+    alone: usize,
+    scratch: &mut [u16],
+) -> Refusal
     requires { ⌜ Sizes (now vertices) (now walks) (now hops) ⌝ }
-    requires { ⌜ length (now scratch) ≡ 2048 ⌝ }
+    requires { ⌜ (length (now scratch) ≡ 2048) × (alone ≡ aloneIn (now walks)) ⌝ }
     requires { ⌜ Passed (now vertices) (now walks) (now hops) ⌝ }
     ensures { λ r. ⌜ told r ≡ vertexRefusals (tablesOf (now (vertices .entry)) (now (walks .entry)) (now (hops .entry))) (length (now (vertices .entry)) / 12) 0 ⌝ }
 {
-    let sure = quick::sure(vertices, walks, hops, scratch);
+    let sure = quick::sure(vertices, walks, hops, alone, scratch);
     if sure == vertices.len() / 12 {
         return fine();
     }
@@ -228,7 +243,7 @@ fn first_fault(vertices: &[u8], walks: &[u8], hops: &[u8], scratch: &mut [u16]) 
     if of_hops.order.number != 0 {
         return of_hops.order;
     }
-    vertex_records(vertices, walks, hops, scratch)
+    vertex_records(vertices, walks, hops, of_walks.alone, scratch)
 }
 
 // Refusals 2 to 6 of tables whose lengths are right. The scratch may hold anything at the call.

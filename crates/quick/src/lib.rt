@@ -42,7 +42,7 @@ const LONG: usize = 65536;
 const SHORT: usize = 1888;
 
 // One more where a test holds.
-fn more(count: usize, test: bool) -> usize
+pub fn more(count: usize, test: bool) -> usize
     requires { ⌜ count < 18446744073709551615 ⌝ }
     ensures { λ r. ⌜ r ≡ count + one test ⌝ }
 {
@@ -50,7 +50,7 @@ fn more(count: usize, test: bool) -> usize
 }
 
 // Whether the record i has no twin.
-fn alone(table: &[u8], i: usize) -> bool
+pub fn alone(table: &[u8], i: usize) -> bool
     requires { ⌜ i < recordsIn 16 (now table) ⌝ }
     ensures { λ r. ⌜ r ≡ eqb (twinAt (now (table .entry)) i) none ⌝ }
 {
@@ -380,20 +380,6 @@ fn ordered(vertices: &[u8], walks: &[u8], hops: &[u8]) -> usize
     n
 }
 
-// How many walks have no twin.
-fn count_alone(walks: &[u8]) -> usize
-    ensures { λ r. ⌜ r ≡ aloneIn (now (walks .entry)) ⌝ }
-{
-    let n = walks.len() / 16;
-    let mut found = 0;
-    let mut i = 0;
-    while i < n {
-        found = more(found, alone(walks, i));
-        i += 1;
-    }
-    found
-}
-
 // Up to which vertex from `start` on all are good, by stretches of at most `most` vertices.
 fn advance(
     vertices: &[u8],
@@ -427,13 +413,7 @@ fn advance(
 
 // Every vertex below the answer is good. Of the others nothing is said. `alone` walks have no twin.
 // Where a long stretch has a bad vertex, short ones come closer to it: the exact check then has less to do.
-pub fn sure_with(
-    vertices: &[u8],
-    walks: &[u8],
-    hops: &[u8],
-    alone: usize,
-    scratch: &mut [u16],
-) -> usize
+pub fn sure(vertices: &[u8], walks: &[u8], hops: &[u8], alone: usize, scratch: &mut [u16]) -> usize
     requires { ⌜ (length (now vertices) / 12 ≤ 65536) × (recordsIn 16 (now walks) ≤ 262144) × (length (now scratch) ≡ 2048) ⌝ }
     requires { ⌜ Ascending 16 (now walks) × Ascending 16 (now hops) ⌝ }
     requires { ⌜ ((i : ℕ) → i < recordsIn 16 (now walks) → walkOk (tablesOf (now vertices) (now walks) (now hops)) i ≡ true) ⌝ }
@@ -443,15 +423,4 @@ pub fn sure_with(
     let limit = ordered(vertices, walks, hops);
     let far = advance(vertices, walks, hops, alone, limit, LONG, 0, scratch);
     advance(vertices, walks, hops, alone, limit, SHORT, far, scratch)
-}
-
-// The same where nobody has counted the walks without twin.
-pub fn sure(vertices: &[u8], walks: &[u8], hops: &[u8], scratch: &mut [u16]) -> usize
-    requires { ⌜ (length (now vertices) / 12 ≤ 65536) × (recordsIn 16 (now walks) ≤ 262144) × (length (now scratch) ≡ 2048) ⌝ }
-    requires { ⌜ Ascending 16 (now walks) × Ascending 16 (now hops) ⌝ }
-    requires { ⌜ ((i : ℕ) → i < recordsIn 16 (now walks) → walkOk (tablesOf (now vertices) (now walks) (now hops)) i ≡ true) ⌝ }
-    ensures { λ r. ⌜ (r ≤ length (now (vertices .entry)) / 12) × ((v : ℕ) → v < r → vertexOk (tablesOf (now (vertices .entry)) (now (walks .entry)) (now (hops .entry))) v ≡ true) ⌝ }
-{
-    let alone = count_alone(walks);
-    sure_with(vertices, walks, hops, alone, scratch)
 }

@@ -42,7 +42,7 @@ returns-3 c =
     let w = two .before .before in
     let a = w .before .before .before .before .before .args in
     go-on (w .table-faults .ensures .0) (two .if1 .left)
-    (go-on (h .table-faults2 .ensures .0) (three .if2 .left) (stop _ (w .table-faults .ensures .1 (two .if1 .left)) (c .before .if3 .taken)))
+    (go-on (h .table-faults2 .ensures .0) (three .if2 .left) (stop _ (w .table-faults .ensures .1 .0 (two .if1 .left)) (c .before .if3 .taken)))
     ∙ sym (contents-are (now (a .vertices)) (now (a .walks)) (now (a .hops)))
 
 returns-4 : tie.Need-returns-4
@@ -55,7 +55,7 @@ returns-4 c =
     let a = w .before .before .before .before .before .args in
     go-on (w .table-faults .ensures .0) (two .if1 .left)
     (go-on (h .table-faults2 .ensures .0) (three .if2 .left)
-    (go-on (w .table-faults .ensures .1 (two .if1 .left)) (four .if3 .left) (stop _ (h .table-faults2 .ensures .1 (three .if2 .left)) (c .before .if4 .taken))))
+    (go-on (w .table-faults .ensures .1 .0 (two .if1 .left)) (four .if3 .left) (stop _ (h .table-faults2 .ensures .1 .0 (three .if2 .left)) (c .before .if4 .taken))))
     ∙ sym (contents-are (now (a .vertices)) (now (a .walks)) (now (a .hops)))
 
 vertex-records-requires : tie.Need-vertex-records-requires
@@ -70,9 +70,9 @@ vertex-records-requires c κs =
     let a = s .args in (
       s .pre .0,
       (
-        s .pre .1,
+        (s .pre .1, w .table-faults .ensures .1 .1 (two .if1 .left)),
         passed (now (a .vertices)) (now (a .walks)) (now (a .hops)) (none (w .table-faults .ensures .0) (two .if1 .left)) (none (h .table-faults2 .ensures .0) (three .if2 .left))
-            (none (w .table-faults .ensures .1 (two .if1 .left)) (four .if3 .left)) (none (h .table-faults2 .ensures .1 (three .if2 .left)) (five .if4 .left)),
+            (none (w .table-faults .ensures .1 .0 (two .if1 .left)) (four .if3 .left)) (none (h .table-faults2 .ensures .1 .0 (three .if2 .left)) (five .if4 .left)),
       ),
     )
 
@@ -88,8 +88,8 @@ returns-5 c =
     let a = w .before .before .before .before .before .args in
     go-on (w .table-faults .ensures .0) (two .if1 .left)
     (go-on (h .table-faults2 .ensures .0) (three .if2 .left)
-    (go-on (w .table-faults .ensures .1 (two .if1 .left)) (four .if3 .left)
-    (go-on (h .table-faults2 .ensures .1 (three .if2 .left)) (five .if4 .left) (call .vertex-records .ensures))))
+    (go-on (w .table-faults .ensures .1 .0 (two .if1 .left)) (four .if3 .left)
+    (go-on (h .table-faults2 .ensures .1 .0 (three .if2 .left)) (five .if4 .left) (call .vertex-records .ensures))))
     ∙ sym (contents-are (now (a .vertices)) (now (a .walks)) (now (a .hops)))
 
 pub first-fault-spec : {M : Type 1} → statement M

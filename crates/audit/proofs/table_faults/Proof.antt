@@ -1,14 +1,19 @@
--- `audit::table_faults` meets its contract: the records before i are good, and `order` is the first of them out of order. Assumes nothing.
+-- `audit::table_faults` meets its contract: the records before i are good, `order` is the first of them out of order, and `alone` of them have no twin. Assumes nothing.
 use mathlib.Core.Path.{_≡_, refl, sym, ap, ap₂, _∙_}
 use mathlib.Core.Logic.{_≢_}
 use mathlib.Core.Bool.{Bool}
+use mathlib.Core.List.{List}
 use Prim.Native.Nat.{ℕ, _+_, _-_, _≤_, _<_}
-use lib.Dec.{leb}
+use lib.Dec.{eqb, leb}
 use denote.Ref.{now}
+use Rattle.journeys.specs.Counting.{none, count}
 use Rattle.journeys.specs.Refusals.{Refusal, unless, orElse, firstBad}
 use Rattle.journeys.proofs.Refusals.{from-first, from-none}
+use Rattle.journeys.proofs.Counting.{count-most}
 use Rattle.words.specs.Told.{told}
 use Rattle.records.specs.Columns.{recordsIn, toAt, ascendsAt}
+use Rattle.quick.specs.Claims.{twinAt, aloneIn}
+use Rattle.quick.proofs.Sifted.{count-zero, count-next}
 use Rattle.audit.specs.Judging.{recordFault}
 use Rattle.audit.proofs.Scan.{same-number, none-more, bad-none, bad-more}
 use Rattle.audit.proofs.InOrder.{ascends-is}
@@ -17,17 +22,21 @@ use borrow.Author.Needs.{needs}
 use Rattle.audit.proofs.table_faults.Statement.{statement}
 use Rattle.audit.proofs.table_faults.Tie as tie
 
+abbrev hasNoTwin : List ℕ → ℕ → Bool
+hasNoTwin t k = eqb (twinAt t k) none
+
 abbrev Inv-loop : tie.InvT-loop
-Inv-loop vertices table kind number n order₀ before₀ i₀ order before i =
+Inv-loop vertices table kind number n order₀ alone₀ before₀ i₀ order alone before i =
     (i ≤ n)
     × (n ≡ recordsIn 16 table)
     × (i ≡ 0 → before ≡ 0)
     × (0 < i → before ≡ toAt 16 table (i - 1))
     × ((k : ℕ) → k < i → recordFault kind vertices table k .number ≡ 0)
     × (told order ≡ firstBad number (ascendsAt 16 table) i)
+    × (alone ≡ count (hasNoTwin table) i)
 
 abbrev μ-loop : tie.MeasureT-loop
-μ-loop vertices table kind number n order₀ before₀ i₀ order before i = n - i
+μ-loop vertices table kind number n order₀ alone₀ before₀ i₀ order alone before i = n - i
 
 cast-n : tie.Need-cast-n Inv-loop μ-loop
 cast-n c = omega arith
@@ -35,7 +44,15 @@ cast-n c = omega arith
 loop-holds : tie.Need-loop-holds Inv-loop μ-loop
 loop-holds c =
     let a = c .before .before .before .args in
-    (omega arith, omega arith, λ h. refl, λ h. absurd (omega arith), λ k l. absurd (omega arith), c .fine .ensures ∙ sym (bad-none (a .number) (ascendsAt 16 (now (a .table)))))
+    let t = now (a .table) in (
+      omega arith,
+      omega arith,
+      λ h. refl,
+      λ h. absurd (omega arith),
+      λ k l. absurd (omega arith),
+      c .fine .ensures ∙ sym (bad-none (a .number) (ascendsAt 16 t)),
+      sym (count-zero (hasNoTwin t)),
+    )
 
 record-fault-requires : tie.Need-record-fault-requires Inv-loop μ-loop
 record-fault-requires c κs =
@@ -50,7 +67,7 @@ returns c =
     let f = recordFault (a .kind) (now (a .vertices)) (now (a .table)) in
     let some : f (loop .i) .number ≢ 0 = λ z. c .if1 .taken (same-number (call .record-fault .ensures) ∙ z) in (
       call .record-fault .ensures ∙ sym (from-first f (recordsIn 16 (now (a .table))) 0 (loop .i) (omega arith) (omega arith) some (λ j l m. loop .inv .4 j m)),
-      λ z. absurd (c .if1 .taken z),
+      (λ z. absurd (c .if1 .taken z), λ z. absurd (c .if1 .taken z)),
     )
 
 cast-to-at : tie.Need-cast-to-at Inv-loop μ-loop
@@ -58,6 +75,18 @@ cast-to-at c = omega arith
 
 to-at-requires : tie.Need-to-at-requires Inv-loop μ-loop
 to-at-requires c κs = (omega arith, omega arith)
+
+cast-alone : tie.Need-cast-alone Inv-loop μ-loop
+cast-alone c = omega arith
+
+alone-requires : tie.Need-alone-requires Inv-loop μ-loop
+alone-requires c κs = omega arith
+
+more-requires : tie.Need-more-requires Inv-loop μ-loop
+more-requires c κs =
+    let loop = c .before .before .before .before .before .before .before .loop in
+    let a = c .before .before .before .before .before .before .before .before .before .before .before .args in
+    omega (arith, loop .inv .6, count-most (hasNoTwin (now (a .table))) (loop .i))
 
 add-i : tie.Need-add-i Inv-loop μ-loop
 add-i c = omega arith
@@ -67,13 +96,14 @@ loop-less c = omega arith
 
 loop-again : tie.Need-loop-again Inv-loop μ-loop
 loop-again c =
-    let call = c .before .before .before .before in
+    let ordered = c .before .before in
+    let call = ordered .before .before .before .before in
     let loop = call .before .before .loop in
     let s = call .before .before .before .before .before .before in
     let a = s .args in
     let t = now (a .table) in
-    let to = c .before .to-at .ensures in
-    let good = sym (same-number (call .record-fault .ensures)) ∙ c .before .before .if1 .left in
+    let to = ordered .before .to-at .ensures in
+    let good = sym (same-number (call .record-fault .ensures)) ∙ ordered .before .before .if1 .left in
     let up = ap (leb (loop .before)) to ∙ ascends-is 16 t (loop .i) (loop .before) (loop .inv .2) (loop .inv .3) in
     let e : loop .i + 1 - 1 ≡ loop .i = omega arith in (
       omega arith,
@@ -81,18 +111,23 @@ loop-again c =
       λ h. absurd (omega arith),
       λ h. to ∙ ap (toAt 16 t) (sym e),
       none-more (recordFault (a .kind) (now (a .vertices)) t) (loop .i) (loop .inv .4) good,
-      c .order-fault .ensures
+      ordered .order-fault .ensures
           ∙ ap₂ (λ (x : Refusal) (b : Bool). orElse x (unless b (a .number) (loop .i))) (loop .inv .5) up
           ∙ sym (bad-more (a .number) (ascendsAt 16 t) (loop .i) (s .pre .1)),
+      rw (c .more .ensures, c .before .alone .ensures, loop .inv .6) (count-next (hasNoTwin t) (loop .i)),
     )
 
 returns-2 : tie.Need-returns-2 Inv-loop μ-loop
+unfolding aloneIn
 returns-2 c =
     let loop = c .before .before .loop in
     let a = c .before .before .before .before .before .before .args in
     let e : loop .i ≡ recordsIn 16 (now (a .table)) = omega arith in (
       c .fine2 .ensures ∙ sym (from-none (recordFault (a .kind) (now (a .vertices)) (now (a .table))) (recordsIn 16 (now (a .table))) 0 (λ k l m. loop .inv .4 k (omega arith))),
-      λ z. loop .inv .5 ∙ ap (firstBad (a .number) (ascendsAt 16 (now (a .table)))) e,
+      (
+        λ z. loop .inv .5 ∙ ap (firstBad (a .number) (ascendsAt 16 (now (a .table)))) e,
+        λ z. loop .inv .6 ∙ ap (count (hasNoTwin (now (a .table)))) e,
+      ),
     )
 
 pub table-faults-spec : {M : Type 1} → statement M
@@ -109,6 +144,9 @@ table-faults-spec =
     cast-to-at
     to-at-requires
     (λ c κs. search needs)
+    cast-alone
+    alone-requires
+    more-requires
     add-i
     loop-less
     loop-again

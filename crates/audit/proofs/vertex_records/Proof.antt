@@ -15,7 +15,7 @@ sure-requires : tie.Need-sure-requires
 sure-requires c κs =
     let s = c .before .before .before .before .before in
     let ok = s .pre .1 .1 in
-    ((s .pre .0 .vertices-most, s .pre .0 .walks-most, s .pre .1 .0), ((ok .walks-ascend, ok .hops-ascend), ok .walks-good))
+    ((s .pre .0 .vertices-most, s .pre .0 .walks-most, s .pre .1 .0 .0), ((ok .walks-ascend, ok .hops-ascend), (ok .walks-good, s .pre .1 .0 .1)))
 
 returns : tie.Need-returns
 returns c =

@@ -1,11 +1,11 @@
--- `quick::sure_with` meets its contract: what the long stretches leave the short ones go on from. Assumes nothing.
+-- `quick::sure` meets its contract: what the long stretches leave the short ones go on from. Assumes nothing.
 use mathlib.Core.Logic.{⊎-elim}
 use Prim.Native.Nat.{_≤_, _<_}
 use native.Mathlib.Omega.{arith}
 use Rattle.journeys.proofs.Tests.{le-or-lt}
 use borrow.Author.Needs.{needs}
-use Rattle.quick.proofs.sure_with.Statement.{statement}
-use Rattle.quick.proofs.sure_with.Tie as tie
+use Rattle.quick.proofs.sure.Statement.{statement}
+use Rattle.quick.proofs.sure.Tie as tie
 
 advance-requires : tie.Need-advance-requires
 advance-requires c κs =
@@ -34,8 +34,8 @@ returns c =
           (le-or-lt (first .advance .result) v),
     )
 
-pub sure-with-spec : {M : Type 1} → statement M
-sure-with-spec =
+pub sure-spec : {M : Type 1} → statement M
+sure-spec =
     tie.close
     (tie.spec
     (λ c κs. search needs)
