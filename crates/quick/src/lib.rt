@@ -44,7 +44,7 @@ const SHORT: usize = 1888;
 // One more where a test holds.
 pub fn more(count: usize, test: bool) -> usize
     requires { ⌜ count < 18446744073709551615 ⌝ }
-    ensures { λ r. ⌜ r ≡ count + one test ⌝ }
+    ensures { λ r. ⌜ (r ≡ count + one test) × (r ≤ count + 1) ⌝ }
 {
     if test { count + 1 } else { count }
 }
@@ -304,10 +304,10 @@ fn drain_walks(
     requires { ⌜ ((k : ℕ) → k < 32 * groups → Placed (now scratch) k) ⌝ }
     ensures { λ r. ⌜ (r ≡ true → Takes groups (λ k. counted pairs (now (walks .entry)) (base + k)) (now (scratch .entry)) (now (scratch .exit))) ⌝ }
 {
-    if alone == 0 {
-        return true;
+    if alone != 0 {
+        return drain_table(walks, pairs, base, groups, scratch);
     }
-    drain_table(walks, pairs, base, groups, scratch)
+    true
 }
 
 // How many vertices from `base` on are met by the records that are counted: 0 where one may not be.

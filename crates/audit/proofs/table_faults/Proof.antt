@@ -114,7 +114,7 @@ loop-again c =
       ordered .order-fault .ensures
           ∙ ap₂ (λ (x : Refusal) (b : Bool). orElse x (unless b (a .number) (loop .i))) (loop .inv .5) up
           ∙ sym (bad-more (a .number) (ascendsAt 16 t) (loop .i) (s .pre .1)),
-      rw (c .more .ensures, c .before .alone .ensures, loop .inv .6) (count-next (hasNoTwin t) (loop .i)),
+      rw (c .more .ensures .0, c .before .alone .ensures, loop .inv .6) (count-next (hasNoTwin t) (loop .i)),
     )
 
 returns-2 : tie.Need-returns-2 Inv-loop μ-loop

@@ -5,7 +5,7 @@ use Rattle.quick.proofs.more.Statement.{statement}
 use Rattle.quick.proofs.more.Tie as tie
 
 returns : tie.Need-returns
-returns c = simp (c .if1 .taken)
+returns c = simp (c .if1 .taken) (omega arith)
 
 returns-2 : tie.Need-returns-2
 returns-2 c = simp (c .if1 .left) (omega arith)

@@ -50,7 +50,7 @@ loop-again c =
     let s = c .before .before .before .before .before in
     let t = now (s .args .walks) in
     let e : arrives t (s .args .v) (loop .i) ≡ not (c .before .alone .result) = run-goes t (s .pre .0) (s .args .v) (loop .i) (loop .inv .0) (omega arith) ∙ ap not (sym (c .before .alone .ensures)) in
-    (omega arith, omega arith, omega (arith, c .more .ensures, count-next (arrives t (s .args .v)) (loop .i), ap one e))
+    (omega arith, omega arith, omega (arith, c .more .ensures .0, count-next (arrives t (s .args .v)) (loop .i), ap one e))
 
 returns : tie.Need-returns Inv-loop μ-loop
 unfolding arriving

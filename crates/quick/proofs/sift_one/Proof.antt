@@ -1,14 +1,9 @@
 -- `quick::sift_one` meets its contract: the number is written behind the list, and belongs to it if the record is counted. Assumes nothing.
 use mathlib.Core.Path.{_≡_, _∙_}
-use mathlib.Core.Bool.{not, _&&_, _||_}
 use Prim.Native.Nat.{_+_}
 use native.Mathlib.Omega.{arith}
-use lib.Dec.{eqb, ltb}
 use lib.Seq.{getD-set-other}
 use denote.Ref.{now}
-use Rattle.journeys.specs.Counting.{none}
-use Rattle.journeys.proofs.Counting.{one-most}
-use Rattle.quick.specs.Claims.{twinAt}
 use Rattle.quick.proofs.Sifted.{sifted}
 use borrow.Author.Needs.{needs}
 use Rattle.quick.proofs.sift_one.Statement.{statement}
@@ -19,10 +14,9 @@ returns c =
     let sub = c .before .before in
     let word = sub .before in
     let s = word .before .before .before in
-    let a = s .args in
-    rw (c .more .ensures, c .before .alone .ensures) (
-      omega (arith, one-most (ltb (sub .wrapping-sub-usize .result) (a .len) && (not (a .pairs) || eqb (twinAt (now (a .table)) (a .i)) none))),
-      (
+    let a = s .args in (
+      c .more .ensures .1,
+      rw (c .more .ensures .0, c .before .alone .ensures) (
         λ x y h. sifted (a .pairs) (now (a .table)) (a .i) (a .base) (sub .wrapping-sub-usize .result) (a .len) (a .count) (now (a .scratch)) x y (sub .wrapping-sub-usize .ensures ∙ word .from-at .ensures) (omega arith) (omega arith) (omega arith) (omega arith) h,
         λ k l m. getD-set-other (now (a .scratch)) (1984 + a .count) k _ 0 (λ (e : k ≡ 1984 + a .count). omega arith),
       ),
