@@ -17,17 +17,17 @@ pub claimed-kept : {claim : ℕ → ℕ} {groups words : ℕ} {s s′ : List ℕ
 claimed-kept same c = record { small = c .small; laid = laid-kept (λ k p q. same k p (omega arith)) (c .laid) }
 
 -- one group more, of the claims in the list
-pub claimed-more : (f : ℕ → ℕ) (base groups words r : ℕ) (s s′ : List ℕ) → Claimed (λ k. f (base + k)) groups words s → Claims (λ j. f (base + 32 * groups + j)) 32 s → More groups words r s s′ → Claimed (λ k. f (base + k)) (groups + 1) r s′
+pub claimed-more : (f : ℕ → ℕ) (base groups words r : ℕ) (s s′ : List ℕ) → Claimed (λ k. f (base + k)) groups words s → Claims (λ j. f (base + 64 * groups + j)) 64 s → More groups words r s s′ → Claimed (λ k. f (base + k)) (groups + 1) r s′
 claimed-more f base groups words r s s′ c h m =
     record {
       small = λ k l.
-          ⊎-elim (λ (q : 32 * groups ≤ k).
-          let e : base + 32 * groups + (k - 32 * groups) ≡ base + k = omega arith in
-          rw e at (h (k - 32 * groups) (omega arith) .1))
-          (λ (q : k < 32 * groups). c .small k q)
-          (le-or-lt (32 * groups) k);
+          ⊎-elim (λ (q : 64 * groups ≤ k).
+          let e : base + 64 * groups + (k - 64 * groups) ≡ base + k = omega arith in
+          rw e at (h (k - 64 * groups) (omega arith) .1))
+          (λ (q : k < 64 * groups). c .small k q)
+          (le-or-lt (64 * groups) k);
       laid = m (λ k. f (base + k)) (λ _. 0) (c .laid)
           (λ i l.
-          let e : base + 32 * groups + i ≡ base + (32 * groups + i) = omega arith in
+          let e : base + 64 * groups + i ≡ base + (64 * groups + i) = omega arith in
           omega (arith, h i l .0 ∙ ap f e));
     }

@@ -10,13 +10,13 @@ use Rattle.quick.specs.Lists.{Takes, Waiting}
 use Rattle.quick.proofs.Sifted.{listed-none}
 
 -- where a counter stands is told by its entry
-pub placed-kept : {s s′ : List ℕ} → Same 1760 1980 s s′ → {k : ℕ} → Placed s k → Placed s′ k
+pub placed-kept : {s s′ : List ℕ} → Same 1856 1972 s s′ → {k : ℕ} → Placed s k → Placed s′ k
 placed-kept {s} {s′} same {k} p =
-    let e : entry s′ (k / 32) ≡ entry s (k / 32) = same (1760 + k / 32) (omega arith) (omega (arith, p .inside)) in
+    let e : entry s′ (k / 64) ≡ entry s (k / 64) = same (1856 + k / 64) (omega arith) (omega (arith, p .inside)) in
     record {
       inside = p .inside;
       width = subst (λ (x : ℕ). Width (nibbles x)) (sym e) (p .width);
-      room = subst (λ (x : ℕ). place x k < 1760) (sym e) (p .room);
+      room = subst (λ (x : ℕ). place x k < 1856) (sym e) (p .room);
     }
 
 pub takes-none : (groups : ℕ) (more : ℕ → ℕ) (s : List ℕ) → ((k : ℕ) → more k ≡ 0) → Takes groups more s s
@@ -31,4 +31,4 @@ takes-list groups n all s₀ s s₁ r w d e words claims taken h =
     laid-same (λ k m. omega (arith, w .list .sum k m)) (d groups words claims _ (w .takes words claims taken h) (w .list .inside) .0 e)
 
 pub none-wait : (groups : ℕ) (all : ℕ → ℕ) (s₀ s : List ℕ) → Takes groups all s₀ s → Waiting groups 0 all s₀ s
-none-wait groups all s₀ s t = record { before = all; takes = t; list = listed-none (32 * groups) s all }
+none-wait groups all s₀ s t = record { before = all; takes = t; list = listed-none (64 * groups) s all }

@@ -10,7 +10,7 @@ Claims claim n s = (j : ℕ) → j < n → (listed s j ≡ claim j) × (claim j 
 
 -- `groups` groups of claims are laid, none of them taken yet
 pub record Claimed (claim : ℕ → ℕ) (groups words : ℕ) (s : List ℕ) : Type 0 where
-  pub small : (k : ℕ) → k < 32 * groups → claim k < 65536
+  pub small : (k : ℕ) → k < 64 * groups → claim k < 65536
   pub laid : Laid groups words claim (λ _. 0) s
 
 -- the first n numbers of the list name counters below `len`, and take the counts from a to b
@@ -27,4 +27,4 @@ Takes groups more s s′ =
 pub record Waiting (groups n : ℕ) (all : ℕ → ℕ) (start s : List ℕ) : Type 0 where
   pub before : ℕ → ℕ
   pub takes : Takes groups before start s
-  pub list : Listed (32 * groups) n s before all
+  pub list : Listed (64 * groups) n s before all

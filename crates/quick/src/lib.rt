@@ -36,10 +36,10 @@ ghost use Rattle.tally.specs.Laid.{Same, Placed, listed};
 // More than any vertex can claim.
 const UNCLAIMED: usize = 65536;
 
-// The most vertices of a stretch: as many as have room, or whole groups of 32 that are fewer than a block of the exact check.
+// The most vertices of a stretch: as many as have room, or whole groups of 64 that are fewer than a block of the exact check.
 const LONG: usize = 65536;
 
-const SHORT: usize = 1888;
+const SHORT: usize = 1856;
 
 // One more where a test holds.
 pub fn more(count: usize, test: bool) -> usize
@@ -128,7 +128,7 @@ fn relieve(scratch: &mut [u16], waiting: usize) -> usize
     requires { ⌜ (waiting ≤ 64) × (length (now scratch) ≡ 2048) ⌝ }
     requires { ⌜ ((j : ℕ) → j < waiting → Placed (now scratch) (listed (now scratch) j)) ⌝ }
     ensures { λ r. ⌜ ((groups : ℕ) (all : ℕ → ℕ) (start : List ℕ) → r ≤ 32 → Waiting groups waiting all start (now (scratch .entry)) → Waiting groups r all start (now (scratch .exit))) ⌝ }
-    ensures { λ _. ⌜ Same 1760 1984 (now (scratch .entry)) (now (scratch .exit)) ⌝ }
+    ensures { λ _. ⌜ Same 1856 1984 (now (scratch .entry)) (now (scratch .exit)) ⌝ }
 {
     if waiting <= 32 {
         return waiting;
@@ -141,8 +141,8 @@ fn relieve(scratch: &mut [u16], waiting: usize) -> usize
 
 // Every record of a table that leaves a vertex of the groups from `base` on, and is counted there, takes one off. False if a counter would fall below zero.
 fn drain_table(table: &[u8], pairs: bool, base: usize, groups: usize, scratch: &mut [u16]) -> bool
-    requires { ⌜ (base ≤ 65536) × (groups ≤ 220) × (length (now scratch) ≡ 2048) ⌝ }
-    requires { ⌜ ((k : ℕ) → k < 32 * groups → Placed (now scratch) k) ⌝ }
+    requires { ⌜ (base ≤ 65536) × (groups ≤ 116) × (length (now scratch) ≡ 2048) ⌝ }
+    requires { ⌜ ((k : ℕ) → k < 64 * groups → Placed (now scratch) k) ⌝ }
     ensures { λ r. ⌜ (r ≡ true → Takes groups (λ k. counted pairs (now (table .entry)) (base + k)) (now (scratch .entry)) (now (scratch .exit))) ⌝ }
 {
     let n = table.len() / 16;
@@ -150,7 +150,7 @@ fn drain_table(table: &[u8], pairs: bool, base: usize, groups: usize, scratch: &
     let mut i = 0;
     while i < n {
         let end = lesser(i + 32, n);
-        let listed = sift(table, pairs, i, end, base, 32 * groups, scratch, waiting);
+        let listed = sift(table, pairs, i, end, base, 64 * groups, scratch, waiting);
         waiting = relieve(scratch, listed);
         if 32 < waiting {
             return false;
@@ -208,7 +208,7 @@ fn claim(vertices: &[u8], walks: &[u8], alone: usize, pairs: bool, limit: usize,
     departing - arriving
 }
 
-// The claims of 32 vertices from v on, in the list. False if one of them cannot be met.
+// The claims of 64 vertices from v on, in the list. False if one of them cannot be met.
 fn claims(
     vertices: &[u8],
     walks: &[u8],
@@ -221,11 +221,11 @@ fn claims(
     requires { ⌜ Ascending 16 (now walks) × (alone ≡ aloneIn (now walks)) ⌝ }
     requires { ⌜ (limit ≤ length (now vertices) / 12) × ((x : ℕ) → x < limit → Run (now vertices) (now walks) x) ⌝ }
     requires { ⌜ (v ≤ 65536) × (length (now scratch) ≡ 2048) ⌝ }
-    ensures { λ r. ⌜ (r ≡ true → Claims (λ j. claimOf pairs (now (vertices .entry)) (now (walks .entry)) limit (v + j)) 32 (now (scratch .exit))) ⌝ }
+    ensures { λ r. ⌜ (r ≡ true → Claims (λ j. claimOf pairs (now (vertices .entry)) (now (walks .entry)) limit (v + j)) 64 (now (scratch .exit))) ⌝ }
     ensures { λ _. ⌜ Same 0 1984 (now (scratch .entry)) (now (scratch .exit)) ⌝ }
 {
     let mut j = 0;
-    while j < 32 {
+    while j < 64 {
         let claimed = claim(vertices, walks, alone, pairs, limit, v + j);
         if UNCLAIMED <= claimed {
             return false;
@@ -259,14 +259,14 @@ fn lay_claims(
 {
     let mut groups = 0;
     let mut words = 0;
-    while base + 32 * groups < limit {
+    while base + 64 * groups < limit {
         if !claims(
             vertices,
             walks,
             alone,
             pairs,
             limit,
-            base + 32 * groups,
+            base + 64 * groups,
             scratch,
         ) {
             return Counters {
@@ -300,8 +300,8 @@ fn drain_walks(
     scratch: &mut [u16],
 ) -> bool
     requires { ⌜ (alone ≡ aloneIn (now walks)) × (alone ≡ 0 → pairs ≡ true) ⌝ }
-    requires { ⌜ (base ≤ 65536) × (groups ≤ 220) × (length (now scratch) ≡ 2048) ⌝ }
-    requires { ⌜ ((k : ℕ) → k < 32 * groups → Placed (now scratch) k) ⌝ }
+    requires { ⌜ (base ≤ 65536) × (groups ≤ 116) × (length (now scratch) ≡ 2048) ⌝ }
+    requires { ⌜ ((k : ℕ) → k < 64 * groups → Placed (now scratch) k) ⌝ }
     ensures { λ r. ⌜ (r ≡ true → Takes groups (λ k. counted pairs (now (walks .entry)) (base + k)) (now (scratch .entry)) (now (scratch .exit))) ⌝ }
 {
     if alone != 0 {
@@ -337,7 +337,7 @@ fn stretch(
     if !empty(scratch, laid.words) {
         return 0;
     }
-    lesser(32 * groups, limit - base)
+    lesser(64 * groups, limit - base)
 }
 
 // Whether the firsts and the zero field of v are right.
@@ -358,9 +358,9 @@ fn in_order(vertices: &[u8], walks: &[u8], hops: &[u8], v: u32) -> bool
 
 // The last whole group of vertices whose runs have their ends where v is the first in no order. Stretches of whole groups meet no vertex behind them.
 fn whole_before(v: usize) -> usize
-    ensures { λ r. ⌜ r ≡ (v - 1) / 32 * 32 ⌝ }
+    ensures { λ r. ⌜ r ≡ (v - 1) / 64 * 64 ⌝ }
 {
-    if v == 0 { 0 } else { (v - 1) / 32 * 32 }
+    if v == 0 { 0 } else { (v - 1) / 64 * 64 }
 }
 
 // Up to which vertex all are in order, with the next one: its first is where the run ends.

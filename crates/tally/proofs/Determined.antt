@@ -18,13 +18,13 @@ pub one-empty : (κs : _) (a : _) (z z′ : _) (e e′ : _) → empty.Post κs a
 one-empty κs a z z′ e e′ p q = p .1 ∙ sym (q .1)
 
 -- where one drain finds enough, so does the other
-module _ {groups words : ℕ} {claims taken : ℕ → ℕ} (n : ℕ) (s : List ℕ) (laid : Laid groups words claims taken s) (inside : (i : ℕ) → i < n → listed s i < 32 * groups) where
+module _ {groups words : ℕ} {claims taken : ℕ → ℕ} (n : ℕ) (s : List ℕ) (laid : Laid groups words claims taken s) (inside : (i : ℕ) → i < n → listed s i < 64 * groups) where
   enough : (r r′ : Bool) (t t′ : List ℕ) → Drained n r s t → Drained n r′ s t′ → r ≡ true → r′ ≡ true
   enough r r′ t t′ p q e =
       q groups words claims taken laid inside .1 (λ k l. omega (arith, p groups words claims taken laid inside .0 e .counted k l))
 
 pub one-drain : (κs : _) (a : _) (z z′ : _) (e e′ : _) → drain.Post κs a z e → drain.Post κs a z′ e′
-    → {groups words : ℕ} {claims taken : ℕ → ℕ} → Laid groups words claims taken (now (a .0)) → ((i : ℕ) → i < a .1 .0 → listed (now (a .0)) i < 32 * groups) → z ≡ z′
+    → {groups words : ℕ} {claims taken : ℕ → ℕ} → Laid groups words claims taken (now (a .0)) → ((i : ℕ) → i < a .1 .0 → listed (now (a .0)) i < 64 * groups) → z ≡ z′
 one-drain κs a z z′ e e′ p q laid inside =
     let s = now (a .0) in
     same-test z z′ (enough (a .1 .0) s laid inside z z′ _ _ (p .0) (q .0)) (enough (a .1 .0) s laid inside z′ z _ _ (q .0) (p .0))

@@ -156,7 +156,7 @@ greatest-more c n = let e : n + 1 ≡ suc n = omega arith in rw e refl
 
 -- the claims of a group in its words
 module _ (c : ℕ → ℕ) where
-  of-four : ((i : ℕ) → i < 32 → c i < 16) → (w r : ℕ) → w < 8 → r < 4 → (c (4 * w) + 16 * c (4 * w + 1) + 256 * c (4 * w + 2) + 4096 * c (4 * w + 3)) / 16 ^ r % 16 ≡ c (4 * w + r)
+  of-four : ((i : ℕ) → i < 64 → c i < 16) → (w r : ℕ) → w < 16 → r < 4 → (c (4 * w) + 16 * c (4 * w + 1) + 256 * c (4 * w + 2) + 4096 * c (4 * w + 3)) / 16 ^ r % 16 ≡ c (4 * w + r)
   of-four h w r l m = go r m
     where
       a : c (4 * w) < 16
@@ -178,12 +178,12 @@ module _ (c : ℕ → ℕ) where
       go (suc (suc (suc zero))) l = omega (arith, a, b, d, e)
       go (suc (suc (suc (suc r)))) l = absurd (omega arith)
 
-  of-two : ((i : ℕ) → i < 32 → c i < 256) → (w r : ℕ) → w < 16 → r < 2 → (c (2 * w) + 256 * c (2 * w + 1)) / 16 ^ (r * 2) % 256 ≡ c (2 * w + r)
+  of-two : ((i : ℕ) → i < 64 → c i < 256) → (w r : ℕ) → w < 32 → r < 2 → (c (2 * w) + 256 * c (2 * w + 1)) / 16 ^ (r * 2) % 256 ≡ c (2 * w + r)
   of-two h w zero l m = let z : 2 * w + 0 ≡ 2 * w = omega arith in rw z (omega (arith, h (2 * w) (omega arith), h (2 * w + 1) (omega arith)))
   of-two h w (suc zero) l m = omega (arith, h (2 * w) (omega arith), h (2 * w + 1) (omega arith))
   of-two h w (suc (suc r)) l m = absurd (omega arith)
 
-  pub packed-digit : {m : ℕ} → Width m → ((i : ℕ) → i < 32 → c i < 16 ^ m) → (i : ℕ) → i < 32 → packed c m (i * m / 4) / 16 ^ (i * m % 4) % 16 ^ m ≡ c i
+  pub packed-digit : {m : ℕ} → Width m → ((i : ℕ) → i < 64 → c i < 16 ^ m) → (i : ℕ) → i < 64 → packed c m (i * m / 4) / 16 ^ (i * m % 4) % 16 ^ m ≡ c i
   unfolding packed
   packed-digit narrow h i l =
       let e : i * 1 ≡ i = omega arith in
@@ -200,7 +200,7 @@ module _ (c : ℕ → ℕ) where
       rw (w, r) (omega (arith, h i l))
 
 -- what the code reads of the list for a word, and the word it makes
-pub packed-same : {m : ℕ} → Width m → (c d : ℕ → ℕ) (w : ℕ) → w < 8 * m → ((i : ℕ) → i < 32 → c i ≡ d i) → packed c m w ≡ packed d m w
+pub packed-same : {m : ℕ} → Width m → (c d : ℕ → ℕ) (w : ℕ) → w < 16 * m → ((i : ℕ) → i < 64 → c i ≡ d i) → packed c m w ≡ packed d m w
 unfolding packed
 packed-same narrow c d w l h = rw (h (4 * w) (omega arith), h (4 * w + 1) (omega arith), h (4 * w + 2) (omega arith), h (4 * w + 3) (omega arith)) refl
 packed-same middle c d w l h = rw (h (2 * w) (omega arith), h (2 * w + 1) (omega arith)) refl

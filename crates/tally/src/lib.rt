@@ -1,4 +1,4 @@
-// Counters of claims, as narrow as the claims of each group of 32 allow, inside a lent scratch of 2,048 numbers.
+// Counters of claims, as narrow as the claims of each group of 64 allow, inside a lent scratch of 2,048 numbers.
 // Promises: a counter that is laid holds its claim, each number drained takes one off its own counter alone, and none falls below zero.
 // Rests on: the counting of `journeys`. It knows nothing of what is counted, and has no array of its own.
 ghost use mathlib.Core.Path.{_≡_};
@@ -10,8 +10,8 @@ ghost use Rattle.tally.specs.Laid as spec;
 ghost use Rattle.tally.specs.Laid.{Width, Placed, Same, More, Drained, Met, left, lowered, listed, filled, packed, wordsWith};
 
 // The words of the counters stand first, then an entry for each group: where its words start and how many nibbles a counter has.
-// A list stands last: of 32 claims to lay, or of up to 64 counters to take one off.
-const WORDS: usize = 1760;
+// A list of 64 numbers stands last: of claims to lay, or of counters to take one off.
+const WORDS: usize = 1856;
 
 pub const LIST: usize = 1984;
 
@@ -29,14 +29,14 @@ fn higher(a: u16, b: u16) -> u16
     if a < b { b } else { a }
 }
 
-// The greatest of the 32 claims.
+// The greatest of the 64 claims.
 fn greatest(scratch: &[u16]) -> u16
     requires { ⌜ length (now scratch) ≡ 2048 ⌝ }
-    ensures { λ r. ⌜ r ≡ spec.greatest (listed (now (scratch .entry))) 32 ⌝ }
+    ensures { λ r. ⌜ r ≡ spec.greatest (listed (now (scratch .entry))) 64 ⌝ }
 {
     let mut most = 0;
     let mut i = 0;
-    while i < 32 {
+    while i < 64 {
         most = higher(most, scratch[LIST + i]);
         i += 1;
     }
@@ -73,8 +73,8 @@ fn two(a: u16, b: u16) -> u16
 
 // The word w of a group whose claims stand in the list.
 fn word(scratch: &[u16], size: usize, w: usize) -> u16
-    requires { ⌜ Width size × (w < 8 * size) × (length (now scratch) ≡ 2048) ⌝ }
-    requires { ⌜ ((i : ℕ) → i < 32 → listed (now scratch) i < 16 ^ size) ⌝ }
+    requires { ⌜ Width size × (w < 16 * size) × (length (now scratch) ≡ 2048) ⌝ }
+    requires { ⌜ ((i : ℕ) → i < 64 → listed (now scratch) i < 16 ^ size) ⌝ }
     ensures { λ r. ⌜ r ≡ packed (listed (now (scratch .entry))) size w ⌝ }
 {
     if size == 1 {
@@ -95,27 +95,27 @@ fn word(scratch: &[u16], size: usize, w: usize) -> u16
 
 // The words of a group, from a place on.
 fn pack(scratch: &mut [u16], at: usize, size: usize)
-    requires { ⌜ Width size × (at + 8 * size ≤ 1760) × (length (now scratch) ≡ 2048) ⌝ }
-    requires { ⌜ ((i : ℕ) → i < 32 → listed (now scratch) i < 16 ^ size) ⌝ }
-    ensures { λ _. ⌜ ((w : ℕ) → w < 8 * size → getD (now (scratch .exit)) (at + w) 0 ≡ packed (listed (now (scratch .entry))) size w) ⌝ }
-    ensures { λ _. ⌜ Same 0 at (now (scratch .entry)) (now (scratch .exit)) × Same 1760 2048 (now (scratch .entry)) (now (scratch .exit)) ⌝ }
+    requires { ⌜ Width size × (at + 16 * size ≤ 1856) × (length (now scratch) ≡ 2048) ⌝ }
+    requires { ⌜ ((i : ℕ) → i < 64 → listed (now scratch) i < 16 ^ size) ⌝ }
+    ensures { λ _. ⌜ ((w : ℕ) → w < 16 * size → getD (now (scratch .exit)) (at + w) 0 ≡ packed (listed (now (scratch .entry))) size w) ⌝ }
+    ensures { λ _. ⌜ Same 0 at (now (scratch .entry)) (now (scratch .exit)) × Same 1856 2048 (now (scratch .entry)) (now (scratch .exit)) ⌝ }
 {
     let mut w = 0;
-    while w < 8 * size {
+    while w < 16 * size {
         scratch[at + w] = word(scratch, size, w);
         w += 1;
     }
 }
 
-// One group more, of the 32 claims in the list. Answers how many words are laid then: as many as before if there is no room.
+// One group more, of the 64 claims in the list. Answers how many words are laid then: as many as before if there is no room.
 pub fn lay(scratch: &mut [u16], groups: usize, words: usize) -> usize
-    requires { ⌜ (8 * groups ≤ words) × (words ≤ 1760) × (length (now scratch) ≡ 2048) ⌝ }
+    requires { ⌜ (16 * groups ≤ words) × (words ≤ 1856) × (length (now scratch) ≡ 2048) ⌝ }
     ensures { λ r. ⌜ (words < r → More groups words r (now (scratch .entry)) (now (scratch .exit))) ⌝ }
     ensures { λ r. ⌜ (r ≡ words → now (scratch .exit) ≡ now (scratch .entry)) × (words ≤ r) × (r ≡ wordsWith (listed (now (scratch .entry))) words) ⌝ }
-    ensures { λ _. ⌜ Same 1980 2048 (now (scratch .entry)) (now (scratch .exit)) ⌝ }
+    ensures { λ _. ⌜ Same 1972 2048 (now (scratch .entry)) (now (scratch .exit)) ⌝ }
 {
     let size = width(greatest(scratch));
-    let end = words + 8 * size;
+    let end = words + 16 * size;
     if end > WORDS {
         return words;
     }
@@ -130,8 +130,8 @@ fn take(scratch: &mut [u16], k: usize) -> bool
     ensures { λ r. ⌜ r ≡ ltb 0 (left (now (scratch .entry)) k) ⌝ }
     ensures { λ r. ⌜ now (scratch .exit) ≡ cond r (lowered (now (scratch .entry)) k) (now (scratch .entry)) ⌝ }
 {
-    let entry = scratch[WORDS + k / 32] as usize;
-    let nibble = k % 32 * (entry % 8);
+    let entry = scratch[WORDS + k / 64] as usize;
+    let nibble = k % 64 * (entry % 8);
     let at = entry / 8 + nibble / 4;
     let unit = power(nibble % 4);
     let above = power(nibble % 4 + entry % 8);
@@ -148,7 +148,7 @@ pub fn drain(scratch: &mut [u16], count: usize) -> bool
     requires { ⌜ (count ≤ 64) × (length (now scratch) ≡ 2048) ⌝ }
     requires { ⌜ ((i : ℕ) → i < count → Placed (now scratch) (listed (now scratch) i)) ⌝ }
     ensures { λ r. ⌜ Drained count r (now (scratch .entry)) (now (scratch .exit)) ⌝ }
-    ensures { λ _. ⌜ Same 1760 2048 (now (scratch .entry)) (now (scratch .exit)) ⌝ }
+    ensures { λ _. ⌜ Same 1856 2048 (now (scratch .entry)) (now (scratch .exit)) ⌝ }
 {
     let mut i = 0;
     while i < count {
@@ -163,7 +163,7 @@ pub fn drain(scratch: &mut [u16], count: usize) -> bool
 
 // Every counter is zero if every word is.
 pub fn empty(scratch: &[u16], words: usize) -> bool
-    requires { ⌜ (words ≤ 1760) × (length (now scratch) ≡ 2048) ⌝ }
+    requires { ⌜ (words ≤ 1856) × (length (now scratch) ≡ 2048) ⌝ }
     ensures { λ r. ⌜ (r ≡ true → Met words (now (scratch .entry))) × (r ≡ eqb (filled (now (scratch .entry)) words) 0) ⌝ }
 {
     let mut i = 0;

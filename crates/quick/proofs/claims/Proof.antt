@@ -15,10 +15,10 @@ use Rattle.quick.proofs.claims.Tie as tie
 
 abbrev Inv-loop : tie.InvT-loop
 Inv-loop vertices walks alone pairs limit v scratch₀ j₀ scratch j =
-    (j ≤ 32) × (length scratch ≡ 2048) × Claims (λ k. claimOf pairs vertices walks limit (v + k)) j scratch × Same 0 1984 scratch₀ scratch
+    (j ≤ 64) × (length scratch ≡ 2048) × Claims (λ k. claimOf pairs vertices walks limit (v + k)) j scratch × Same 0 1984 scratch₀ scratch
 
 abbrev μ-loop : tie.MeasureT-loop
-μ-loop vertices walks alone pairs limit v scratch₀ j₀ scratch j = 32 - j
+μ-loop vertices walks alone pairs limit v scratch₀ j₀ scratch j = 64 - j
 
 loop-holds : tie.Need-loop-holds Inv-loop μ-loop
 loop-holds c = (omega arith, omega arith, λ k l. absurd (omega arith), λ k l m. refl)

@@ -21,7 +21,7 @@ Inv-loop table pairs base groups scratch₀ n waiting₀ i₀ scratch waiting i 
     × (n ≡ recordsIn 16 table)
     × (waiting ≤ 32)
     × (length scratch ≡ 2048)
-    × ((k : ℕ) → k < 32 * groups → Placed scratch k)
+    × ((k : ℕ) → k < 64 * groups → Placed scratch k)
     × Waiting groups waiting (λ k. countedTo pairs table (base + k) i) scratch₀ scratch
 
 abbrev μ-loop : tie.MeasureT-loop

@@ -16,7 +16,7 @@ Inv-loop vertices walks alone pairs limit base scratch₀ groups₀ words₀ scr
     (length scratch ≡ 2048) × Claimed (λ k. claimOf pairs vertices walks limit (base + k)) groups words scratch
 
 abbrev μ-loop : tie.MeasureT-loop
-μ-loop vertices walks alone pairs limit base scratch₀ groups₀ words₀ scratch groups words = limit - (base + 32 * groups)
+μ-loop vertices walks alone pairs limit base scratch₀ groups₀ words₀ scratch groups words = limit - (base + 64 * groups)
 
 loop-holds : tie.Need-loop-holds Inv-loop μ-loop
 loop-holds c = (omega arith, claimed-none _ _)

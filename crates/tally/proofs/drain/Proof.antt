@@ -16,8 +16,8 @@ abbrev Inv-loop : tie.InvT-loop
 Inv-loop scratch₀ count i₀ scratch i =
     (i ≤ count)
     × (length scratch ≡ 2048)
-    × Same 1760 2048 scratch₀ scratch
-    × ((groups words : ℕ) (claims taken : ℕ → ℕ) → Laid groups words claims taken scratch₀ → ((j : ℕ) → j < count → listed scratch₀ j < 32 * groups)
+    × Same 1856 2048 scratch₀ scratch
+    × ((groups words : ℕ) (claims taken : ℕ → ℕ) → Laid groups words claims taken scratch₀ → ((j : ℕ) → j < count → listed scratch₀ j < 64 * groups)
     → Laid groups words claims (λ k. taken k + times scratch₀ i k) scratch)
 
 abbrev μ-loop : tie.MeasureT-loop

@@ -10,10 +10,10 @@ use Rattle.tally.proofs.greatest.Statement.{statement}
 use Rattle.tally.proofs.greatest.Tie as tie
 
 abbrev Inv-loop : tie.InvT-loop
-Inv-loop scratch most₀ i₀ most i = (i ≤ 32) × (most ≡ greatest (listed scratch) i)
+Inv-loop scratch most₀ i₀ most i = (i ≤ 64) × (most ≡ greatest (listed scratch) i)
 
 abbrev μ-loop : tie.MeasureT-loop
-μ-loop scratch most₀ i₀ most i = 32 - i
+μ-loop scratch most₀ i₀ most i = 64 - i
 
 loop-holds : tie.Need-loop-holds Inv-loop μ-loop
 unfolding greatest
@@ -43,7 +43,7 @@ loop-again c =
 returns : tie.Need-returns Inv-loop μ-loop
 returns c =
     let loop = c .before .loop in
-    let e : loop .i ≡ 32 = omega arith in
+    let e : loop .i ≡ 64 = omega arith in
     loop .inv .1 ∙ ap (greatest (listed (now (c .before .before .before .args .scratch)))) e
 
 pub greatest-spec : {M : Type 1} → statement M

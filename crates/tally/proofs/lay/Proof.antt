@@ -18,19 +18,19 @@ mul-end c = omega (arith, width-some (c .width .ensures .1))
 add-end : tie.Need-add-end
 add-end c = omega (arith, width-some (c .width .ensures .1))
 
-small : (c : tie.After-width) (i : ℕ) → i < 32 → listed (now (c .before .before .before .before .args .scratch)) i < 16 ^ c .width .result
+small : (c : tie.After-width) (i : ℕ) → i < 64 → listed (now (c .before .before .before .before .args .scratch)) i < 16 ^ c .width .result
 small c i l =
     let claims = listed (now (c .before .before .before .before .args .scratch)) in
-    omega (arith, c .width .ensures .2, c .before .greatest .ensures, greatest-most claims 32 i l)
+    omega (arith, c .width .ensures .2, c .before .greatest .ensures, greatest-most claims 64 i l)
 
 -- the words that are laid with this group
-size-is : (c : tie.After-width) → c .width .result ≡ width (greatest (listed (now (c .before .before .before .before .args .scratch))) 32)
+size-is : (c : tie.After-width) → c .width .result ≡ width (greatest (listed (now (c .before .before .before .before .args .scratch))) 64)
 size-is c = c .width .ensures .0 ∙ ap width (c .before .greatest .ensures)
 
 returns : tie.Need-returns
 returns c =
     let wide = c .before in
-    let over = lt-leb (wide .before .before .before .before .args .words + 8 * wide .width .result) 1760 (omega arith) in
+    let over = lt-leb (wide .before .before .before .before .args .words + 16 * wide .width .result) 1856 (omega arith) in
     (λ l. absurd (omega arith), ((λ e. refl, omega arith, sym (rw (← size-is wide) (cond-false _ _ over))), λ k a b. refl))
 
 pack-requires : tie.Need-pack-requires
@@ -44,11 +44,11 @@ returns-2 c =
     let a = s .args in
     let size = wide .width .result in
     let w = wide .width .ensures .1 in
-    let room : a .words + 8 * size ≤ 1760 = omega arith in
+    let room : a .words + 16 * size ≤ 1856 = omega arith in
     let below = packed .pack .ensures .1 .0 in
     let behind = packed .pack .ensures .1 .1 in (
       λ l. laid-entered (a .groups) (a .words) size (now (a .scratch)) (packed .pack .last .0) (s .pre .0) (omega (arith, packed .pack .kept)) w room below behind (small wide) (packed .pack .ensures .0),
-      ((λ e. absurd (omega (arith, width-some w)), omega arith, sym (rw (← size-is wide) (cond-true _ _ (le-leb _ 1760 room)))), list-stays (a .groups) (a .words) size (now (a .scratch)) (packed .pack .last .0) (s .pre .0) (omega (arith, packed .pack .kept)) w room below behind),
+      ((λ e. absurd (omega (arith, width-some w)), omega arith, sym (rw (← size-is wide) (cond-true _ _ (le-leb _ 1856 room)))), list-stays (a .groups) (a .words) size (now (a .scratch)) (packed .pack .last .0) (s .pre .0) (omega (arith, packed .pack .kept)) w room below behind),
     )
 
 pub lay-spec : {M : Type 1} → statement M

@@ -14,14 +14,14 @@ use Rattle.tally.proofs.pack.Tie as tie
 
 abbrev Inv-loop : tie.InvT-loop
 Inv-loop scratch₀ at size w₀ scratch w =
-    (w ≤ 8 * size)
+    (w ≤ 16 * size)
     × (length scratch ≡ 2048)
     × ((v : ℕ) → v < w → getD scratch (at + v) 0 ≡ packed (listed scratch₀) size v)
     × Same 0 at scratch₀ scratch
-    × Same 1760 2048 scratch₀ scratch
+    × Same 1856 2048 scratch₀ scratch
 
 abbrev μ-loop : tie.MeasureT-loop
-μ-loop scratch₀ at size w₀ scratch w = 8 * size - w
+μ-loop scratch₀ at size w₀ scratch w = 16 * size - w
 
 loop-holds : tie.Need-loop-holds Inv-loop μ-loop
 loop-holds c = (omega arith, omega arith, λ v l. absurd (omega arith), λ k a b. refl, λ k a b. refl)

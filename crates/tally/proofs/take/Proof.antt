@@ -15,7 +15,7 @@ use Rattle.tally.proofs.take.Tie as tie
 power-requires-2 : tie.Need-power-requires-2
 power-requires-2 c κs =
     let s = c .before .before .before in
-    digit-within (s .pre .0 .width) (s .args .k % 32)
+    digit-within (s .pre .0 .width) (s .args .k % 64)
 
 cast-word : tie.Need-cast-word
 cast-word c =

@@ -14,7 +14,7 @@ four-requires c κs =
     let s = c .before .before .before .before .before .before in
     let a = s .args in
     let e : a .size ≡ 1 = omega arith in
-    let h : ((i : ℕ) → i < 32 → listed (now (a .scratch)) i < 16) = subst (λ (m : ℕ). (i : ℕ) → i < 32 → listed (now (a .scratch)) i < 16 ^ m) e (s .pre .1) in
+    let h : ((i : ℕ) → i < 64 → listed (now (a .scratch)) i < 16) = subst (λ (m : ℕ). (i : ℕ) → i < 64 → listed (now (a .scratch)) i < 16 ^ m) e (s .pre .1) in
     (h (4 * a .w) (omega arith), h (4 * a .w + 1) (omega arith), h (4 * a .w + 2) (omega arith), h (4 * a .w + 3) (omega arith))
 
 returns : tie.Need-returns
@@ -27,7 +27,7 @@ two-requires c κs =
     let s = c .before .before .before .before .before in
     let a = s .args in
     let e : a .size ≡ 2 = omega arith in
-    let h : ((i : ℕ) → i < 32 → listed (now (a .scratch)) i < 256) = subst (λ (m : ℕ). (i : ℕ) → i < 32 → listed (now (a .scratch)) i < 16 ^ m) e (s .pre .1) in
+    let h : ((i : ℕ) → i < 64 → listed (now (a .scratch)) i < 256) = subst (λ (m : ℕ). (i : ℕ) → i < 64 → listed (now (a .scratch)) i < 16 ^ m) e (s .pre .1) in
     (h (2 * a .w) (omega arith), h (2 * a .w + 1) (omega arith))
 
 returns-2 : tie.Need-returns-2
