@@ -173,10 +173,10 @@
  *
  * - Each run checks its tables first, which takes as long as siltbrow_check,
  *   and so does each siltbrow_parts. At the full size of 65,536 vertices and
- *   9.2 MB that is some 10 to 100 ms, more than the search of a short query.
+ *   9.2 MB that is some 5 to 20 ms, more than the search of a short query.
  *   docs/BENCH.md has the times.
- * - Vertices that lie near one another should have near numbers: with numbers
- *   that say nothing of the place the check takes up to nine times as long.
+ * - Vertices that lie near one another should have near numbers: what a call
+ *   reads then lies together.
  * - Every lent buffer is written whole, with zero behind the records. A buffer
  *   that is larger than needed costs time at every call.
  * - One held record for each vertex keeps the search fast on any tables. With
