@@ -20,6 +20,7 @@ use words::half_at;
 use words::lesser;
 use words::word_at;
 ghost use mathlib.Core.Path.{_≡_};
+ghost use mathlib.Core.Logic.{_≢_};
 ghost use mathlib.Core.Bool.{not, true, false};
 ghost use mathlib.Core.List.{List};
 ghost use Prim.Native.Nat.{ℕ, _+_, _-_, _*_, _/_, _<_, _≤_};
@@ -242,6 +243,32 @@ struct Counters {
     words: usize,
 }
 
+// One group of claims more. Answers how many words are laid then: as many as before if a claim cannot be met or there is no room.
+fn lay_group(
+    vertices: &[u8],
+    walks: &[u8],
+    alone: usize,
+    pairs: bool,
+    limit: usize,
+    base: usize,
+    groups: usize,
+    words: usize,
+    scratch: &mut [u16],
+) -> usize
+    requires { ⌜ Ascending 16 (now walks) × (alone ≡ aloneIn (now walks)) ⌝ }
+    requires { ⌜ (limit ≤ length (now vertices) / 12) × ((x : ℕ) → x < limit → Run (now vertices) (now walks) x) ⌝ }
+    requires { ⌜ (base + 64 * groups ≤ 65536) × (length (now scratch) ≡ 2048) ⌝ }
+    requires { ⌜ Claimed (λ k. claimOf pairs (now vertices) (now walks) limit (base + k)) groups words (now scratch) ⌝ }
+    ensures { λ r. ⌜ (r ≡ words → Claimed (λ k. claimOf pairs (now (vertices .entry)) (now (walks .entry)) limit (base + k)) groups words (now (scratch .exit))) ⌝ }
+    ensures { λ r. ⌜ (r ≢ words → Claimed (λ k. claimOf pairs (now (vertices .entry)) (now (walks .entry)) limit (base + k)) (groups + 1) r (now (scratch .exit))) ⌝ }
+{
+    let v = base + 64 * groups;
+    if !claims(vertices, walks, alone, pairs, limit, v, scratch) {
+        return words;
+    }
+    lay(scratch, groups, words)
+}
+
 // The claims of the vertices from `base` up to `limit`, as many groups as can be met and have room.
 fn lay_claims(
     vertices: &[u8],
@@ -260,21 +287,17 @@ fn lay_claims(
     let mut groups = 0;
     let mut words = 0;
     while base + 64 * groups < limit {
-        if !claims(
+        let laid = lay_group(
             vertices,
             walks,
             alone,
             pairs,
             limit,
-            base + 64 * groups,
+            base,
+            groups,
+            words,
             scratch,
-        ) {
-            return Counters {
-                groups: groups,
-                words: words,
-            };
-        }
-        let laid = lay(scratch, groups, words);
+        );
         if laid == words {
             return Counters {
                 groups: groups,
