@@ -95,7 +95,7 @@ fn order_fault(first: Refusal, ascends: bool, number: u32, i: u32) -> Refusal
 }
 
 // All in one pass over the table of a kind; `number` is that of its order. `before` is "to" of the record before, or 0.
-// `alone` is counted here because the quick judge would have to read every walk again for it.
+// `alone` is counted here because the quick judge would have to read every walk again for it. It is added in place: by a function the loop gets slower.
 fn table_faults(vertices: &[u8], table: &[u8], kind: Kind, number: u32) -> Faults
     requires { ⌜ (recordsIn 16 (now table) ≤ 262144) × (0 < number) ⌝ }
     ensures { λ r. ⌜ told (r .bad) ≡ firstFrom (recordFault kind (now (vertices .entry)) (now (table .entry))) (recordsIn 16 (now (table .entry))) 0 ⌝ }
@@ -118,7 +118,8 @@ fn table_faults(vertices: &[u8], table: &[u8], kind: Kind, number: u32) -> Fault
         }
         let to = to_at(table, 16, i as usize);
         order = order_fault(order, before <= to, number, i);
-        alone = quick::more(alone, quick::alone(table, i as usize));
+        let no_twin = quick::alone(table, i as usize);
+        alone += if no_twin { 1 } else { 0 };
         before = to;
         i += 1;
     }

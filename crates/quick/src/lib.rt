@@ -43,7 +43,7 @@ const LONG: usize = 65536;
 const SHORT: usize = 1856;
 
 // One more where a test holds.
-pub fn more(count: usize, test: bool) -> usize
+fn more(count: usize, test: bool) -> usize
     requires { ⌜ count < 18446744073709551615 ⌝ }
     ensures { λ r. ⌜ (r ≡ count + one test) × (r ≤ count + 1) ⌝ }
 {

@@ -1,15 +1,15 @@
 -- `audit::table_faults` meets its contract: the records before i are good, `order` is the first of them out of order, and `alone` of them have no twin. Assumes nothing.
 use mathlib.Core.Path.{_≡_, refl, sym, ap, ap₂, _∙_}
-use mathlib.Core.Logic.{_≢_}
+use mathlib.Core.Logic.{⊎-elim, _≢_}
 use mathlib.Core.Bool.{Bool}
 use mathlib.Core.List.{List}
 use Prim.Native.Nat.{ℕ, _+_, _-_, _≤_, _<_}
 use lib.Dec.{eqb, leb}
 use denote.Ref.{now}
-use Rattle.journeys.specs.Counting.{none, count}
+use Rattle.journeys.specs.Counting.{none, one, count}
 use Rattle.journeys.specs.Refusals.{Refusal, unless, orElse, firstBad}
 use Rattle.journeys.proofs.Refusals.{from-first, from-none}
-use Rattle.journeys.proofs.Counting.{count-most}
+use Rattle.journeys.proofs.Counting.{is-one, is-zero, count-most}
 use Rattle.words.specs.Told.{told}
 use Rattle.records.specs.Columns.{recordsIn, toAt, ascendsAt}
 use Rattle.quick.specs.Claims.{twinAt, aloneIn}
@@ -61,7 +61,7 @@ record-fault-requires c κs =
 
 returns : tie.Need-returns Inv-loop μ-loop
 returns c =
-    let call = c .before .before in
+    let call = c .before in
     let loop = call .before .before .loop in
     let a = call .before .before .before .before .before .before .args in
     let f = recordFault (a .kind) (now (a .vertices)) (now (a .table)) in
@@ -82,11 +82,24 @@ cast-alone c = omega arith
 alone-requires : tie.Need-alone-requires Inv-loop μ-loop
 alone-requires c κs = omega arith
 
-more-requires : tie.Need-more-requires Inv-loop μ-loop
-more-requires c κs =
-    let loop = c .before .before .before .before .before .before .before .loop in
-    let a = c .before .before .before .before .before .before .before .before .before .before .before .args in
-    omega (arith, loop .inv .6, count-most (hasNoTwin (now (a .table))) (loop .i))
+-- what is added where the two arms meet makes the count of one record more
+counts : (c : tie.After-row-known Inv-loop μ-loop) →
+    let loop = c .before .before .before .before .before .before .before .before .loop in
+    let a = c .before .before .before .before .before .before .before .before .before .before .before .before .args in
+    loop .alone + c .before .if2 .alone ≡ count (hasNoTwin (now (a .table))) (loop .i + 1)
+counts c =
+    let test = c .before .before in
+    let loop = test .before .before .before .before .before .before .loop in
+    let a = test .before .before .before .before .before .before .before .before .before .before .args in
+    let added : c .before .if2 .alone ≡ one (test .alone .result) =
+    ⊎-elim (λ w. w .1 ∙ sym (is-one (w .0 .taken))) (λ w. w .1 ∙ sym (is-zero (w .0 .left))) (c .before .if2 .came) in
+    omega (arith, loop .inv .6, added, ap one (test .alone .ensures), count-next (hasNoTwin (now (a .table))) (loop .i))
+
+add-alone : tie.Need-add-alone Inv-loop μ-loop
+add-alone c =
+    let loop = c .before .before .before .before .before .before .before .before .loop in
+    let s = c .before .before .before .before .before .before .before .before .before .before .before .before in
+    omega (arith, counts c, count-most (hasNoTwin (now (s .args .table))) (loop .i + 1), loop .inv .0, loop .inv .1, s .pre .0)
 
 add-i : tie.Need-add-i Inv-loop μ-loop
 add-i c = omega arith
@@ -96,8 +109,8 @@ loop-less c = omega arith
 
 loop-again : tie.Need-loop-again Inv-loop μ-loop
 loop-again c =
-    let ordered = c .before .before in
-    let call = ordered .before .before .before .before in
+    let ordered = c .before .before .before in
+    let call = ordered .before .before .before in
     let loop = call .before .before .loop in
     let s = call .before .before .before .before .before .before in
     let a = s .args in
@@ -114,7 +127,7 @@ loop-again c =
       ordered .order-fault .ensures
           ∙ ap₂ (λ (x : Refusal) (b : Bool). orElse x (unless b (a .number) (loop .i))) (loop .inv .5) up
           ∙ sym (bad-more (a .number) (ascendsAt 16 t) (loop .i) (s .pre .1)),
-      rw (c .more .ensures .0, c .before .alone .ensures, loop .inv .6) (count-next (hasNoTwin t) (loop .i)),
+      counts c,
     )
 
 returns-2 : tie.Need-returns-2 Inv-loop μ-loop
@@ -146,7 +159,7 @@ table-faults-spec =
     (λ c κs. search needs)
     cast-alone
     alone-requires
-    more-requires
+    add-alone
     add-i
     loop-less
     loop-again
