@@ -12,11 +12,11 @@ one-lengths κs a z z′ e e′ p q = told-injective z z′ (p ∙ sym q)
 pub one-contents : (κs : _) (a : _) (z z′ : _) (e e′ : _) → contents.Post κs a z e → contents.Post κs a z′ e′ → z ≡ z′
 one-contents κs a z z′ e e′ p q = told-injective z z′ (p .0 ∙ sym (q .0))
 
-pub one-contents-scratch : (κs : _) (a : _) (z z′ : _) (e e′ : _) → contents.Post κs a z e → contents.Post κs a z′ e′ → now (e .1 .1 .1 .0) ≡ now (e′ .1 .1 .1 .0)
+pub one-contents-scratch : (κs : _) (a : _) (z z′ : _) (e e′ : _) → contents.Post κs a z e → contents.Post κs a z′ e′ → now (e .1 .1 .1 .1 .0) ≡ now (e′ .1 .1 .1 .1 .0)
 one-contents-scratch κs a z z′ e e′ p q = p .1 ∙ sym (q .1)
 
 pub one-check : (κs : _) (a : _) (z z′ : _) (e e′ : _) → check.Post κs a z e → check.Post κs a z′ e′ → z ≡ z′
 one-check κs a z z′ e e′ p q = told-injective z z′ (p .0 ∙ sym (q .0))
 
-pub one-scratch : (κs : _) (a : _) (z z′ : _) (e e′ : _) → check.Post κs a z e → check.Post κs a z′ e′ → now (e .1 .1 .1 .0) ≡ now (e′ .1 .1 .1 .0)
+pub one-scratch : (κs : _) (a : _) (z z′ : _) (e e′ : _) → check.Post κs a z e → check.Post κs a z′ e′ → now (e .1 .1 .1 .1 .0) ≡ now (e′ .1 .1 .1 .1 .0)
 one-scratch κs a z z′ e e′ p q = p .1 ∙ sym (q .1)

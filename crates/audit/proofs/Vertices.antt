@@ -23,23 +23,23 @@ use Rattle.journeys.proofs.Refusals.{or-next, or-first, from-none, unless-good}
 use Rattle.audit.proofs.Scan.{refusing, same-number, scan-append, scan-stop, scan-end}
 
 -- ---- the counters are the departing records
-module _ (v w h s : List ℕ) (len low base : ℕ) (c : Counted len low s (λ k. leaving 16 w (base + k) + leaving 16 h (base + k))) where
-  pub departs-exact : (k : ℕ) → k < low → getD s k 0 ≡ departing (tablesOf v w h) (base + k)
+module _ (size : ℕ) (v w h s : List ℕ) (len low base : ℕ) (c : Counted len low s (λ k. leaving 16 w (base + k) + leaving size h (base + k))) where
+  pub departs-exact : (k : ℕ) → k < low → getD s k 0 ≡ departing (tablesOf size v w h) (base + k)
   departs-exact k l =
-      omega (arith, departing-is v w h (base + k), c .stopped k (omega (arith, c .within)), c .exact k l)
+      omega (arith, departing-is size v w h (base + k), c .stopped k (omega (arith, c .within)), c .exact k l)
 
   -- a vertex with more of them than its field can say
-  pub departs-over : low < len → base + low < length v / 12 → ((i : ℕ) → getD v i 0 < 256) → vertexOk (tablesOf v w h) (base + low) ≡ false
+  pub departs-over : low < len → base + low < length v / 12 → ((i : ℕ) → getD v i 0 < 256) → vertexOk (tablesOf size v w h) (base + low) ≡ false
   unfolding vertexAt be16
   departs-over l n bytes =
       let x = base + low in
       let f = vertexAt v x in
-      let wrong : eqb (f .departing) (departing (tablesOf v w h) x) ≡ false =
-      ne-eqb (f .departing) (departing (tablesOf v w h) x)
-      (λ (e : f .departing ≡ departing (tablesOf v w h) x).
-      omega (arith, departing-is v w h x, c .passed l, bytes (12 * x + 8), bytes (12 * x + 8 + 1))) in
-      vertex-ok v w h x n
-      ∙ and-left (eqb (f .zeros) 0) (and-right (eqb (f .firstWalk) (arrivingBelow 16 w x) && eqb (f .firstHop) (arrivingBelow 16 h x)) wrong)
+      let wrong : eqb (f .departing) (departing (tablesOf size v w h) x) ≡ false =
+      ne-eqb (f .departing) (departing (tablesOf size v w h) x)
+      (λ (e : f .departing ≡ departing (tablesOf size v w h) x).
+      omega (arith, departing-is size v w h x, c .passed l, bytes (12 * x + 8), bytes (12 * x + 8 + 1))) in
+      vertex-ok size v w h x n
+      ∙ and-left (eqb (f .zeros) 0) (and-right (eqb (f .firstWalk) (arrivingBelow 16 w x) && eqb (f .firstHop) (arrivingBelow size h x)) wrong)
 
 -- ---- a block of which the first vertices are judged
 module _ (N : Tables) (low len base : ℕ) (h : low ≤ len) where

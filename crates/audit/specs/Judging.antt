@@ -11,23 +11,24 @@ use Rattle.records.specs.Columns.{recordsIn, Ascending}
 use Rattle.records.specs.declared.Kind.{Kind}
 use Rattle.records.specs.declared.Kind.the-variants.{Walks, Hops}
 
--- the lengths that refusal 1 leaves
-pub record Sizes (vertices walks hops : List ℕ) : Type 0 where
+-- the lengths that refusal 1 leaves, where a hop has `size` bytes
+pub record Sizes (size : ℕ) (vertices walks hops : List ℕ) : Type 0 where
   pub vertices-most : length vertices / 12 ≤ 65536
   pub walks-most : recordsIn 16 walks ≤ 262144
-  pub hops-most : recordsIn 16 hops ≤ 262144
+  pub hops-most : recordsIn size hops ≤ 262144
+  pub hop-fits : 16 ≤ size
 
 -- the records that refusals 2 to 5 leave: good, and in order
-pub record Passed (vertices walks hops : List ℕ) : Type 0 where
-  pub walks-good : (i : ℕ) → i < recordsIn 16 walks → walkOk (tablesOf vertices walks hops) i ≡ true
-  pub hops-good : (j : ℕ) → j < recordsIn 16 hops → hopOk (tablesOf vertices walks hops) j ≡ true
+pub record Passed (size : ℕ) (vertices walks hops : List ℕ) : Type 0 where
+  pub walks-good : (i : ℕ) → i < recordsIn 16 walks → walkOk (tablesOf size vertices walks hops) i ≡ true
+  pub hops-good : (j : ℕ) → j < recordsIn size hops → hopOk (tablesOf size vertices walks hops) j ≡ true
   pub walks-ascend : Ascending 16 walks
-  pub hops-ascend : Ascending 16 hops
+  pub hops-ascend : Ascending size hops
 
--- 2 and 3: the record i of the table of a kind
-unfoldable pub recordFault : Kind → List ℕ → List ℕ → ℕ → refusals.Refusal
-recordFault Walks vertices walks i = unless (walkOk (tablesOf vertices walks []) i) 2 i
-recordFault Hops vertices hops i = unless (hopOk (tablesOf vertices [] hops) i) 3 i
+-- 2 and 3: the record i of the table of a kind; `size` is that of a hop
+unfoldable pub recordFault : Kind → ℕ → List ℕ → List ℕ → ℕ → refusals.Refusal
+recordFault Walks size vertices walks i = unless (walkOk (tablesOf 16 vertices walks []) i) 2 i
+recordFault Hops size vertices hops i = unless (hopOk (tablesOf size vertices [] hops) i) 3 i
 
 -- the first bad one of n vertices from v on
 unfoldable pub vertexRefusals : Tables → ℕ → ℕ → refusals.Refusal

@@ -71,7 +71,7 @@ module _ (b : PartsLent) (Q : Query) where
     unfolding partsEarly listRefusal
     good = bad-fine 21 (entryOk 8 (vertexCount N) (allowed Q) (b .list)) n (omega arith) (
         chain-fine
-        (tableLengths (b .vertices) (b .walks) (b .hops)
+        (tableLengths (b .hopSize) (b .vertices) (b .walks) (b .hops)
         ∷ listLengths (b .list) (b .parts)
         ∷ contents N
         ∷ queryRefusal N Q
@@ -81,14 +81,14 @@ module _ (b : PartsLent) (Q : Query) where
     -- what reading the road and listing ask for
     pub road-fits : (Q .walk < length w / 16) × (Q .offset ≤ walkAt w (Q .walk) .len)
     road-fits =
-        let l : Q .walk < length w / 16 = omega (arith, ok .query .walk-low, walk-count (b .vertices) w (b .hops)) in
-        (l, rw (walk-at (b .vertices) w (b .hops) (Q .walk) l) at (ok .query .offset-low))
+        let l : Q .walk < length w / 16 = omega (arith, ok .query .walk-low, walk-count (b .hopSize) (b .vertices) w (b .hops)) in
+        (l, rw (walk-at (b .hopSize) (b .vertices) w (b .hops) (Q .walk) l) at (ok .query .offset-low))
 
     pub query-high : (Q .duration ≤ 86400) × (Q .speed ≤ 100)
     query-high = (ok .query .duration-high, ok .query .speed-high)
 
     pub list-fits : (D : ℕ) → D ≡ allowed Q → (length w / 16 ≤ 262144) × ((i : ℕ) → i < n → Sound (b .vertices) w (b .list) D i)
-    list-fits D q = (omega (arith, ok .tables .walks-few, walk-count (b .vertices) w (b .hops)), λ i l. rw q (entry-sound b Q e i l))
+    list-fits D q = (omega (arith, ok .tables .walks-few, walk-count (b .hopSize) (b .vertices) w (b .hops)), λ i l. rw q (entry-sound b Q e i l))
 
     pub covered-as : (r : Road) → r ≡ road → (D : ℕ) → D ≡ allowed Q → (b′ : List ℕ) (x : Covered) → CoveredIs (listedOn (b .vertices) w (b .list) r D) n (b .parts) b′ x → CoveredIs f n (b .parts) b′ x
     covered-as r q D d b′ x c = subst (λ (z : Road). CoveredIs (listedOn (b .vertices) w (b .list) z (allowed Q)) n (b .parts) b′ x) q (subst (λ (z : ℕ). CoveredIs (listedOn (b .vertices) w (b .list) r z) n (b .parts) b′ x) d c)

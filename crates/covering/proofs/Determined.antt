@@ -9,6 +9,6 @@ use Rattle.covering.proofs.parts.Reads as parts
 numbers : answers.PartsAnswer → PartsAnswer
 numbers a = record { refusal = a .refusal; place = a .place; parts = a .partCount }
 
-pub one-parts : (κs : _) (a : _) (z z′ : _) (e e′ : _) → parts.Post κs a z e → parts.Post κs a z′ e′ → (z ≡ z′) × (now (e .1 .1 .1 .1 .0) ≡ now (e′ .1 .1 .1 .1 .0))
+pub one-parts : (κs : _) (a : _) (z z′ : _) (e e′ : _) → parts.Post κs a z e → parts.Post κs a z′ e′ → (z ≡ z′) × (now (e .1 .1 .1 .1 .1 .0) ≡ now (e′ .1 .1 .1 .1 .1 .0))
 unfolding numbers
 one-parts κs a z z′ e e′ p q = (ap numbers (p ∙ sym q), ap (λ (x : answers.PartsAnswer). x .parts) (p ∙ sym q))

@@ -39,5 +39,5 @@ module _ (r : Judged) {x : Refusal} (e : told 21 r ≡ x) where
   one-bad i q = sym (ap (told 21) q) ∙ e
 
 -- the judge is told the number of vertices and D as the code has them
-pub list-as : (v w h : List ℕ) (D : ℕ) {E : ℕ} → D ≡ E → (list : List ℕ) → listRefusal 8 (length v / 12) D list ≡ listRefusal 8 (vertexCount (tablesOf v w h)) E list
-list-as v w h D e list = ap (λ (n : ℕ). listRefusal 8 n D list) (sym (vertex-count v w h)) ∙ ap (λ (d : ℕ). listRefusal 8 (vertexCount (tablesOf v w h)) d list) e
+pub list-as : (size : ℕ) (v w h : List ℕ) (D : ℕ) {E : ℕ} → D ≡ E → (list : List ℕ) → listRefusal 8 (length v / 12) D list ≡ listRefusal 8 (vertexCount (tablesOf size v w h)) E list
+list-as size v w h D e list = ap (λ (n : ℕ). listRefusal 8 n D list) (sym (vertex-count size v w h)) ∙ ap (λ (d : ℕ). listRefusal 8 (vertexCount (tablesOf size v w h)) d list) e

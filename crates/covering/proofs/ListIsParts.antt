@@ -40,19 +40,19 @@ module _ (b : PartsLent) (Q : Query) (e : partsEarly b Q .number ≡ 0) where
   ok = parts-valid b Q e
 
   vertex-low : (i : ℕ) → i < length (b .list) / 8 → vertexIn 8 (b .list) i < length v / 12
-  vertex-low i l = omega (arith, entry-good b Q e i l .0, vertex-count v w (b .hops))
+  vertex-low i l = omega (arith, entry-good b Q e i l .0, vertex-count (b .hopSize) v w (b .hops))
 
   -- Each entry is what listing its parts asks for.
   pub entry-sound : (i : ℕ) → i < length (b .list) / 8 → Sound v w (b .list) (allowed Q) i
   entry-sound i l =
-      let run = walk-run v w (b .hops) (ok .tables) (vertexIn 8 (b .list) i) (vertex-low i l) in
-      record { vertex = vertex-low i l; distance = entry-good b Q e i l .1; order = run .order; fit = omega (arith, run .fit, walk-count v w (b .hops)) }
+      let run = walk-run (b .hopSize) v w (b .hops) (ok .tables) (vertexIn 8 (b .list) i) (vertex-low i l) in
+      record { vertex = vertex-low i l; distance = entry-good b Q e i l .1; order = run .order; fit = omega (arith, run .fit, walk-count (b .hopSize) v w (b .hops)) }
 
   -- The parts of step 0 and of the first k entries.
   pub parts-are : (k : ℕ) → k ≤ length (b .list) / 8 → partsTo b Q k ≡ listedOn v w (b .list) road (allowed Q) k
   unfolding listedOn joined entryOn partList flatMap
-  parts-are zero h = ap (λ (ps : List Part). ps ++ []) (parts-first v w (b .hops) Q ok)
+  parts-are zero h = ap (λ (ps : List Part). ps ++ []) (parts-first (b .hopSize) v w (b .hops) Q ok)
   parts-are (suc k) h =
       parts-next b Q k h
-      ∙ ap₂ (λ (x y : List Part). x ++ y) (parts-are k (omega arith)) (parts-here v w (b .hops) Q ok (vertexIn 8 (b .list) k) (distanceAt 8 (b .list) k) (vertex-low k h))
+      ∙ ap₂ (λ (x y : List Part). x ++ y) (parts-are k (omega arith)) (parts-here (b .hopSize) v w (b .hops) Q ok (vertexIn 8 (b .list) k) (distanceAt 8 (b .list) k) (vertex-low k h))
       ∙ append-assoc (firstOn road (allowed Q)) (joined (entryOn v w (b .list) road (allowed Q)) k) (entryOn v w (b .list) road (allowed Q) k)

@@ -70,7 +70,7 @@ module _ (b : Lent) (parts : List ℕ) (Q : Query) (l : List Settled) where
 
   -- the tables, what is settled after k steps, and the part buffer
   abbrev ownLent : ℕ → PartsLent
-  ownLent k = partsLent (b .vertices) (b .walks) (b .hops) (flatMap settledBytes (take k l)) parts
+  ownLent k = partsLent (b .vertices) (b .walks) (b .hops) (b .hopSize) (flatMap settledBytes (take k l)) parts
 
 -- l is the order of settling, `parts` a part buffer of whole records
 module _ (b : Lent) (Q : Query) (sound : early b Q .number ≡ 0) (l : List Settled) (O : IsOrder (tables b) Q l) (parts : List ℕ) (even : wholeOf 12 parts ≡ true) (k : ℕ) (made : k ≤ length l) where
@@ -82,8 +82,8 @@ module _ (b : Lent) (Q : Query) (sound : early b Q .number ≡ 0) (l : List Sett
   unfolding early partsEarly
   own-sound =
       let N = tables b in
-      let links = chain-fine (tableLengths (b .vertices) (b .walks) (b .hops) ∷ bufferLengths (b .held) (b .settled) ∷ contents N ∷ queryRefusal N Q ∷ []) sound in
-      five-fine (tableLengths (b .vertices) (b .walks) (b .hops)) (listLengths (own .list) parts) (contents N) (queryRefusal N Q) (listRefusal 8 (vertexCount N) (allowed Q) (own .list))
+      let links = chain-fine (tableLengths (b .hopSize) (b .vertices) (b .walks) (b .hops) ∷ bufferLengths (b .held) (b .settled) ∷ contents N ∷ queryRefusal N Q ∷ []) sound in
+      five-fine (tableLengths (b .hopSize) (b .vertices) (b .walks) (b .hops)) (listLengths (own .list) parts) (contents N) (queryRefusal N Q) (listRefusal 8 (vertexCount N) (allowed Q) (own .list))
       (links _ (inl refl))
       (lengths-fine (own .list) parts (own-whole (take k l)) even)
       (links _ (inr (inr (inl refl))))
@@ -130,7 +130,7 @@ module _ (b : Lent) (Q : Query) (limit : ℕ) (a : Answer) (A : Allowed b Q limi
   handed-is =
       let bytes = flatMap settledBytes (take k l) in
       let counted : handed b (acceptedAfter b Q l k) parts .list ≡ bytes = take-at bytes (replicate {A = ℕ} (length (b .settled) - length bytes) 0) _ (own-length (take k l)) in
-      ap (λ (x : Answer). handed b x parts) is ∙ ap (λ (list : List ℕ). partsLent (b .vertices) (b .walks) (b .hops) list parts) counted
+      ap (λ (x : Answer). handed b x parts) is ∙ ap (λ (list : List ℕ). partsLent (b .vertices) (b .walks) (b .hops) (b .hopSize) list parts) counted
 
   answers-are : partsAnswer (handed b a parts) Q ≡ partsAnswer (ownLent b parts Q l k) Q
   answers-are = ap (λ (x : PartsLent). partsAnswer x Q) handed-is
@@ -158,7 +158,7 @@ module _ (b : Lent) (Q : Query) (limit : ℕ) (a : Answer) (A : Allowed b Q limi
 pub accepted-even : (b : PartsLent) (Q : Query) → partsAnswer b Q .refusal ≡ 0 → wholeOf 12 (b .parts) ≡ true
 unfolding partsEarly listLengths partsRefused
 accepted-even b Q e =
-    unless-fine (wholeOf 12 (b .parts)) 1 5 (omega arith) (or-fine (unless (wholeOf 8 (b .list)) 1 4) _ (or-fine (listLengths (b .list) (b .parts)) _ (or-fine (tableLengths (b .vertices) (b .walks) (b .hops)) _ sound .1) .0) .1)
+    unless-fine (wholeOf 12 (b .parts)) 1 5 (omega arith) (or-fine (unless (wholeOf 8 (b .list)) 1 4) _ (or-fine (listLengths (b .list) (b .parts)) _ (or-fine (tableLengths (b .hopSize) (b .vertices) (b .walks) (b .hops)) _ sound .1) .0) .1)
   where
     sound : partsEarly b Q .number ≡ 0
     sound =

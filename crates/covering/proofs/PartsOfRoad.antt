@@ -50,18 +50,18 @@ module _ {A : Type 0} (f g : ℕ → List A) (first n : ℕ) where
   joined-run : (t : ℕ) → first + n ≤ t → ((i : ℕ) → i < first → f i ≡ []) → ((k : ℕ) → k < n → f (first + k) ≡ g k) → ((i : ℕ) → first + n ≤ i → i < t → f i ≡ []) → joined f t ≡ joined g n
   joined-run t h a b c = none-after t h c ∙ run-inside a n b
 
-module _ (v w h : List ℕ) (Q : Query) (ok : Valid (tablesOf v w h) Q) where
+module _ (size : ℕ) (v w h : List ℕ) (Q : Query) (ok : Valid (tablesOf size v w h) Q) where
   abbrev N : Tables
-  N = tablesOf v w h
+  N = tablesOf size v w h
 
   abbrev road : Road
   road = roadOf (Q .walk) (walkAt w (Q .walk)) (Q .offset)
 
   low : {i : ℕ} → i < walkCount N → i < length w / 16
-  low l = rw (walk-count v w h) at l
+  low l = rw (walk-count size v w h) at l
 
   asked-is : asked N Q ≡ walkAt w (Q .walk)
-  asked-is = walk-at v w h (Q .walk) (low (ok .query .walk-low))
+  asked-is = walk-at size v w h (Q .walk) (low (ok .query .walk-low))
 
   near-is : (i : ℕ) → near N Q i ≡ nearOn road i
   unfolding near nearOn
@@ -69,7 +69,7 @@ module _ (v w h : List ℕ) (Q : Query) (ok : Valid (tablesOf v w h) Q) where
 
   part-is : (d i : ℕ) → i < walkCount N → partAt N Q d i ≡ partOn w road (allowed Q - d) i
   unfolding partAt partOn
-  part-is d i l = ap₂ (λ (x : Walk) (z : ℕ). part i (max (x .len - (allowed Q - d)) z) (x .len)) (walk-at v w h i (low l)) (near-is i)
+  part-is d i l = ap₂ (λ (x : Walk) (z : ℕ). part i (max (x .len - (allowed Q - d)) z) (x .len)) (walk-at size v w h i (low l)) (near-is i)
 
   -- At a settled vertex the run of its arriving walks has all its parts.
   pub parts-here : (x d : ℕ) → x < length v / 12
@@ -89,7 +89,7 @@ module _ (v w h : List ℕ) (Q : Query) (ok : Valid (tablesOf v w h) Q) where
       end = endOf Walks v (length w / 16) x
 
       wr : arriving.Run (λ i. walk N i .to) (walkCount N) (up-walk N (ok .tables)) x first end
-      wr = walk-run v w h (ok .tables) x l
+      wr = walk-run size v w h (ok .tables) x l
 
   -- no record is its own twin
   twin-other : asked N Q .twin ≢ none → asked N Q .twin ≢ Q .walk

@@ -5,8 +5,8 @@ use Rattle.journeys.specs.PartAnswers as answers
 use Rattle.journeys.specs.PartAnswers.{PartsLent}
 use Rattle.covering.specs.declared.PartsAnswer.{PartsAnswer}
 
-abbrev pub partsLent : List ℕ → List ℕ → List ℕ → List ℕ → List ℕ → PartsLent
-partsLent v w h list parts = record { vertices = v; walks = w; hops = h; list = list; parts = parts }
+abbrev pub partsLent : List ℕ → List ℕ → List ℕ → ℕ → List ℕ → List ℕ → PartsLent
+partsLent v w h size list parts = record { vertices = v; walks = w; hops = h; hopSize = size; list = list; parts = parts }
 
 -- the answer with what is left in the part buffer
 abbrev pub partsAnswerOf : PartsAnswer → List ℕ → answers.PartsAnswer

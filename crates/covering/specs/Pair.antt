@@ -11,7 +11,7 @@ use Rattle.covering.specs.Lending.{partsLent}
 
 -- the tables of the run, its own list, and a part buffer
 abbrev pub handed : Lent → Answer → List ℕ → PartsLent
-handed b a parts = partsLent (b .vertices) (b .walks) (b .hops) (ownList a) parts
+handed b a parts = partsLent (b .vertices) (b .walks) (b .hops) (b .hopSize) (ownList a) parts
 
 -- the one run of RULES 11.7 has room for its parts after step j; and the first of the steps 0 to k after which it has not
 module _ (b : Lent) (parts : List ℕ) (Q : Query) (l : List Settled) where

@@ -113,14 +113,15 @@ fn fault(
     vertices: &[u8],
     walks: &[u8],
     hops: &[u8],
+    hop_size: usize,
     list: &[u8],
     parts: &[u8],
     q: Query,
     scratch: &mut [u16; 2048],
 ) -> Refusal
-    ensures { λ r. ⌜ told r ≡ partsEarly (partsLent (now (vertices .entry)) (now (walks .entry)) (now (hops .entry)) (now (list .entry)) (now (parts .entry))) (queryOf q) ⌝ }
+    ensures { λ r. ⌜ told r ≡ partsEarly (partsLent (now (vertices .entry)) (now (walks .entry)) (now (hops .entry)) «hop_size» (now (list .entry)) (now (parts .entry))) (queryOf q) ⌝ }
 {
-    let uneven = audit::lengths(vertices, walks, hops);
+    let uneven = audit::lengths(vertices, walks, hops, hop_size);
     if uneven.number != 0 {
         return uneven;
     }
@@ -128,7 +129,7 @@ fn fault(
     if cut.number != 0 {
         return cut;
     }
-    let bad = audit::contents(vertices, walks, hops, scratch);
+    let bad = audit::contents(vertices, walks, hops, hop_size, scratch);
     if bad.number != 0 {
         return bad;
     }
@@ -182,14 +183,24 @@ pub fn parts(
     vertices: &[u8],
     walks: &[u8],
     hops: &[u8],
+    hop_size: usize,
     list: &[u8],
     parts: &mut [u8],
     q: Query,
 ) -> PartsAnswer
-    ensures { λ r. ⌜ partsAnswerOf r (now (parts .exit)) ≡ partsAnswer (partsLent (now (vertices .entry)) (now (walks .entry)) (now (hops .entry)) (now (list .entry)) (now (parts .entry))) (queryOf q) ⌝ }
+    ensures { λ r. ⌜ partsAnswerOf r (now (parts .exit)) ≡ partsAnswer (partsLent (now (vertices .entry)) (now (walks .entry)) (now (hops .entry)) «hop_size» (now (list .entry)) (now (parts .entry))) (queryOf q) ⌝ }
 {
     let mut scratch = [0u16; 2048];
-    let found = fault(vertices, walks, hops, list, parts, q, &mut scratch);
+    let found = fault(
+        vertices,
+        walks,
+        hops,
+        hop_size,
+        list,
+        parts,
+        q,
+        &mut scratch,
+    );
     if found.number != 0 {
         return refusal(found.number, found.place);
     }

@@ -1,7 +1,6 @@
 // The departing records of the vertices, counted block by block in the lent scratch: what refusal 6 asks of the tables.
 // Promises: the counters of a block are the numbers of records that leave its vertices, and none wraps.
 // Rests on: the columns of `records` and the numbers of `words`. It has no array of its own.
-use records::HOP_SIZE;
 use records::WALK_SIZE;
 use records::from_at;
 use words::lesser;
@@ -97,15 +96,15 @@ fn note(table: &[u8], size: usize, at: usize, scratch: &mut [u16])
 }
 
 // The ranges of both tables.
-pub fn note_ranges(walks: &[u8], hops: &[u8], scratch: &mut [u16])
-    requires { ⌜ (recordsIn 16 (now walks) ≤ 262144) × (recordsIn 16 (now hops) ≤ 262144) × (length (now scratch) ≡ 2048) ⌝ }
-    requires { ⌜ Low 16 (now walks) × Low 16 (now hops) ⌝ }
+pub fn note_ranges(walks: &[u8], hops: &[u8], hop_size: usize, scratch: &mut [u16])
+    requires { ⌜ (recordsIn 16 (now walks) ≤ 262144) × (recordsIn «hop_size» (now hops) ≤ 262144) × (length (now scratch) ≡ 2048) × (4 ≤ «hop_size») ⌝ }
+    requires { ⌜ Low 16 (now walks) × Low «hop_size» (now hops) ⌝ }
     ensures { λ _. ⌜ Noted 16 (now (walks .entry)) 1904 (recordsIn 16 (now (walks .entry))) (now (scratch .exit)) ⌝ }
-    ensures { λ _. ⌜ Noted 16 (now (hops .entry)) 1974 (recordsIn 16 (now (hops .entry))) (now (scratch .exit)) ⌝ }
+    ensures { λ _. ⌜ Noted «hop_size» (now (hops .entry)) 1974 (recordsIn «hop_size» (now (hops .entry))) (now (scratch .exit)) ⌝ }
 {
     empty_ranges(scratch);
     note(walks, WALK_SIZE, WALK_RANGES, scratch);
-    note(hops, HOP_SIZE, HOP_RANGES, scratch);
+    note(hops, hop_size, HOP_RANGES, scratch);
 }
 
 // One more for the counter k. A counter stops at 65,535, and `low` is the first that has passed it: so no counter wraps.
@@ -221,17 +220,18 @@ fn count_block(
 pub fn count_departing(
     walks: &[u8],
     hops: &[u8],
+    hop_size: usize,
     g: usize,
     len: usize,
     scratch: &mut [u16],
 ) -> usize
-    requires { ⌜ (g < 35) × (len ≤ 1904) × (recordsIn 16 (now walks) ≤ 262144) × (recordsIn 16 (now hops) ≤ 262144) × (length (now scratch) ≡ 2048) ⌝ }
+    requires { ⌜ (g < 35) × (len ≤ 1904) × (recordsIn 16 (now walks) ≤ 262144) × (recordsIn «hop_size» (now hops) ≤ 262144) × (length (now scratch) ≡ 2048) × (4 ≤ «hop_size») ⌝ }
     requires { ⌜ Noted 16 (now walks) 1904 (recordsIn 16 (now walks)) (now scratch) ⌝ }
-    requires { ⌜ Noted 16 (now hops) 1974 (recordsIn 16 (now hops)) (now scratch) ⌝ }
-    ensures { λ r. ⌜ Counted len r (now (scratch .exit)) (λ k. leaving 16 (now (walks .entry)) (1904 * g + k) + leaving 16 (now (hops .entry)) (1904 * g + k)) ⌝ }
+    requires { ⌜ Noted «hop_size» (now hops) 1974 (recordsIn «hop_size» (now hops)) (now scratch) ⌝ }
+    ensures { λ r. ⌜ Counted len r (now (scratch .exit)) (λ k. leaving 16 (now (walks .entry)) (1904 * g + k) + leaving «hop_size» (now (hops .entry)) (1904 * g + k)) ⌝ }
     ensures { λ _. ⌜ Outside 0 1904 (now (scratch .entry)) (now (scratch .exit)) ⌝ }
 {
     zero(scratch, BLOCK);
     let low = count_block(walks, WALK_SIZE, WALK_RANGES, g, len, scratch, len);
-    count_block(hops, HOP_SIZE, HOP_RANGES, g, len, scratch, low)
+    count_block(hops, hop_size, HOP_RANGES, g, len, scratch, low)
 }

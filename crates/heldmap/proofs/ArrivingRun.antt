@@ -117,15 +117,15 @@ good-vertex N ok x l =
     let c = and-both (eqb (vertex N x .firstWalk) (count (λ i. ltb (walk N i .to) x) (walkCount N))) _ (b .0) in
     record { walks = eqb-true _ _ (c .0); hops = eqb-true _ _ (c .1); departs = eqb-true _ _ (b .1) }
 
-module _ (v w h : List ℕ) (ok : ValidTables (tablesOf v w h)) (x : ℕ) (low : x < length v / 12) where
+module _ (size : ℕ) (v w h : List ℕ) (ok : ValidTables (tablesOf size v w h)) (x : ℕ) (low : x < length v / 12) where
   abbrev N : Tables
-  N = tablesOf v w h
+  N = tablesOf size v w h
 
   low-in : x < vertexCount N
-  low-in = rw (vertex-count v w h) low
+  low-in = rw (vertex-count size v w h) low
 
   here : vertex N x ≡ vertexAt v x
-  here = vertex-at v w h x low
+  here = vertex-at size v w h x low
 
   walk-first : firstOf Walks (vertexAt v x) ≡ count (λ i. ltb (walk N i .to) x) (walkCount N)
   unfolding firstOf
@@ -136,49 +136,49 @@ module _ (v w h : List ℕ) (ok : ValidTables (tablesOf v w h)) (x : ℕ) (low :
   hop-first = ap (λ y. y .firstHop) (sym here) ∙ good-vertex N ok x low-in .hops
 
 -- The arriving walks of x, and its arriving hops, as the code finds them.
-module _ (v w h : List ℕ) (ok : ValidTables (tablesOf v w h)) (x : ℕ) (low : x < length v / 12) where
-  beyond : length v / 12 ≤ x + 1 → suc x ≡ vertexCount (tablesOf v w h)
-  beyond e = omega (arith, vertex-count v w h)
+module _ (size : ℕ) (v w h : List ℕ) (ok : ValidTables (tablesOf size v w h)) (x : ℕ) (low : x < length v / 12) where
+  beyond : length v / 12 ≤ x + 1 → suc x ≡ vertexCount (tablesOf size v w h)
+  beyond e = omega (arith, vertex-count size v w h)
 
-  walk-end : endOf Walks v (length w / 16) x ≡ count (λ i. ltb (walk (tablesOf v w h) i .to) (suc x)) (walkCount (tablesOf v w h))
+  walk-end : endOf Walks v (length w / 16) x ≡ count (λ i. ltb (walk (tablesOf size v w h) i .to) (suc x)) (walkCount (tablesOf size v w h))
   unfolding endOf
   walk-end =
       ⊎-elim
       (λ (l : length v / 12 ≤ x + 1).
       cond-false _ (length w / 16) (le-ltb (x + 1) (length v / 12) l)
-      ∙ sym (walk-count v w h)
-      ∙ sym (all-below (λ i. walk (tablesOf v w h) i .to) (walkCount (tablesOf v w h)) (up-walk (tablesOf v w h) ok) (suc x)
-      (λ i k. rw (beyond l) (good-walk (tablesOf v w h) ok i k .to-low))))
+      ∙ sym (walk-count size v w h)
+      ∙ sym (all-below (λ i. walk (tablesOf size v w h) i .to) (walkCount (tablesOf size v w h)) (up-walk (tablesOf size v w h) ok) (suc x)
+      (λ i k. rw (beyond l) (good-walk (tablesOf size v w h) ok i k .to-low))))
       (λ (l : x + 1 < length v / 12).
       cond-true _ (length w / 16) (lt-ltb (x + 1) (length v / 12) l)
-      ∙ walk-first v w h ok (x + 1) l
-      ∙ ap (λ (y : ℕ). count (λ i. ltb (walk (tablesOf v w h) i .to) y) (walkCount (tablesOf v w h))) (let e : x + 1 ≡ suc x = omega arith in e))
+      ∙ walk-first size v w h ok (x + 1) l
+      ∙ ap (λ (y : ℕ). count (λ i. ltb (walk (tablesOf size v w h) i .to) y) (walkCount (tablesOf size v w h))) (let e : x + 1 ≡ suc x = omega arith in e))
       (le-or-lt (length v / 12) (x + 1))
 
-  hop-end : endOf Hops v (length h / 16) x ≡ count (λ j. ltb (hop (tablesOf v w h) j .to) (suc x)) (hopCount (tablesOf v w h))
+  hop-end : endOf Hops v (length h / size) x ≡ count (λ j. ltb (hop (tablesOf size v w h) j .to) (suc x)) (hopCount (tablesOf size v w h))
   unfolding endOf
   hop-end =
       ⊎-elim
       (λ (l : length v / 12 ≤ x + 1).
-      cond-false _ (length h / 16) (le-ltb (x + 1) (length v / 12) l)
-      ∙ sym (hop-count v w h)
-      ∙ sym (all-below (λ j. hop (tablesOf v w h) j .to) (hopCount (tablesOf v w h)) (up-hop (tablesOf v w h) ok) (suc x)
-      (λ j k. rw (beyond l) (good-hop (tablesOf v w h) ok j k .to-low))))
+      cond-false _ (length h / size) (le-ltb (x + 1) (length v / 12) l)
+      ∙ sym (hop-count size v w h)
+      ∙ sym (all-below (λ j. hop (tablesOf size v w h) j .to) (hopCount (tablesOf size v w h)) (up-hop (tablesOf size v w h) ok) (suc x)
+      (λ j k. rw (beyond l) (good-hop (tablesOf size v w h) ok j k .to-low))))
       (λ (l : x + 1 < length v / 12).
-      cond-true _ (length h / 16) (lt-ltb (x + 1) (length v / 12) l)
-      ∙ hop-first v w h ok (x + 1) l
-      ∙ ap (λ (y : ℕ). count (λ j. ltb (hop (tablesOf v w h) j .to) y) (hopCount (tablesOf v w h))) (let e : x + 1 ≡ suc x = omega arith in e))
+      cond-true _ (length h / size) (lt-ltb (x + 1) (length v / 12) l)
+      ∙ hop-first size v w h ok (x + 1) l
+      ∙ ap (λ (y : ℕ). count (λ j. ltb (hop (tablesOf size v w h) j .to) y) (hopCount (tablesOf size v w h))) (let e : x + 1 ≡ suc x = omega arith in e))
       (le-or-lt (length v / 12) (x + 1))
 
-  pub walk-run : Run (λ i. walk (tablesOf v w h) i .to) (walkCount (tablesOf v w h)) (up-walk (tablesOf v w h) ok) x (firstOf Walks (vertexAt v x)) (endOf Walks v (length w / 16) x)
-  walk-run = rw (walk-first v w h ok x low, walk-end) (run-of (λ i. walk (tablesOf v w h) i .to) (walkCount (tablesOf v w h)) (up-walk (tablesOf v w h) ok) x)
+  pub walk-run : Run (λ i. walk (tablesOf size v w h) i .to) (walkCount (tablesOf size v w h)) (up-walk (tablesOf size v w h) ok) x (firstOf Walks (vertexAt v x)) (endOf Walks v (length w / 16) x)
+  walk-run = rw (walk-first size v w h ok x low, walk-end) (run-of (λ i. walk (tablesOf size v w h) i .to) (walkCount (tablesOf size v w h)) (up-walk (tablesOf size v w h) ok) x)
 
-  pub hop-run : Run (λ j. hop (tablesOf v w h) j .to) (hopCount (tablesOf v w h)) (up-hop (tablesOf v w h) ok) x (firstOf Hops (vertexAt v x)) (endOf Hops v (length h / 16) x)
-  hop-run = rw (hop-first v w h ok x low, hop-end) (run-of (λ j. hop (tablesOf v w h) j .to) (hopCount (tablesOf v w h)) (up-hop (tablesOf v w h) ok) x)
+  pub hop-run : Run (λ j. hop (tablesOf size v w h) j .to) (hopCount (tablesOf size v w h)) (up-hop (tablesOf size v w h) ok) x (firstOf Hops (vertexAt v x)) (endOf Hops v (length h / size) x)
+  hop-run = rw (hop-first size v w h ok x low, hop-end) (run-of (λ j. hop (tablesOf size v w h) j .to) (hopCount (tablesOf size v w h)) (up-hop (tablesOf size v w h) ok) x)
 
 -- So they stand where the code looks for them.
-pub standing : (v w h : List ℕ) → ValidTables (tablesOf v w h) → (x : ℕ) → x < length v / 12 → Standing v w h x
-standing v w h ok x low =
-    let a = walk-run v w h ok x low in
-    let b = hop-run v w h ok x low in
-    record { low = low; walks = a .order; walks-end = omega (arith, a .fit, walk-count v w h); hops = b .order; hops-end = omega (arith, b .fit, hop-count v w h) }
+pub standing : (size : ℕ) (v w h : List ℕ) → ValidTables (tablesOf size v w h) → (x : ℕ) → x < length v / 12 → Standing size v w h x
+standing size v w h ok x low =
+    let a = walk-run size v w h ok x low in
+    let b = hop-run size v w h ok x low in
+    record { low = low; walks = a .order; walks-end = omega (arith, a .fit, walk-count size v w h); hops = b .order; hops-end = omega (arith, b .fit, hop-count size v w h) }

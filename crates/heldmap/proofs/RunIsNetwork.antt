@@ -35,6 +35,7 @@ use Rattle.records.specs.declared.Kind.the-variants.{Walks, Hops}
 use Rattle.words.specs.declared.Seconds.{Seconds}
 use Rattle.worktable.specs.Map.{Entry, Map, put}
 use Rattle.records.specs.Columns.{recordsIn}
+use Rattle.records.proofs.Sizes.{as-many}
 use Rattle.records.proofs.Runs.{length-run, run-walk, run-hop}
 use Rattle.passing.specs.Row.{Row, asking, passes, recordOf, Rides, Sound, Leaves}
 use Rattle.passing.specs.declared.Arriving.{Arriving}
@@ -55,11 +56,11 @@ unfolding offer
 same-offer Q (walked y) d = refl
 same-offer Q (ridden y) d = refl
 
-module _ (v w h : List ℕ) (Q : Query) (ok : Valid (tablesOf v w h) Q) {S : List Settled} (s : State (records.network (tablesOf v w h) Q) (ways (tablesOf v w h) Q) S) (x : ℕ)
-    (X : Next (records.network (tablesOf v w h) Q) (distanceIn S) x) (near : network.known (records.network (tablesOf v w h) Q) (distanceIn S) x ≤ allowed Q)
+module _ (size : ℕ) (wide : 16 ≤ size) (v w h : List ℕ) (Q : Query) (ok : Valid (tablesOf size v w h) Q) {S : List Settled} (s : State (records.network (tablesOf size v w h) Q) (ways (tablesOf size v w h) Q) S) (x : ℕ)
+    (X : Next (records.network (tablesOf size v w h) Q) (distanceIn S) x) (near : network.known (records.network (tablesOf size v w h) Q) (distanceIn S) x ≤ allowed Q)
     (A : Seconds) (clock : clocked (A .0) ≡ Q .arrival) where
   abbrev N : Tables
-  N = tablesOf v w h
+  N = tablesOf size v w h
 
   abbrev G : Network
   G = records.network N Q
@@ -70,7 +71,8 @@ module _ (v w h : List ℕ) (Q : Query) (ok : Valid (tablesOf v w h) Q) {S : Lis
   abbrev r : Arriving
   r = record {
     walks = endOf Walks v (length w / 16) x - firstOf Walks (vertexAt v x);
-    hops = endOf Hops v (length h / 16) x - firstOf Hops (vertexAt v x);
+    hops = endOf Hops v (length h / size) x - firstOf Hops (vertexAt v x);
+    size = size;
     distance = record { 0 = d };
     arrival = A;
     speed = Q .speed;
@@ -87,47 +89,47 @@ module _ (v w h : List ℕ) (Q : Query) (ok : Valid (tablesOf v w h) Q) {S : Lis
   R = rowAt v w h x r
 
   low : x < length v / 12
-  low = rw (vertex-count v w h) at (X .low)
+  low = rw (vertex-count size v w h) at (X .low)
 
   wr : arriving.Run (λ i. walk N i .to) (walkCount N) (up-walk N (ok .tables)) x (firstOf Walks (vertexAt v x)) (endOf Walks v (length w / 16) x)
-  wr = walk-run v w h (ok .tables) x low
+  wr = walk-run size v w h (ok .tables) x low
 
-  hr : arriving.Run (λ j. hop N j .to) (hopCount N) (up-hop N (ok .tables)) x (firstOf Hops (vertexAt v x)) (endOf Hops v (length h / 16) x)
-  hr = hop-run v w h (ok .tables) x low
+  hr : arriving.Run (λ j. hop N j .to) (hopCount N) (up-hop N (ok .tables)) x (firstOf Hops (vertexAt v x)) (endOf Hops v (length h / size) x)
+  hr = hop-run size v w h (ok .tables) x low
 
   abbrev mid : ℕ → Map
   mid k = midway G (ways N Q) (laws N Q ok) (loopless N Q ok) s x X k
 
   -- ---- record j of the run, by its number in the network
   walks-in : endOf Walks v (length w / 16) x ≤ recordsIn 16 w
-  walks-in = omega (arith, wr .fit, walk-count v w h)
+  walks-in = omega (arith, wr .fit, walk-count size v w h)
 
-  hops-in : endOf Hops v (length h / 16) x ≤ recordsIn 16 h
-  hops-in = omega (arith, hr .fit, hop-count v w h)
+  hops-in : endOf Hops v (length h / size) x ≤ recordsIn size h
+  hops-in = omega (arith, hr .fit, hop-count size v w h)
 
   walk-part : (j : ℕ) → j < r .walks → walkAt (walksAt v w x) j ≡ walkAt w (fw + j)
   unfolding walksAt
-  walk-part j l = run-walk w fw (endOf Walks v (length w / 16) x) walks-in j l
+  walk-part j l = run-walk w fw (endOf Walks v (length w / 16) x) (wr .order) walks-in j l
 
-  hop-part : (j : ℕ) → j < r .hops → hopAt (hopsAt v h x) j ≡ hopAt h (fh + j)
+  hop-part : (j : ℕ) → j < r .hops → hopAt size (hopsAt size v h x) j ≡ hopAt size h (fh + j)
   unfolding hopsAt
-  hop-part j l = run-hop h fh (endOf Hops v (length h / 16) x) hops-in j l
+  hop-part j l = run-hop size wide h fh (endOf Hops v (length h / size) x) (hr .order) hops-in j l
 
-  walk-of : (j : ℕ) → j < r .walks → recordOf (walksAt v w x) (hopsAt v h x) r j ≡ recordAt N (fw + j)
+  walk-of : (j : ℕ) → j < r .walks → recordOf (walksAt v w x) (hopsAt size v h x) r j ≡ recordAt N (fw + j)
   unfolding recordOf
   walk-of j l =
       let i : fw + j < walkCount N = omega (arith, wr .order, wr .fit) in
-      cond-true _ _ (lt-ltb j (r .walks) l) ∙ ap walked (walk-part j l) ∙ ap walked (sym (walk-at v w h (fw + j) (rw (walk-count v w h) at i))) ∙ sym (walk-record N (fw + j) i)
+      cond-true _ _ (lt-ltb j (r .walks) l) ∙ ap walked (walk-part j l) ∙ ap walked (sym (walk-at size v w h (fw + j) (rw (walk-count size v w h) at i))) ∙ sym (walk-record N (fw + j) i)
 
-  hop-of : (i : ℕ) → i < r .hops → recordOf (walksAt v w x) (hopsAt v h x) r (r .walks + i) ≡ recordAt N (walkCount N + (fh + i))
+  hop-of : (i : ℕ) → i < r .hops → recordOf (walksAt v w x) (hopsAt size v h x) r (r .walks + i) ≡ recordAt N (walkCount N + (fh + i))
   unfolding recordOf
   hop-of i l =
       let k : fh + i < hopCount N = omega (arith, hr .order, hr .fit) in
       let e : (r .walks + i) - r .walks ≡ i = omega arith in
       cond-false _ _ (le-ltb (r .walks + i) (r .walks) (omega arith))
-      ∙ ap (λ (z : ℕ). ridden (hopAt (hopsAt v h x) z)) e
+      ∙ ap (λ (z : ℕ). ridden (hopAt size (hopsAt size v h x) z)) e
       ∙ ap ridden (hop-part i l)
-      ∙ ap ridden (sym (hop-at v w h (fh + i) (rw (hop-count v w h) at k)))
+      ∙ ap ridden (sym (hop-at size v w h (fh + i) (rw (hop-count size v w h) at k)))
       ∙ sym (hop-record N (fh + i))
 
   offer-of : (y : Record) → offer (asking (clocked (A .0)) (Q .speed)) y d ≡ offer Q y d
@@ -135,14 +137,14 @@ module _ (v w h : List ℕ) (Q : Query) (ok : Valid (tablesOf v w h) Q) {S : Lis
 
   departs-of : (u : ℕ) → u < vertexCount N → R .departing u ≡ departs G u
   departs-of u l =
-      ap (λ z. z .departing) (sym (vertex-at v w h u (rw (vertex-count v w h) at l))) ∙ good-vertex N (ok .tables) u l .departs ∙ sym (departs-field N Q u)
+      ap (λ z. z .departing) (sym (vertex-at size v w h u (rw (vertex-count size v w h) at l))) ∙ good-vertex N (ok .tables) u l .departs ∙ sym (departs-field N Q u)
 
   -- ---- one record passed
-  pass-one : (j k : ℕ) → k < recordCount N → recordOf (walksAt v w x) (hopsAt v h x) r j ≡ recordAt N k → G .to k ≡ x
+  pass-one : (j k : ℕ) → k < recordCount N → recordOf (walksAt v w x) (hopsAt size v h x) r j ≡ recordAt N k → G .to k ≡ x
       → put (mid k) (R .from j) (passing.meets R j (mid k (R .from j))) ≡ mid (suc k)
   pass-one j k l e t =
       let f : R .from j ≡ G .from k = ap records.from e in
-      let o : R .offer j ≡ G .offer k d = offer-of (recordOf (walksAt v w x) (hopsAt v h x) r j) ∙ ap (λ (y : Record). offer Q y d) e in
+      let o : R .offer j ≡ G .offer k d = offer-of (recordOf (walksAt v w x) (hopsAt size v h x) r j) ∙ ap (λ (y : Record). offer Q y d) e in
       let q : R .departing (R .from j) ≡ departs G (G .from k) = ap (R .departing) f ∙ departs-of (G .from k) (laws N Q ok .from-low k l) in
       let fit : G .offer k d ≤ none = small (offer-fits N Q ok k d l near) in
       ap₂ (λ (u : ℕ) (y : Entry). put (mid k) u y) f
@@ -223,7 +225,7 @@ module _ (v w h : List ℕ) (Q : Query) (ok : Valid (tablesOf v w h) Q) {S : Lis
       and-yes true = refl
       and-yes false = refl
 
-  count-one : (u j k : ℕ) → recordOf (walksAt v w x) (hopsAt v h x) r j ≡ recordAt N k → G .to k ≡ x → one (eqb (R .from j) u) ≡ one (toward G x u k)
+  count-one : (u j k : ℕ) → recordOf (walksAt v w x) (hopsAt size v h x) r j ≡ recordAt N k → G .to k ≡ x → one (eqb (R .from j) u) ≡ one (toward G x u k)
   count-one u j k e t = ap one (ap (λ (z : ℕ). eqb z u) (ap records.from e) ∙ sym (leads-here u k t))
 
   leave-walks : (u j : ℕ) → j ≤ r .walks → passing.leaving R u j ≡ count (toward G x u) (fw + j)
@@ -307,45 +309,46 @@ module _ (v w h : List ℕ) (Q : Query) (ok : Valid (tablesOf v w h) Q) {S : Lis
       go (no n) = subst (λ (y : Entry). count (toward G x u) (recordCount N) ≤ passing.left (R .departing u) y) (sym (other-entry u n)) (by-entry u held-left absent-left)
 
   -- ---- what a row has to be
-  pub sound : Sound (walksAt v w x) (hopsAt v h x) r
+  pub sound : Sound (walksAt v w x) (hopsAt size v h x) r
   unfolding walksAt hopsAt
   sound =
       record {
         counted = record {
-          walks = omega (arith, length-run w fw (endOf Walks v (length w / 16) x) walks-in, wr .order);
-          hops = omega (arith, length-run h fh (endOf Hops v (length h / 16) x) hops-in, hr .order);
+          walks = omega (arith, length-run 16 (omega arith) w fw (endOf Walks v (length w / 16) x) (wr .order) walks-in);
+          hops = rw (length-run size wide h fh (endOf Hops v (length h / size) x) (hr .order) hops-in, as-many size (endOf Hops v (length h / size) x - fh) (omega arith)) (omega arith);
+          fits = wide;
         };
         lengths = λ i l.
             let k : fw + i < walkCount N = omega (arith, wr .order, wr .fit) in
-            subst (λ y. y .len ≤ 100000) (walk-at v w h (fw + i) (rw (walk-count v w h) at k) ∙ sym (walk-part i l)) (good-walk N (ok .tables) (fw + i) k .len-high);
+            subst (λ y. y .len ≤ 100000) (walk-at size v w h (fw + i) (rw (walk-count size v w h) at k) ∙ sym (walk-part i l)) (good-walk N (ok .tables) (fw + i) k .len-high);
         times = λ i l. rides i l;
         distance = omega (arith, near, allowed-high (ok .query));
         arrival = rw clock (record { low = omega (arith, ok .query .arrival-low); high = ok .query .arrival-high });
         speed = ok .query .speed-high;
       }
     where
-      rides : (i : ℕ) → i < r .hops → Rides (hopsAt v h x) i
+      rides : (i : ℕ) → i < r .hops → Rides size (hopsAt size v h x) i
       rides i l =
           let k : fh + i < hopCount N = omega (arith, hr .order, hr .fit) in
           let g = good-hop N (ok .tables) (fh + i) k in
-          let e = hop-at v w h (fh + i) (rw (hop-count v w h) at k) ∙ sym (hop-part i l) in
+          let e = hop-at size v w h (fh + i) (rw (hop-count size v w h) at k) ∙ sym (hop-part i l) in
           record {
             departure = subst (λ y. DayTime (y .departure)) e (record { low = g .departure-low; high = omega (arith, g .rides, g .arrival-high) });
             arrival = subst (λ y. DayTime (y .arrival)) e (record { low = omega (arith, g .rides, g .departure-low); high = g .arrival-high });
             ordered = subst (λ y. y .departure ≤ y .arrival) e (omega (arith, g .rides));
           }
 
-  pub leaves : Leaves v (walksAt v w x) (hopsAt v h x) r
-  leaves = record { vertices = omega (arith, ok .tables .vertices-few, vertex-count v w h); low = λ j l. from-low j l }
+  pub leaves : Leaves v (walksAt v w x) (hopsAt size v h x) r
+  leaves = record { vertices = omega (arith, ok .tables .vertices-few, vertex-count size v w h); low = λ j l. from-low j l }
     where
       from-low : (j : ℕ) → j < passes r → R .from j < length v / 12
       from-low j l =
           ⊎-elim
           (λ (q : r .walks ≤ j).
           let e : r .walks + (j - r .walks) ≡ j = omega arith in
-          let f = ap records.from (ap (recordOf (walksAt v w x) (hopsAt v h x) r) (sym e) ∙ hop-of (j - r .walks) (omega arith)) in
-          rw f (rw (vertex-count v w h) at (laws N Q ok .from-low (walkCount N + (fh + (j - r .walks))) (omega (arith, hr .order, hr .fit)))))
+          let f = ap records.from (ap (recordOf (walksAt v w x) (hopsAt size v h x) r) (sym e) ∙ hop-of (j - r .walks) (omega arith)) in
+          rw f (rw (vertex-count size v w h) at (laws N Q ok .from-low (walkCount N + (fh + (j - r .walks))) (omega (arith, hr .order, hr .fit)))))
           (λ (q : j < r .walks).
           let f = ap records.from (walk-of j q) in
-          rw f (rw (vertex-count v w h) at (laws N Q ok .from-low (fw + j) (omega (arith, wr .order, wr .fit)))))
+          rw f (rw (vertex-count size v w h) at (laws N Q ok .from-low (fw + j) (omega (arith, wr .order, wr .fit)))))
           (le-or-lt (r .walks) j)

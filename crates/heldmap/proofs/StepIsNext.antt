@@ -41,10 +41,10 @@ bounded-is N Q ok =
     let g = good-walk N (ok .tables) (Q .walk) (ok .query .walk-low) in
     (λ u h. rw (ne-eqb (asked N Q .from) u (omega (arith, g .from-low)), ne-eqb (asked N Q .to) u (omega (arith, g .to-low))) (omega arith), laws N Q ok .from-low)
 
-module _ (v w h : List ℕ) (Q : Query) (ok : Valid (tablesOf v w h) Q) {l : List Settled} (O : Order (Distance (tablesOf v w h) Q) (allowed Q) l) (bounded : Bounded (records.network (tablesOf v w h) Q))
-    (k : ℕ) (made : k ≤ length l) (x d : ℕ) (F : Foremost (heldMap (records.network (tablesOf v w h) Q) (distanceIn (take k l))) x d) (near : d ≤ allowed Q) where
+module _ (size : ℕ) (wide : 16 ≤ size) (v w h : List ℕ) (Q : Query) (ok : Valid (tablesOf size v w h) Q) {l : List Settled} (O : Order (Distance (tablesOf size v w h) Q) (allowed Q) l) (bounded : Bounded (records.network (tablesOf size v w h) Q))
+    (k : ℕ) (made : k ≤ length l) (x d : ℕ) (F : Foremost (heldMap (records.network (tablesOf size v w h) Q) (distanceIn (take k l))) x d) (near : d ≤ allowed Q) where
   abbrev N : Tables
-  N = tablesOf v w h
+  N = tablesOf size v w h
 
   abbrev G : Network
   G = records.network N Q
@@ -95,26 +95,26 @@ module _ (v w h : List ℕ) (Q : Query) (ok : Valid (tablesOf v w h) Q) {l : Lis
 
   module _ (A : Seconds) (clock : clocked (A .0) ≡ Q .arrival) where
     abbrev r : ℕ → Arriving
-    r z = arrivingAt v w h x z A (Q .speed)
+    r z = arrivingAt size v w h x z A (Q .speed)
 
     -- The map after the step.
     pub map-next : passing.passed (rowAt v w h x (r d)) (passes (r d)) (settledNow (heldMap G far) x) ≡ heldMap G (distanceIn (take (suc k) l))
     unfolding arrivingAt
     map-next =
         subst (λ (z : ℕ). passing.passed (rowAt v w h x (r z)) (passes (r z)) (settledNow (heldMap G far) x) ≡ heldMap G (upd far x z)) at
-        (ap (passing.passed (rowAt v w h x (r (network.known G far x))) (passes (r (network.known G far x)))) now-settled ∙ fun-ext (λ u. pass-all v w h Q ok s x X near′ A clock u))
+        (ap (passing.passed (rowAt v w h x (r (network.known G far x))) (passes (r (network.known G far x)))) now-settled ∙ fun-ext (λ u. pass-all size wide v w h Q ok s x X near′ A clock u))
         ∙ ap (heldMap G) (fun-ext far-next)
 
     pub enough-next : passing.Enough (rowAt v w h x (r d)) (passes (r d)) (settledNow (heldMap G far) x)
     unfolding arrivingAt
     enough-next =
         subst (λ (z : ℕ). passing.Enough (rowAt v w h x (r z)) (passes (r z)) (settledNow (heldMap G far) x)) at
-        (subst (λ (m : Map). passing.Enough (rowAt v w h x (r (network.known G far x))) (passes (r (network.known G far x))) m) (sym now-settled) (enough v w h Q ok s x X near′ A clock))
+        (subst (λ (m : Map). passing.Enough (rowAt v w h x (r (network.known G far x))) (passes (r (network.known G far x))) m) (sym now-settled) (enough size wide v w h Q ok s x X near′ A clock))
 
-    pub sound-next : Sound (walksAt v w x) (hopsAt v h x) (r d)
+    pub sound-next : Sound (walksAt v w x) (hopsAt size v h x) (r d)
     unfolding arrivingAt
-    sound-next = subst (λ (z : ℕ). Sound (walksAt v w x) (hopsAt v h x) (r z)) at (sound v w h Q ok s x X near′ A clock)
+    sound-next = subst (λ (z : ℕ). Sound (walksAt v w x) (hopsAt size v h x) (r z)) at (sound size wide v w h Q ok s x X near′ A clock)
 
-    pub leaves-next : Leaves v (walksAt v w x) (hopsAt v h x) (r d)
+    pub leaves-next : Leaves v (walksAt v w x) (hopsAt size v h x) (r d)
     unfolding arrivingAt
-    leaves-next = subst (λ (z : ℕ). Leaves v (walksAt v w x) (hopsAt v h x) (r z)) at (leaves v w h Q ok s x X near′ A clock)
+    leaves-next = subst (λ (z : ℕ). Leaves v (walksAt v w x) (hopsAt size v h x) (r z)) at (leaves size wide v w h Q ok s x X near′ A clock)

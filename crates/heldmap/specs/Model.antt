@@ -22,27 +22,28 @@ asEntry (x ∷ xs) = known (x .distance) (x .state) (x .remaining)
 unfoldable pub heldMap : Network → (ℕ → ℕ) → Map
 heldMap G far u = asEntry (entry G far u)
 
--- where the records that arrive at x stand in the two tables
-pub record Standing (v w h : List ℕ) (x : ℕ) : Type 0 where
+-- where the records that arrive at x stand in the two tables; a hop has `size` bytes
+pub record Standing (size : ℕ) (v w h : List ℕ) (x : ℕ) : Type 0 where
   pub low : x < length v / 12
   pub walks : firstOf Walks (vertexAt v x) ≤ endOf Walks v (length w / 16) x
   pub walks-end : endOf Walks v (length w / 16) x ≤ length w / 16
-  pub hops : firstOf Hops (vertexAt v x) ≤ endOf Hops v (length h / 16) x
-  pub hops-end : endOf Hops v (length h / 16) x ≤ length h / 16
+  pub hops : firstOf Hops (vertexAt v x) ≤ endOf Hops v (length h / size) x
+  pub hops-end : endOf Hops v (length h / size) x ≤ length h / size
 
 -- the parts of the two tables that they are
 unfoldable pub walksAt : List ℕ → List ℕ → ℕ → List ℕ
-walksAt v w x = run w (firstOf Walks (vertexAt v x)) (endOf Walks v (length w / 16) x)
+walksAt v w x = run 16 w (firstOf Walks (vertexAt v x)) (endOf Walks v (length w / 16) x)
 
-unfoldable pub hopsAt : List ℕ → List ℕ → ℕ → List ℕ
-hopsAt v h x = run h (firstOf Hops (vertexAt v x)) (endOf Hops v (length h / 16) x)
+unfoldable pub hopsAt : ℕ → List ℕ → List ℕ → ℕ → List ℕ
+hopsAt size v h x = run size h (firstOf Hops (vertexAt v x)) (endOf Hops v (length h / size) x)
 
 -- how many they are, and what they ask, where x is settled at d
-unfoldable pub arrivingAt : List ℕ → List ℕ → List ℕ → ℕ → ℕ → Seconds → ℕ → Arriving
-arrivingAt v w h x d arrival speed =
+unfoldable pub arrivingAt : ℕ → List ℕ → List ℕ → List ℕ → ℕ → ℕ → Seconds → ℕ → Arriving
+arrivingAt size v w h x d arrival speed =
     record {
       walks = endOf Walks v (length w / 16) x - firstOf Walks (vertexAt v x);
-      hops = endOf Hops v (length h / 16) x - firstOf Hops (vertexAt v x);
+      hops = endOf Hops v (length h / size) x - firstOf Hops (vertexAt v x);
+      size = size;
       distance = record { 0 = d };
       arrival = arrival;
       speed = speed;
@@ -50,7 +51,7 @@ arrivingAt v w h x d arrival speed =
 
 -- the row of those records, with whatever they ask
 abbrev pub rowAt : List ℕ → List ℕ → List ℕ → ℕ → Arriving → Row
-rowAt v w h x a = rowOf v (walksAt v w x) (hopsAt v h x) a
+rowAt v w h x a = rowOf v (walksAt v w x) (hopsAt (a .size) v h x) a
 
 -- the map when v is settled: it stays as long as something of it remains
 unfoldable pub settledNow : Map → ℕ → Map

@@ -55,29 +55,29 @@ module _ (held settled : List ℕ) where
   none-cut h s = sym (passed (wholeOf 16 held) 1 3 _ (whole 16 held h) ∙ last (wholeOf 8 settled) 1 4 (whole 8 settled s))
 
 -- the query: what its road and its fields have to be
-module _ (v w h : List ℕ) (Q : Query) where
-  low-walk : Q .walk < length w / 16 → ltb (Q .walk) (walkCount (tablesOf v w h)) ≡ true
-  low-walk l = lt-ltb (Q .walk) _ (rw (walk-count v w h) l)
+module _ (size : ℕ) (v w h : List ℕ) (Q : Query) where
+  low-walk : Q .walk < length w / 16 → ltb (Q .walk) (walkCount (tablesOf size v w h)) ≡ true
+  low-walk l = lt-ltb (Q .walk) _ (rw (walk-count size v w h) l)
 
-  pub walk-fault : length w / 16 ≤ Q .walk → record { number = 7; place = 0 } ≡ queryRefusal (tablesOf v w h) Q
+  pub walk-fault : length w / 16 ≤ Q .walk → record { number = 7; place = 0 } ≡ queryRefusal (tablesOf size v w h) Q
   unfolding queryRefusal
-  walk-fault l = sym (failed (ltb (Q .walk) (walkCount (tablesOf v w h))) 7 0 _ (omega arith) (le-ltb (Q .walk) _ (rw (walk-count v w h) l)))
+  walk-fault l = sym (failed (ltb (Q .walk) (walkCount (tablesOf size v w h))) 7 0 _ (omega arith) (le-ltb (Q .walk) _ (rw (walk-count size v w h) l)))
 
   module _ (l : Q .walk < length w / 16) where
-    road : asked (tablesOf v w h) Q ≡ walkAt w (Q .walk)
-    road = walk-at v w h (Q .walk) l
+    road : asked (tablesOf size v w h) Q ≡ walkAt w (Q .walk)
+    road = walk-at size v w h (Q .walk) l
 
-    pub offset-fault : walkAt w (Q .walk) .len < Q .offset → record { number = 7; place = 1 } ≡ queryRefusal (tablesOf v w h) Q
+    pub offset-fault : walkAt w (Q .walk) .len < Q .offset → record { number = 7; place = 1 } ≡ queryRefusal (tablesOf size v w h) Q
     unfolding queryRefusal
     offset-fault q =
-        sym (passed (ltb (Q .walk) (walkCount (tablesOf v w h))) 7 0 _ (low-walk l)
-        ∙ failed (leb (Q .offset) (asked (tablesOf v w h) Q .len)) 7 1 _ (omega arith) (lt-leb (Q .offset) _ (rw road q)))
+        sym (passed (ltb (Q .walk) (walkCount (tablesOf size v w h))) 7 0 _ (low-walk l)
+        ∙ failed (leb (Q .offset) (asked (tablesOf size v w h) Q .len)) 7 1 _ (omega arith) (lt-leb (Q .offset) _ (rw road q)))
 
     module _ (o : Q .offset ≤ walkAt w (Q .walk) .len) where
-      good-road : (rest : Refusal) → orElse (unless (ltb (Q .walk) (walkCount (tablesOf v w h))) 7 0) (orElse (unless (leb (Q .offset) (asked (tablesOf v w h) Q .len)) 7 1) rest) ≡ rest
+      good-road : (rest : Refusal) → orElse (unless (ltb (Q .walk) (walkCount (tablesOf size v w h))) 7 0) (orElse (unless (leb (Q .offset) (asked (tablesOf size v w h) Q .len)) 7 1) rest) ≡ rest
       good-road rest =
-          passed (ltb (Q .walk) (walkCount (tablesOf v w h))) 7 0 _ (low-walk l)
-          ∙ passed (leb (Q .offset) (asked (tablesOf v w h) Q .len)) 7 1 _ (le-leb (Q .offset) _ (rw road o))
+          passed (ltb (Q .walk) (walkCount (tablesOf size v w h))) 7 0 _ (low-walk l)
+          ∙ passed (leb (Q .offset) (asked (tablesOf size v w h) Q .len)) 7 1 _ (le-leb (Q .offset) _ (rw road o))
 
       abbrev pub arrives : Bool
       arrives = leb midnight (Q .arrival) && leb (Q .arrival) (midnight + 172800)
@@ -88,19 +88,19 @@ module _ (v w h : List ℕ) (Q : Query) where
       abbrev pub walks : Bool
       walks = leb 1 (Q .speed) && leb (Q .speed) 100
 
-      pub arrival-fault : arrives ≡ false → record { number = 7; place = 2 } ≡ queryRefusal (tablesOf v w h) Q
+      pub arrival-fault : arrives ≡ false → record { number = 7; place = 2 } ≡ queryRefusal (tablesOf size v w h) Q
       unfolding queryRefusal
       arrival-fault e = sym (good-road _ ∙ failed arrives 7 2 _ (omega arith) e)
 
-      pub duration-fault : arrives ≡ true → lasts ≡ false → record { number = 7; place = 3 } ≡ queryRefusal (tablesOf v w h) Q
+      pub duration-fault : arrives ≡ true → lasts ≡ false → record { number = 7; place = 3 } ≡ queryRefusal (tablesOf size v w h) Q
       unfolding queryRefusal
       duration-fault a e = sym (good-road _ ∙ passed arrives 7 2 _ a ∙ failed lasts 7 3 _ (omega arith) e)
 
-      pub speed-fault : arrives ≡ true → lasts ≡ true → walks ≡ false → record { number = 7; place = 4 } ≡ queryRefusal (tablesOf v w h) Q
+      pub speed-fault : arrives ≡ true → lasts ≡ true → walks ≡ false → record { number = 7; place = 4 } ≡ queryRefusal (tablesOf size v w h) Q
       unfolding queryRefusal
       speed-fault a d e = sym (good-road _ ∙ passed arrives 7 2 _ a ∙ passed lasts 7 3 _ d ∙ last-failed walks 7 4 e)
 
-      pub no-fault : arrives ≡ true → lasts ≡ true → walks ≡ true → fine ≡ queryRefusal (tablesOf v w h) Q
+      pub no-fault : arrives ≡ true → lasts ≡ true → walks ≡ true → fine ≡ queryRefusal (tablesOf size v w h) Q
       unfolding queryRefusal
       no-fault a d e = sym (good-road _ ∙ passed arrives 7 2 _ a ∙ passed lasts 7 3 _ d ∙ last walks 7 4 e)
 

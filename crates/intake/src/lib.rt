@@ -33,7 +33,7 @@ pub fn buffer_fault(held: &[u8], settled: &[u8]) -> Refusal
 
 // Refusal 7: the fields of the query, in their order. Of the tables it asks the walks alone.
 pub fn query_fault(walks: &[u8], q: Query) -> Refusal
-    ensures { λ r. ⌜ ((v h : List ℕ) → told r ≡ queryRefusal (tablesOf v (now (walks .entry)) h) (queryOf q)) ⌝ }
+    ensures { λ r. ⌜ ((size : ℕ) (v h : List ℕ) → told r ≡ queryRefusal (tablesOf size v (now (walks .entry)) h) (queryOf q)) ⌝ }
 {
     let e = q.walk as usize;
     if walks.len() / 16 <= e {
@@ -69,15 +69,16 @@ pub fn input_fault(
     vertices: &[u8],
     walks: &[u8],
     hops: &[u8],
+    hop_size: usize,
     held: &[u8],
     settled: &[u8],
     q: Query,
     scratch: &mut [u16; 2048],
 ) -> Refusal
-    ensures { λ r. ⌜ told r ≡ early (lent (now (vertices .entry)) (now (walks .entry)) (now (hops .entry)) (now (held .entry)) (now (settled .entry))) (queryOf q) ⌝ }
+    ensures { λ r. ⌜ told r ≡ early (lent (now (vertices .entry)) (now (walks .entry)) (now (hops .entry)) «hop_size» (now (held .entry)) (now (settled .entry))) (queryOf q) ⌝ }
     ensures { λ _. ⌜ now (scratch .exit) ≡ replicate 2048 0 ⌝ }
 {
-    let uneven = audit::lengths(vertices, walks, hops);
+    let uneven = audit::lengths(vertices, walks, hops, hop_size);
     if uneven.number != 0 {
         departing::clear(scratch);
         return uneven;
@@ -87,7 +88,7 @@ pub fn input_fault(
         departing::clear(scratch);
         return cut;
     }
-    let bad = audit::contents(vertices, walks, hops, scratch);
+    let bad = audit::contents(vertices, walks, hops, hop_size, scratch);
     if bad.number != 0 {
         return bad;
     }

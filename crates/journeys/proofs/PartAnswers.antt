@@ -52,17 +52,17 @@ module _ (b : PartsLent) (Q : Query) (e : partsEarly b Q .number ≡ 0) where
   abbrev n : ℕ
   n = vertexCount (partsTables b)
 
-  links : (tableLengths (b .vertices) (b .walks) (b .hops) .number ≡ 0) × (contents (partsTables b) .number ≡ 0) × (queryRefusal (partsTables b) Q .number ≡ 0) × (listRefusal 8 n (allowed Q) (b .list) .number ≡ 0)
+  links : (tableLengths (b .hopSize) (b .vertices) (b .walks) (b .hops) .number ≡ 0) × (contents (partsTables b) .number ≡ 0) × (queryRefusal (partsTables b) Q .number ≡ 0) × (listRefusal 8 n (allowed Q) (b .list) .number ≡ 0)
   unfolding partsEarly
   links =
-      let x = or-fine (tableLengths (b .vertices) (b .walks) (b .hops)) _ e in
+      let x = or-fine (tableLengths (b .hopSize) (b .vertices) (b .walks) (b .hops)) _ e in
       let y = or-fine (listLengths (b .list) (b .parts)) _ (x .1) in
       let z = or-fine (contents (partsTables b)) _ (y .1) in
       let w = or-fine (queryRefusal (partsTables b) Q) _ (z .1) in
       (x .0, z .0, w .0, w .1)
 
   pub parts-valid : Valid (partsTables b) Q
-  parts-valid = record { tables = lengths-valid (b .vertices) (b .walks) (b .hops) (links .0) (links .1); query = query-valid (partsTables b) Q (links .2) }
+  parts-valid = record { tables = lengths-valid (b .hopSize) (b .vertices) (b .walks) (b .hops) (links .0) (links .1); query = query-valid (partsTables b) Q (links .2) }
 
   -- Each entry names a vertex, at a distance within D.
   pub entry-good : (i : ℕ) → i < length (b .list) / 8 → (vertexIn 8 (b .list) i < n) × (distanceAt 8 (b .list) i ≤ allowed Q)

@@ -1,5 +1,5 @@
 -- What is not refused is valid, and what a valid record says. Assumes nothing.
-use mathlib.Core.Path.{_≡_}
+use mathlib.Core.Path.{_≡_, sym, subst}
 use mathlib.Core.Logic.{⊎-elim, _≢_}
 use mathlib.Core.Bool.{true, _&&_}
 use mathlib.Core.List.{List}
@@ -13,7 +13,7 @@ use Rattle.journeys.specs.Counting.{none}
 use Rattle.journeys.specs.Bytes.{midnight}
 use Rattle.journeys.specs.Tables.{Tables, tablesOf, vertexCount, walkCount, hopCount, walk, hop}
 use Rattle.journeys.specs.Query.{Query, asked, allowed}
-use Rattle.journeys.specs.Refusals.{unless, firstBad, wholeOf, tableOf, tableLengths, bufferLengths, endsOk, lengthOk, pairOk, walkOk, hopOk, walkAscends, hopAscends, vertexOk, contents, queryRefusal, check}
+use Rattle.journeys.specs.Refusals.{unless, firstBad, wholeOf, hopSizeOk, tableOf, tableLengths, bufferLengths, endsOk, lengthOk, pairOk, walkOk, hopOk, walkAscends, hopAscends, vertexOk, contents, queryRefusal, check}
 use Rattle.journeys.specs.Valid.{ValidTables, ValidQuery, Valid}
 use Rattle.journeys.specs.Answers.{Lent, tables, early}
 use Rattle.journeys.proofs.Tests.{and-both, or-cases}
@@ -66,29 +66,44 @@ table-fits size low high b e =
     let p = and-both (wholeOf size b && leb low (length b / size)) _ e in
     (leb-true _ _ (and-both (wholeOf size b) _ (p .0) .1), leb-true _ _ (p .1))
 
--- Tables that the check passes are valid.
-pub lengths-valid : (v w h : List ℕ) → tableLengths v w h .number ≡ 0 → contents (tablesOf v w h) .number ≡ 0 → ValidTables (tablesOf v w h)
+-- What holds of hops of 16 bytes and of hops of 20 holds of every size that is not refused.
+pub of-sizes : (P : ℕ → Type 0) → P 16 → P 20 → (size : ℕ) → hopSizeOk size ≡ true → P size
+unfolding hopSizeOk
+of-sizes P a b size e =
+    ⊎-elim (λ (t : eqb size 16 ≡ true). subst P (sym (eqb-true size 16 t)) a)
+    (λ (t : eqb size 20 ≡ true). subst P (sym (eqb-true size 20 t)) b)
+    (or-cases (eqb size 16) (eqb size 20) e)
+
+-- Such a record holds the four fields of a hop.
+pub size-fits : (size : ℕ) (v w h : List ℕ) → tableLengths size v w h .number ≡ 0 → 16 ≤ size
 unfolding tableLengths
-lengths-valid v w h e f =
+size-fits size v w h e =
+    let b = or-fine (unless (tableOf 16 0 262144 w) 1 1) _ (or-fine (unless (tableOf 12 1 65536 v) 1 0) _ e .1) in
+    of-sizes (λ s. 16 ≤ s) (omega arith) (omega arith) size (and-both (hopSizeOk size) _ (unless-fine _ 1 2 (omega arith) (b .1)) .0)
+
+-- Tables that the check passes are valid.
+pub lengths-valid : (size : ℕ) (v w h : List ℕ) → tableLengths size v w h .number ≡ 0 → contents (tablesOf size v w h) .number ≡ 0 → ValidTables (tablesOf size v w h)
+unfolding tableLengths
+lengths-valid size v w h e f =
     let a = or-fine (unless (tableOf 12 1 65536 v) 1 0) _ e in
     let b = or-fine (unless (tableOf 16 0 262144 w) 1 1) _ (a .1) in
     let p = table-fits 12 1 65536 v (unless-fine _ 1 0 (omega arith) (a .0)) in
     let q = table-fits 16 0 262144 w (unless-fine _ 1 1 (omega arith) (b .0)) in
-    let r = table-fits 16 0 262144 h (unless-fine _ 1 2 (omega arith) (b .1)) in
-    contents-valid (tablesOf v w h) (omega (arith, vertex-count v w h)) (omega (arith, vertex-count v w h)) (omega (arith, walk-count v w h)) (omega (arith, hop-count v w h)) f
+    let r = table-fits size 0 262144 h (and-both (hopSizeOk size) _ (unless-fine _ 1 2 (omega arith) (b .1)) .1) in
+    contents-valid (tablesOf size v w h) (omega (arith, vertex-count size v w h)) (omega (arith, vertex-count size v w h)) (omega (arith, walk-count size v w h)) (omega (arith, hop-count size v w h)) f
 
-pub check-valid : (v w h : List ℕ) → check v w h .number ≡ 0 → ValidTables (tablesOf v w h)
+pub check-valid : (size : ℕ) (v w h : List ℕ) → check size v w h .number ≡ 0 → ValidTables (tablesOf size v w h)
 unfolding check
-check-valid v w h e = let a = or-fine (tableLengths v w h) _ e in lengths-valid v w h (a .0) (a .1)
+check-valid size v w h e = let a = or-fine (tableLengths size v w h) _ e in lengths-valid size v w h (a .0) (a .1)
 
 -- What the run does not refuse at once is valid.
 pub early-valid : (b : Lent) (Q : Query) → early b Q .number ≡ 0 → Valid (tables b) Q
 unfolding early
 early-valid b Q e =
-    let x = or-fine (tableLengths (b .vertices) (b .walks) (b .hops)) _ e in
+    let x = or-fine (tableLengths (b .hopSize) (b .vertices) (b .walks) (b .hops)) _ e in
     let y = or-fine (bufferLengths (b .held) (b .settled)) _ (x .1) in
     let z = or-fine (contents (tables b)) _ (y .1) in
-    record { tables = lengths-valid (b .vertices) (b .walks) (b .hops) (x .0) (z .0); query = query-valid (tables b) Q (z .1) }
+    record { tables = lengths-valid (b .hopSize) (b .vertices) (b .walks) (b .hops) (x .0) (z .0); query = query-valid (tables b) Q (z .1) }
 
 -- ---- what a good record says
 pub record GoodWalk (N : Tables) (i : ℕ) : Type 0 where

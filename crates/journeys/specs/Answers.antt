@@ -14,11 +14,12 @@ use Rattle.journeys.specs.Network.{Held, distanceIn, heldList}
 use Rattle.journeys.specs.Records.{network}
 use Rattle.journeys.specs.Refusals.{Refusal, unless, orElse, chain, firstFrom, tableLengths, bufferLengths, contents, queryRefusal}
 
--- the bytes lent: three tables, and two buffers as they are at the call
+-- what is lent: three tables, the size of a hop, and two buffers as they are at the call
 pub record Lent : Type 0 where
   pub vertices : List ℕ
   pub walks : List ℕ
   pub hops : List ℕ
+  pub hopSize : ℕ
   pub held : List ℕ
   pub settled : List ℕ
 
@@ -33,13 +34,13 @@ pub record Answer : Type 0 where
   pub settled : List ℕ
 
 abbrev pub tables : Lent → Tables
-tables b = tablesOf (b .vertices) (b .walks) (b .hops)
+tables b = tablesOf (b .hopSize) (b .vertices) (b .walks) (b .hops)
 
 -- refusals 1 to 7, which change no lent byte
 unfoldable pub early : Lent → Query → Refusal
 early b Q =
     chain
-    (tableLengths (b .vertices) (b .walks) (b .hops)
+    (tableLengths (b .hopSize) (b .vertices) (b .walks) (b .hops)
     ∷ bufferLengths (b .held) (b .settled)
     ∷ contents (tables b)
     ∷ queryRefusal (tables b) Q

@@ -15,25 +15,32 @@ unfoldable pub changed : List ℕ → ℕ → ℕ → List ℕ
 changed b at x = take at b ++ word x ++ drop (at + 4) b
 
 abbrev pub vertexBytesOf : Lent → List ℕ → Lent
-vertexBytesOf b v = record { vertices = v; walks = b .walks; hops = b .hops; held = b .held; settled = b .settled }
+vertexBytesOf b v = record { vertices = v; walks = b .walks; hops = b .hops; hopSize = b .hopSize; held = b .held; settled = b .settled }
 
 abbrev pub walkBytesOf : Lent → List ℕ → Lent
-walkBytesOf b w = record { vertices = b .vertices; walks = w; hops = b .hops; held = b .held; settled = b .settled }
+walkBytesOf b w = record { vertices = b .vertices; walks = w; hops = b .hops; hopSize = b .hopSize; held = b .held; settled = b .settled }
 
 abbrev pub hopBytesOf : Lent → List ℕ → Lent
-hopBytesOf b h = record { vertices = b .vertices; walks = b .walks; hops = h; held = b .held; settled = b .settled }
+hopBytesOf b h = record { vertices = b .vertices; walks = b .walks; hops = h; hopSize = b .hopSize; held = b .held; settled = b .settled }
+
+-- hops of a size that is named; the base job with hops of 20 bytes, of any trip
+abbrev pub sized : Lent → ℕ → Lent
+sized b size = record { vertices = b .vertices; walks = b .walks; hops = b .hops; hopSize = size; held = b .held; settled = b .settled }
+
+abbrev pub trips : ℕ → Lent
+trips trip = sized (hopBytesOf base (base .hops ++ word trip)) 20
 
 -- so many bytes in each of the lent buffers
 abbrev pub buffers : Lent → ℕ → ℕ → Lent
-buffers b held settled = record { vertices = b .vertices; walks = b .walks; hops = b .hops; held = replicate held 7; settled = replicate settled 7 }
+buffers b held settled = record { vertices = b .vertices; walks = b .walks; hops = b .hops; hopSize = b .hopSize; held = replicate held 7; settled = replicate settled 7 }
 
--- field k of record i: of a walk (0 from, 1 to, 2 length, 3 twin), of a hop (0 from, 1 to, 2 departure, 3 arrival), of a vertex (0 first walk, 1 first hop,
+-- field k of record i: of a walk (0 from, 1 to, 2 length, 3 twin), of a hop (0 from, 1 to, 2 departure, 3 arrival, 4 trip), of a vertex (0 first walk, 1 first hop,
 -- 2 departing and zero)
 abbrev pub walkField : Lent → ℕ → ℕ → ℕ → Lent
 walkField b i k x = walkBytesOf b (changed (b .walks) (16 * i + 4 * k) x)
 
 abbrev pub hopField : Lent → ℕ → ℕ → ℕ → Lent
-hopField b j k x = hopBytesOf b (changed (b .hops) (16 * j + 4 * k) x)
+hopField b j k x = hopBytesOf b (changed (b .hops) (b .hopSize * j + 4 * k) x)
 
 abbrev pub vertexField : Lent → ℕ → ℕ → ℕ → Lent
 vertexField b v k x = vertexBytesOf b (changed (b .vertices) (12 * v + 4 * k) x)
@@ -91,6 +98,16 @@ lengthLimits =
     ∷ tried (walkBytesOf base (0 ∷ base .walks)) (bad 1 1)
     ∷ tried (hopBytesOf base (take 15 (base .hops))) (bad 1 2)
     ∷ tried (hopBytesOf base (0 ∷ base .hops)) (bad 1 2)
+    -- the size of a hop: 16 or 20, of an empty table too
+    ∷ tried (sized base 0) (bad 1 2)
+    ∷ tried (sized base 12) (bad 1 2)
+    ∷ tried (sized base 20) (bad 1 2)
+    ∷ tried (sized (hopBytesOf base (replicate 24 0)) 24) (bad 1 2)
+    ∷ tried (sized (hopBytesOf base []) 0) (bad 1 2)
+    ∷ tried (sized (hopBytesOf base []) 20) (bad 6 2)
+    ∷ tried (sized (trips 0) 16) (bad 1 2)
+    ∷ tried (trips 0) good
+    ∷ tried (trips none) good
     ∷ tried (buffers base 79 40) (bad 1 3)
     ∷ tried (buffers base 81 40) (bad 1 3)
     ∷ tried (buffers base 80 39) (bad 1 4)
@@ -133,6 +150,9 @@ hopLimits =
     ∷ tried (hopField base 0 2 35879) good
     ∷ tried (hopField base 0 2 35880) (bad 3 0)
     ∷ tried (hopField base 0 2 35881) (bad 3 0)
+    -- with a trip the fields stand where they stood
+    ∷ tried (hopField (trips 7) 0 3 172801) (bad 3 0)
+    ∷ tried (hopField (trips 7) 0 4 172801) good
     ∷ []
 
 -- ---- 4 and 5: "to" not below the one before; 6: firsts, departing, zero
@@ -141,6 +161,8 @@ orderLimits =
     tried (walkField oneWay 5 1 2) (bad 4 5)
     ∷ tried (twoHops 1) good
     ∷ tried (twoHops 0) (bad 5 1)
+    ∷ tried (sized (hopBytesOf (twoHops 1) (base .hops ++ word 9 ++ base .hops ++ word 0)) 20) good
+    ∷ tried (sized (hopBytesOf (twoHops 1) (base .hops ++ word 0 ++ word 3 ++ word 0 ++ word 35760 ++ word 35880 ++ word 0)) 20) (bad 5 1)
     ∷ tried (vertexField base 2 0 2) (bad 6 2)
     ∷ tried (vertexField base 2 0 4) (bad 6 2)
     ∷ tried (vertexField base 0 0 1) (bad 6 0)
@@ -179,6 +201,8 @@ queryLimits =
 unfoldable pub firstReasons : List Case
 firstReasons =
     tried (walkBytesOf (vertexBytesOf base []) (take 95 (base .walks))) (bad 1 0)
+    ∷ tried (sized (walkBytesOf base (take 95 (base .walks))) 24) (bad 1 1)
+    ∷ tried (buffers (sized base 24) 79 40) (bad 1 2)
     ∷ tried (buffers (hopBytesOf base (take 15 (base .hops))) 79 40) (bad 1 2)
     ∷ tried (buffers base 79 39) (bad 1 3)
     ∷ tried (buffers (walkField base 0 2 0) 80 39) (bad 1 4)
@@ -196,6 +220,11 @@ firstReasons =
 unfoldable pub roomLimits : List Case
 roomLimits =
     roomed 4 4 none
+    (0 ∷ 0 ∷ 4 ∷ 2 ∷ 1 ∷ []
+    ++ word 3 ++ word 2400 ++ word 1 ++ word 1 ++ word 4 ++ word 3300 ++ word 0 ++ word 0 ++ replicate 32 0
+    ++ word 1 ++ word 500 ++ word 0 ++ word 1500 ++ word 3 ++ word 2400 ++ word 2 ++ word 3000)
+    -- the same journeys where the hop has a trip
+    ∷ when (buffers (trips 7) 64 32) baseQuery none whole
     (0 ∷ 0 ∷ 4 ∷ 2 ∷ 1 ∷ []
     ++ word 3 ++ word 2400 ++ word 1 ++ word 1 ++ word 4 ++ word 3300 ++ word 0 ++ word 0 ++ replicate 32 0
     ++ word 1 ++ word 500 ++ word 0 ++ word 1500 ++ word 3 ++ word 2400 ++ word 2 ++ word 3000)

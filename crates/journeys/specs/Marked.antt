@@ -31,6 +31,7 @@ lend t u departure arrival held settled =
       vertices = baseVertices;
       walks = baseWalks t u;
       hops = baseHop departure arrival;
+      hopSize = 16;
       held = replicate (16 * held) 7;
       settled = replicate (8 * settled) 7;
     }
@@ -56,7 +57,7 @@ oneWay = lend none none 35760 35880 5 5
 
 -- ---- the pair: a run, then the parts of its own list
 abbrev pub partsOver : Lent → List ℕ → List ℕ → PartsLent
-partsOver b list parts = record { vertices = b .vertices; walks = b .walks; hops = b .hops; list = list; parts = parts }
+partsOver b list parts = record { vertices = b .vertices; walks = b .walks; hops = b .hops; hopSize = b .hopSize; list = list; parts = parts }
 
 -- ---- what a row looks at: the numbers, or the records of one buffer, as 4-byte words
 abbrev pub words : List ℕ → List ℕ

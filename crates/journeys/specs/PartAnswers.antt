@@ -12,11 +12,12 @@ use Rattle.journeys.specs.Parts.{Part, partList, partBytes}
 use Rattle.journeys.specs.Lists.{listRefusal, settledIn}
 use Rattle.journeys.specs.Refusals.{Refusal, unless, chain, firstFrom, wholeOf, tableLengths, contents, queryRefusal}
 
--- the bytes lent: three tables, the list, which is read only, and the part buffer as it is at the call
+-- what is lent: three tables, the size of a hop, the list, which is read only, and the part buffer as it is at the call
 pub record PartsLent : Type 0 where
   pub vertices : List ℕ
   pub walks : List ℕ
   pub hops : List ℕ
+  pub hopSize : ℕ
   pub list : List ℕ
   pub parts : List ℕ
 
@@ -28,7 +29,7 @@ pub record PartsAnswer : Type 0 where
   pub parts : List ℕ
 
 abbrev pub partsTables : PartsLent → Tables
-partsTables b = tablesOf (b .vertices) (b .walks) (b .hops)
+partsTables b = tablesOf (b .hopSize) (b .vertices) (b .walks) (b .hops)
 
 -- 1, places 4 and 5: the list and the part buffer are whole numbers of records
 unfoldable pub listLengths : List ℕ → List ℕ → Refusal
@@ -39,7 +40,7 @@ unfoldable pub partsEarly : PartsLent → Query → Refusal
 partsEarly b Q =
     let N = partsTables b in
     chain
-    (tableLengths (b .vertices) (b .walks) (b .hops)
+    (tableLengths (b .hopSize) (b .vertices) (b .walks) (b .hops)
     ∷ listLengths (b .list) (b .parts)
     ∷ contents N
     ∷ queryRefusal N Q

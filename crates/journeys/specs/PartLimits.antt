@@ -7,7 +7,7 @@ use Rattle.journeys.specs.Query.{Query}
 use Rattle.journeys.specs.Answers.{Lent}
 use Rattle.journeys.specs.PartAnswers.{PartsLent, PartsAnswer}
 use Rattle.journeys.specs.Marked.{base, baseQuery, baseVertices, partsOver}
-use Rattle.journeys.specs.Limits.{vertexBytesOf, walkField, vertexField, querying}
+use Rattle.journeys.specs.Limits.{vertexBytesOf, walkField, vertexField, sized, trips, querying}
 
 pub record PartsCase : Type 0 where
   pub lent : PartsLent
@@ -40,6 +40,7 @@ partLimits =
     ∷ listed [] 2 (parts (1 ∷ 0 ∷ 1500 ∷ 0 ∷ 0 ∷ 500 ∷ []) 0 (2 ∷ []))
     ∷ listed (3 ∷ 2400 ∷ 0 ∷ 1500 ∷ []) 4 (parts (1 ∷ 0 ∷ 1500 ∷ 0 ∷ 0 ∷ 500 ∷ 4 ∷ 300 ∷ 900 ∷ 0 ∷ 500 ∷ 2000 ∷ []) 0 (4 ∷ []))
     ∷ listed (4 ∷ 3000 ∷ 3 ∷ 2999 ∷ []) 3 (parts (1 ∷ 0 ∷ 1500 ∷ 0 ∷ 0 ∷ 500 ∷ 4 ∷ 899 ∷ 900 ∷ []) 0 (3 ∷ []))
+    ∷ record { lent = over (trips 7) (3 ∷ 2400 ∷ 0 ∷ 1500 ∷ []) 4; query = baseQuery; want = parts (1 ∷ 0 ∷ 1500 ∷ 0 ∷ 0 ∷ 500 ∷ 4 ∷ 300 ∷ 900 ∷ 0 ∷ 500 ∷ 2000 ∷ []) 0 (4 ∷ []) }
     -- 21: a vertex that does not exist, a distance above D, of equal vertices the later; the first of them; the part buffer as it was
     ∷ listed (4 ∷ 3001 ∷ []) 1 (leaves 21 0 1 7)
     ∷ listed (5 ∷ 0 ∷ []) 1 (leaves 21 0 1 7)
@@ -55,6 +56,7 @@ partLimits =
     ∷ listed (1 ∷ 500 ∷ 1 ∷ 500 ∷ []) 0 (leaves 21 1 0 7)
     -- 1, places 4 and 5, behind places 0 to 2 and before everything else; 2 and 7 before 21
     ∷ record { lent = partsOver base (replicate 7 0) (replicate 13 7); query = baseQuery; want = 1 ∷ 4 ∷ 0 ∷ replicate 13 7 }
+    ∷ record { lent = partsOver (sized base 24) (replicate 7 0) (replicate 13 7); query = baseQuery; want = 1 ∷ 2 ∷ 0 ∷ replicate 13 7 }
     ∷ record { lent = partsOver (walkField base 0 2 0) (replicate 8 0) (replicate 13 7); query = baseQuery; want = 1 ∷ 5 ∷ 0 ∷ replicate 13 7 }
     ∷ record { lent = partsOver (vertexBytesOf base (take 59 baseVertices)) (replicate 7 0) []; query = baseQuery; want = 1 ∷ 0 ∷ 0 ∷ [] }
     ∷ record { lent = over (walkField base 0 2 0) (5 ∷ 0 ∷ []) 1; query = baseQuery; want = leaves 2 0 1 7 }

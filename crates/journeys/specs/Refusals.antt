@@ -47,9 +47,17 @@ wholeOf size b = eqb (length b % size) 0
 unfoldable pub tableOf : ℕ → ℕ → ℕ → List ℕ → Bool
 tableOf size low high b = wholeOf size b && leb low (length b / size) && leb (length b / size) high
 
-unfoldable pub tableLengths : List ℕ → List ℕ → List ℕ → Refusal
-tableLengths v w h =
-    chain (unless (tableOf 12 1 65536 v) 1 0 ∷ unless (tableOf 16 0 262144 w) 1 1 ∷ unless (tableOf 16 0 262144 h) 1 2 ∷ [])
+-- the size of a hop: 16 bytes, or 20 with a trip. Of no other size is a table asked for its count.
+unfoldable pub hopSizeOk : ℕ → Bool
+hopSizeOk size = eqb size 16 || eqb size 20
+
+unfoldable pub tableLengths : ℕ → List ℕ → List ℕ → List ℕ → Refusal
+tableLengths size v w h =
+    chain
+    (unless (tableOf 12 1 65536 v) 1 0
+    ∷ unless (tableOf 16 0 262144 w) 1 1
+    ∷ unless (hopSizeOk size && tableOf size 0 262144 h) 1 2
+    ∷ [])
 
 -- of the run's two buffers
 unfoldable pub bufferLengths : List ℕ → List ℕ → Refusal
@@ -122,5 +130,5 @@ module _ (N : Tables) where
       ∷ [])
 
 -- the check alone
-unfoldable pub check : List ℕ → List ℕ → List ℕ → Refusal
-check v w h = orElse (tableLengths v w h) (contents (tablesOf v w h))
+unfoldable pub check : ℕ → List ℕ → List ℕ → List ℕ → Refusal
+check size v w h = orElse (tableLengths size v w h) (contents (tablesOf size v w h))

@@ -33,21 +33,23 @@ vertexAt b i =
 unfoldable pub walkAt : List ℕ → ℕ → Walk
 walkAt b i = record { from = be32 b (16 * i); to = be32 b (16 * i + 4); len = be32 b (16 * i + 8); twin = be32 b (16 * i + 12) }
 
-unfoldable pub hopAt : List ℕ → ℕ → Hop
-hopAt b i =
-    record { from = be32 b (16 * i); to = be32 b (16 * i + 4); departure = clock (be32 b (16 * i + 8)); arrival = clock (be32 b (16 * i + 12)) }
+-- of hops of a size, 16 bytes or 20: the last four of 20 are the trip, which no journey asks for
+unfoldable pub hopAt : ℕ → List ℕ → ℕ → Hop
+hopAt size b j =
+    record { from = be32 b (size * j); to = be32 b (size * j + 4); departure = clock (be32 b (size * j + 8)); arrival = clock (be32 b (size * j + 12)) }
 
 pub record Tables : Type 0 where
   pub vertices : List Vertex
   pub walks : List Walk
   pub hops : List Hop
 
-unfoldable pub tablesOf : List ℕ → List ℕ → List ℕ → Tables
-tablesOf v w h =
+-- the bytes as tables, the size of a hop first
+unfoldable pub tablesOf : ℕ → List ℕ → List ℕ → List ℕ → Tables
+tablesOf size v w h =
     record {
       vertices = joined (λ i. vertexAt v i ∷ []) (length v / 12);
       walks = joined (λ i. walkAt w i ∷ []) (length w / 16);
-      hops = joined (λ i. hopAt h i ∷ []) (length h / 16);
+      hops = joined (λ j. hopAt size h j ∷ []) (length h / size);
     }
 
 abbrev pub vertexCount : Tables → ℕ

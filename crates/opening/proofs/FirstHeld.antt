@@ -41,16 +41,16 @@ module _ (b : Lent) (Q : Query) (ok : Valid (tables b) Q) where
   road = roadOf (Q .walk) (walkAt (b .walks) (Q .walk)) (Q .offset)
 
   pub walk-low : Q .walk < length (b .walks) / 16
-  walk-low = rw (walk-count (b .vertices) (b .walks) (b .hops)) at (ok .query .walk-low)
+  walk-low = rw (walk-count (b .hopSize) (b .vertices) (b .walks) (b .hops)) at (ok .query .walk-low)
 
   asked-is : asked N Q ≡ walkAt (b .walks) (Q .walk)
-  asked-is = walk-at (b .vertices) (b .walks) (b .hops) (Q .walk) walk-low
+  asked-is = walk-at (b .hopSize) (b .vertices) (b .walks) (b .hops) (Q .walk) walk-low
 
   good : GoodWalk N (Q .walk)
   good = good-walk N (ok .tables) (Q .walk) (ok .query .walk-low)
 
   pub vertices-as : vertexCount N ≡ length (b .vertices) / 12
-  vertices-as = vertex-count (b .vertices) (b .walks) (b .hops)
+  vertices-as = vertex-count (b .hopSize) (b .vertices) (b .walks) (b .hops)
 
   -- the numbers of the road are small, and its ends are two vertices
   pub road-fits : (Q .walk < length (b .walks) / 16) × (Q .offset ≤ walkAt (b .walks) (Q .walk) .len)
@@ -83,7 +83,7 @@ module _ (b : Lent) (Q : Query) (ok : Valid (tables b) Q) where
 
   field : (u : ℕ) → u < length (b .vertices) / 12 → vertexAt (b .vertices) u .departing ≡ departing N u
   field u l =
-      ap (λ z. z .departing) (sym (vertex-at (b .vertices) (b .walks) (b .hops) u l)) ∙ good-vertex N (ok .tables) u (omega (arith, vertices-as)) .departs
+      ap (λ z. z .departing) (sym (vertex-at (b .hopSize) (b .vertices) (b .walks) (b .hops) u l)) ∙ good-vertex N (ok .tables) u (omega (arith, vertices-as)) .departs
 
   -- The map of the seeds is what the definitions hold before the first step.
   pub first-held : firstMap (b .vertices) (b .walks) road ≡ heldMap G (distanceIn [])

@@ -1,1 +1,2 @@
 pub mod OfferFits
+pub mod Few

@@ -28,7 +28,7 @@ passes a = a .walks + a .hops
 
 -- record j of the row: walk j of the walks w, or a hop of the hops h
 unfoldable pub recordOf : List ℕ → List ℕ → Arriving → ℕ → Record
-recordOf w h a j = cond (ltb j (a .walks)) (walked (walkAt w j)) (ridden (hopAt h (j - a .walks)))
+recordOf w h a j = cond (ltb j (a .walks)) (walked (walkAt w j)) (ridden (hopAt (a .size) h (j - a .walks)))
 
 abbrev pub fromOf : List ℕ → List ℕ → Arriving → ℕ → ℕ
 fromOf w h a j = records.from (recordOf w h a j)
@@ -40,21 +40,22 @@ abbrev pub rowOf : List ℕ → List ℕ → List ℕ → Arriving → Row
 rowOf v w h a = record { from = fromOf w h a; offer = offerOf w h a; departing = λ u. vertexAt v u .departing }
 
 -- a hop that may be ridden or missed: both times within their limits, and the departure not after the arrival
-pub record Rides (h : List ℕ) (i : ℕ) : Type 0 where
-  pub departure : DayTime (hopAt h i .departure)
-  pub arrival : DayTime (hopAt h i .arrival)
-  pub ordered : hopAt h i .departure ≤ hopAt h i .arrival
+pub record Rides (size : ℕ) (h : List ℕ) (i : ℕ) : Type 0 where
+  pub departure : DayTime (hopAt size h i .departure)
+  pub arrival : DayTime (hopAt size h i .arrival)
+  pub ordered : hopAt size h i .departure ≤ hopAt size h i .arrival
 
--- the two parts have the records that are counted
+-- the two parts have the records that are counted, and a record holds the fields of a hop
 pub record Counted (w h : List ℕ) (a : Arriving) : Type 0 where
   pub walks : a .walks ≤ length w / 16
-  pub hops : a .hops ≤ length h / 16
+  pub hops : a .hops ≤ length h / a .size
+  pub fits : 16 ≤ a .size
 
 -- what a row has to be
 pub record Sound (w h : List ℕ) (a : Arriving) : Type 0 where
   pub counted : Counted w h a
   pub lengths : (i : ℕ) → i < a .walks → walkAt w i .len ≤ 100000
-  pub times : (i : ℕ) → i < a .hops → Rides h i
+  pub times : (i : ℕ) → i < a .hops → Rides (a .size) h i
   pub distance : a .distance .0 ≤ 8640000
   pub arrival : DayTime (clocked (a .arrival .0))
   pub speed : a .speed ≤ 100

@@ -20,21 +20,29 @@ use words::ticks_before;
 use words::walked;
 use words::word_at;
 
-// How many walks and hops arrive at the vertex, its distance, and what of the query an offer asks. The records themselves are a part of the walk table and a part of the hop table.
+// How many walks and hops arrive at the vertex, the size of a hop, the distance of the vertex, and what of the query an offer asks. The records themselves are a part of the walk table and a part of the hop table.
 pub struct Arriving {
     pub walks: usize,
     pub hops: usize,
+    pub size: usize,
     pub distance: Ticks,
     pub arrival: Seconds,
     pub speed: u32,
 }
 
 // The offer of a hop to the vertex where it is boarded, if it arrives in time.
-fn hop_offer(hops: &[u8], at: usize, distance: Ticks, arrival: Seconds, speed: u32) -> Ticks
-    requires { ⌜ (at < length (now hops) / 16) × Rides (now hops) at × DayTime (clocked (arrival .0)) × (speed ≤ 100) ⌝ }
-    ensures { λ r. ⌜ r .0 ≡ offer (asking (clocked (arrival .0)) speed) (ridden (hopAt (now (hops .entry)) at)) (distance .0) ⌝ }
+fn hop_offer(
+    hops: &[u8],
+    size: usize,
+    at: usize,
+    distance: Ticks,
+    arrival: Seconds,
+    speed: u32,
+) -> Ticks
+    requires { ⌜ (at < length (now hops) / size) × Rides size (now hops) at × DayTime (clocked (arrival .0)) × (speed ≤ 100) × (16 ≤ size) ⌝ }
+    ensures { λ r. ⌜ r .0 ≡ offer (asking (clocked (arrival .0)) speed) (ridden (hopAt size (now (hops .entry)) at)) (distance .0) ⌝ }
 {
-    let h = hop_at(hops, at);
+    let h = hop_at(hops, size, at);
     let boards = h.departure;
     let arrives = h.arrival;
     if not_after(arrives, arrival) {
@@ -53,7 +61,7 @@ pub fn from_at(walks: &[u8], hops: &[u8], arriving: Arriving, j: usize) -> usize
     if j < arriving.walks {
         return word_at(walks, 16 * j) as usize;
     }
-    word_at(hops, 16 * (j - arriving.walks)) as usize
+    records::from_at(hops, arriving.size, j - arriving.walks) as usize
 }
 
 // What record j of the row offers.
@@ -68,5 +76,12 @@ pub fn offer_at(walks: &[u8], hops: &[u8], arriving: Arriving, j: usize) -> Tick
         return Ticks(sum);
     }
     let arrival = arriving.arrival;
-    hop_offer(hops, j - arriving.walks, distance, arrival, arriving.speed)
+    hop_offer(
+        hops,
+        arriving.size,
+        j - arriving.walks,
+        distance,
+        arrival,
+        arriving.speed,
+    )
 }

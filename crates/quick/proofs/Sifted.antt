@@ -67,21 +67,21 @@ module _ (len n : ℕ) (s : List ℕ) (x : ℕ) (room : 1984 + n < length s) whe
       })
 
 -- ---- a record sifted: d is the distance of its "from" from `base`, which may wrap
-module _ (pairs : Bool) (t : List ℕ) (i base d len n : ℕ) (s : List ℕ) (a b : ℕ → ℕ) (wraps : (d + base) % 18446744073709551616 ≡ fromAt 16 t i)
+module _ (pairs : Bool) (size : ℕ) (t : List ℕ) (i base d len n : ℕ) (s : List ℕ) (a b : ℕ → ℕ) (wraps : (d + base) % 18446744073709551616 ≡ fromAt size t i)
     (small : d < 18446744073709551616) (low : base ≤ 65536) (few : len ≤ 65536) (room : 1984 + n < length s) (h : Listed len n s a b) where
-  near : (k : ℕ) → d < len → eqb (fromAt 16 t i) (base + k) ≡ eqb (d % 65536) k
+  near : (k : ℕ) → d < len → eqb (fromAt size t i) (base + k) ≡ eqb (d % 65536) k
   near k l =
-      same-test _ _ (λ (e : eqb (fromAt 16 t i) (base + k) ≡ true). eq-eqb (d % 65536) k (omega (arith, eqb-true (fromAt 16 t i) (base + k) e)))
-      (λ (e : eqb (d % 65536) k ≡ true). eq-eqb (fromAt 16 t i) (base + k) (omega (arith, eqb-true (d % 65536) k e)))
+      same-test _ _ (λ (e : eqb (fromAt size t i) (base + k) ≡ true). eq-eqb (d % 65536) k (omega (arith, eqb-true (fromAt size t i) (base + k) e)))
+      (λ (e : eqb (d % 65536) k ≡ true). eq-eqb (fromAt size t i) (base + k) (omega (arith, eqb-true (d % 65536) k e)))
 
-  far : (k : ℕ) → k < len → len ≤ d → eqb (fromAt 16 t i) (base + k) ≡ false
-  far k l m = ne-eqb (fromAt 16 t i) (base + k) (λ (e : fromAt 16 t i ≡ base + k). omega arith)
+  far : (k : ℕ) → k < len → len ≤ d → eqb (fromAt size t i) (base + k) ≡ false
+  far k l m = ne-eqb (fromAt size t i) (base + k) (λ (e : fromAt size t i ≡ base + k). omega arith)
 
-  sifted-by : (p q : Bool) → ltb d len ≡ p → Listed len (n + one (p && q)) (set s (1984 + n) (d % 65536)) a (λ k. b k + one (q && eqb (fromAt 16 t i) (base + k)))
+  sifted-by : (p q : Bool) → ltb d len ≡ p → Listed len (n + one (p && q)) (set s (1984 + n) (d % 65536)) a (λ k. b k + one (q && eqb (fromAt size t i) (base + k)))
   sifted-by true true e = listed-more len n s (d % 65536) room (omega (arith, ltb-true d len e)) (λ k l. ap one (near k (ltb-true d len e))) h
   sifted-by true false e = listed-less len n s (d % 65536) room (λ k l. refl) h
   sifted-by false q e = listed-less len n s (d % 65536) room (λ k l. is-zero (and-right q (far k l (ltb-false d len e)))) h
 
-  pub sifted : Listed len (n + one (ltb d len && (not pairs || eqb (twinAt t i) none))) (set s (1984 + n) (d % 65536)) a (λ k. b k + one (leaves pairs t (base + k) i))
+  pub sifted : Listed len (n + one (ltb d len && (not pairs || eqb (twinAt t i) none))) (set s (1984 + n) (d % 65536)) a (λ k. b k + one (leaves pairs size t (base + k) i))
   unfolding leaves
   sifted = sifted-by (ltb d len) (not pairs || eqb (twinAt t i) none) refl

@@ -3,7 +3,6 @@
 // walks that are alone and hops have to take one off the claim of the vertex that they leave. Where most walks are alone, all of them do.
 // Promises: every vertex below the answer is good. "No" costs time alone: the exact check goes on from there.
 // Rests on: the counters of `tally`, the readers of `records`, the law of `twins`. It has no array of its own.
-use records::HOP_SIZE;
 use records::Kind;
 use records::WALK_SIZE;
 use records::end_arriving;
@@ -62,6 +61,7 @@ pub fn alone(table: &[u8], i: usize) -> bool
 // It is written in any case, so that no branch has to be foreseen.
 fn sift_one(
     table: &[u8],
+    size: usize,
     pairs: bool,
     i: usize,
     base: usize,
@@ -69,12 +69,12 @@ fn sift_one(
     scratch: &mut [u16],
     count: usize,
 ) -> usize
-    requires { ⌜ (i < recordsIn 16 (now table)) × (base ≤ 65536) × (len ≤ 65536) × (count < 64) × (length (now scratch) ≡ 2048) ⌝ }
+    requires { ⌜ (i < recordsIn size (now table)) × (base ≤ 65536) × (len ≤ 65536) × (count < 64) × (length (now scratch) ≡ 2048) × (16 ≤ size) ⌝ }
     ensures { λ r. ⌜ r ≤ count + 1 ⌝ }
-    ensures { λ r. ⌜ ((a b : ℕ → ℕ) → Listed len count (now (scratch .entry)) a b → Listed len r (now (scratch .exit)) a (λ k. b k + one (leaves pairs (now (table .entry)) (base + k) i))) ⌝ }
+    ensures { λ r. ⌜ ((a b : ℕ → ℕ) → Listed len count (now (scratch .entry)) a b → Listed len r (now (scratch .exit)) a (λ k. b k + one (leaves pairs size (now (table .entry)) (base + k) i))) ⌝ }
     ensures { λ _. ⌜ Same 0 1984 (now (scratch .entry)) (now (scratch .exit)) ⌝ }
 {
-    let k = std::num::wrapping_sub_usize(from_at(table, 16, i) as usize, base);
+    let k = std::num::wrapping_sub_usize(from_at(table, size, i) as usize, base);
     scratch[LIST + count] = (k % 65536) as u16;
     more(count, (k < len) & (!pairs | alone(table, i)))
 }
@@ -82,6 +82,7 @@ fn sift_one(
 // The records from `start` up to `end` that leave one of `len` vertices from `base` on and are counted there join the list. Answers how many stand there.
 fn sift_each(
     table: &[u8],
+    size: usize,
     pairs: bool,
     start: usize,
     end: usize,
@@ -90,14 +91,14 @@ fn sift_each(
     scratch: &mut [u16],
     waiting: usize,
 ) -> usize
-    requires { ⌜ (start ≤ end) × (waiting + end ≤ start + 64) × (end ≤ recordsIn 16 (now table)) × (base ≤ 65536) × (len ≤ 65536) × (length (now scratch) ≡ 2048) ⌝ }
-    ensures { λ r. ⌜ (r + start ≤ waiting + end) × ((a : ℕ → ℕ) → Listed len waiting (now (scratch .entry)) a (λ k. countedTo pairs (now (table .entry)) (base + k) start) → Listed len r (now (scratch .exit)) a (λ k. countedTo pairs (now (table .entry)) (base + k) end)) ⌝ }
+    requires { ⌜ (start ≤ end) × (waiting + end ≤ start + 64) × (end ≤ recordsIn size (now table)) × (base ≤ 65536) × (len ≤ 65536) × (length (now scratch) ≡ 2048) × (16 ≤ size) ⌝ }
+    ensures { λ r. ⌜ (r + start ≤ waiting + end) × ((a : ℕ → ℕ) → Listed len waiting (now (scratch .entry)) a (λ k. countedTo pairs size (now (table .entry)) (base + k) start) → Listed len r (now (scratch .exit)) a (λ k. countedTo pairs size (now (table .entry)) (base + k) end)) ⌝ }
     ensures { λ _. ⌜ Same 0 1984 (now (scratch .entry)) (now (scratch .exit)) ⌝ }
 {
     let mut count = waiting;
     let mut i = start;
     while i < end {
-        count = sift_one(table, pairs, i, base, len, scratch, count);
+        count = sift_one(table, size, pairs, i, base, len, scratch, count);
         i += 1;
     }
     count
@@ -106,6 +107,7 @@ fn sift_each(
 // With `pairs` written out: the loop is compiled for both, and reads no twin where none is asked for.
 fn sift(
     table: &[u8],
+    size: usize,
     pairs: bool,
     start: usize,
     end: usize,
@@ -114,14 +116,14 @@ fn sift(
     scratch: &mut [u16],
     waiting: usize,
 ) -> usize
-    requires { ⌜ (start ≤ end) × (waiting + end ≤ start + 64) × (end ≤ recordsIn 16 (now table)) × (base ≤ 65536) × (len ≤ 65536) × (length (now scratch) ≡ 2048) ⌝ }
-    ensures { λ r. ⌜ (r + start ≤ waiting + end) × ((a : ℕ → ℕ) → Listed len waiting (now (scratch .entry)) a (λ k. countedTo pairs (now (table .entry)) (base + k) start) → Listed len r (now (scratch .exit)) a (λ k. countedTo pairs (now (table .entry)) (base + k) end)) ⌝ }
+    requires { ⌜ (start ≤ end) × (waiting + end ≤ start + 64) × (end ≤ recordsIn size (now table)) × (base ≤ 65536) × (len ≤ 65536) × (length (now scratch) ≡ 2048) × (16 ≤ size) ⌝ }
+    ensures { λ r. ⌜ (r + start ≤ waiting + end) × ((a : ℕ → ℕ) → Listed len waiting (now (scratch .entry)) a (λ k. countedTo pairs size (now (table .entry)) (base + k) start) → Listed len r (now (scratch .exit)) a (λ k. countedTo pairs size (now (table .entry)) (base + k) end)) ⌝ }
     ensures { λ _. ⌜ Same 0 1984 (now (scratch .entry)) (now (scratch .exit)) ⌝ }
 {
     if pairs {
-        return sift_each(table, true, start, end, base, len, scratch, waiting);
+        return sift_each(table, size, true, start, end, base, len, scratch, waiting);
     }
-    sift_each(table, false, start, end, base, len, scratch, waiting)
+    sift_each(table, size, false, start, end, base, len, scratch, waiting)
 }
 
 // A list of more than 32 is drained. Answers how many wait still, or 64 if a counter would fall below zero.
@@ -141,17 +143,34 @@ fn relieve(scratch: &mut [u16], waiting: usize) -> usize
 }
 
 // Every record of a table that leaves a vertex of the groups from `base` on, and is counted there, takes one off. False if a counter would fall below zero.
-fn drain_table(table: &[u8], pairs: bool, base: usize, groups: usize, scratch: &mut [u16]) -> bool
-    requires { ⌜ (base ≤ 65536) × (groups ≤ 116) × (length (now scratch) ≡ 2048) ⌝ }
+fn drain_table(
+    table: &[u8],
+    size: usize,
+    pairs: bool,
+    base: usize,
+    groups: usize,
+    scratch: &mut [u16],
+) -> bool
+    requires { ⌜ (base ≤ 65536) × (groups ≤ 116) × (length (now scratch) ≡ 2048) × (16 ≤ size) ⌝ }
     requires { ⌜ ((k : ℕ) → k < 64 * groups → Placed (now scratch) k) ⌝ }
-    ensures { λ r. ⌜ (r ≡ true → Takes groups (λ k. counted pairs (now (table .entry)) (base + k)) (now (scratch .entry)) (now (scratch .exit))) ⌝ }
+    ensures { λ r. ⌜ (r ≡ true → Takes groups (λ k. counted pairs size (now (table .entry)) (base + k)) (now (scratch .entry)) (now (scratch .exit))) ⌝ }
 {
-    let n = table.len() / 16;
+    let n = table.len() / size;
     let mut waiting = 0;
     let mut i = 0;
     while i < n {
         let end = lesser(i + 32, n);
-        let listed = sift(table, pairs, i, end, base, 64 * groups, scratch, waiting);
+        let listed = sift(
+            table,
+            size,
+            pairs,
+            i,
+            end,
+            base,
+            64 * groups,
+            scratch,
+            waiting,
+        );
         waiting = relieve(scratch, listed);
         if 32 < waiting {
             return false;
@@ -325,10 +344,10 @@ fn drain_walks(
     requires { ⌜ (alone ≡ aloneIn (now walks)) × (alone ≡ 0 → pairs ≡ true) ⌝ }
     requires { ⌜ (base ≤ 65536) × (groups ≤ 116) × (length (now scratch) ≡ 2048) ⌝ }
     requires { ⌜ ((k : ℕ) → k < 64 * groups → Placed (now scratch) k) ⌝ }
-    ensures { λ r. ⌜ (r ≡ true → Takes groups (λ k. counted pairs (now (walks .entry)) (base + k)) (now (scratch .entry)) (now (scratch .exit))) ⌝ }
+    ensures { λ r. ⌜ (r ≡ true → Takes groups (λ k. counted pairs 16 (now (walks .entry)) (base + k)) (now (scratch .entry)) (now (scratch .exit))) ⌝ }
 {
     if alone != 0 {
-        return drain_table(walks, pairs, base, groups, scratch);
+        return drain_table(walks, WALK_SIZE, pairs, base, groups, scratch);
     }
     true
 }
@@ -338,6 +357,7 @@ fn stretch(
     vertices: &[u8],
     walks: &[u8],
     hops: &[u8],
+    hop_size: usize,
     alone: usize,
     pairs: bool,
     limit: usize,
@@ -346,12 +366,12 @@ fn stretch(
 ) -> usize
     requires { ⌜ Ascending 16 (now walks) × (alone ≡ aloneIn (now walks)) × (alone ≡ 0 → pairs ≡ true) ⌝ }
     requires { ⌜ (limit ≤ length (now vertices) / 12) × ((x : ℕ) → x < limit → Run (now vertices) (now walks) x) ⌝ }
-    requires { ⌜ (base ≤ limit) × (limit ≤ 65536) × (length (now scratch) ≡ 2048) ⌝ }
-    ensures { λ r. ⌜ (base + r ≤ limit) × ((k : ℕ) → k < r → Met pairs (now (vertices .entry)) (now (walks .entry)) (now (hops .entry)) limit (base + k)) ⌝ }
+    requires { ⌜ (base ≤ limit) × (limit ≤ 65536) × (length (now scratch) ≡ 2048) × (16 ≤ «hop_size») ⌝ }
+    ensures { λ r. ⌜ (base + r ≤ limit) × ((k : ℕ) → k < r → Met pairs «hop_size» (now (vertices .entry)) (now (walks .entry)) (now (hops .entry)) limit (base + k)) ⌝ }
 {
     let laid = lay_claims(vertices, walks, alone, pairs, limit, base, scratch);
     let groups = laid.groups;
-    if !drain_table(hops, false, base, groups, scratch) {
+    if !drain_table(hops, hop_size, false, base, groups, scratch) {
         return 0;
     }
     if !drain_walks(walks, alone, pairs, base, groups, scratch) {
@@ -364,16 +384,16 @@ fn stretch(
 }
 
 // Whether the firsts and the zero field of v are right.
-fn in_order(vertices: &[u8], walks: &[u8], hops: &[u8], v: u32) -> bool
+fn in_order(vertices: &[u8], walks: &[u8], hops: &[u8], hop_size: usize, v: u32) -> bool
     requires { ⌜ v < length (now vertices) / 12 ⌝ }
-    requires { ⌜ Ascending 16 (now walks) × Ascending 16 (now hops) ⌝ }
-    ensures { λ r. ⌜ r ≡ inOrder (now (vertices .entry)) (now (walks .entry)) (now (hops .entry)) v ⌝ }
+    requires { ⌜ Ascending 16 (now walks) × Ascending «hop_size» (now hops) × (16 ≤ «hop_size») ⌝ }
+    ensures { λ r. ⌜ r ≡ inOrder «hop_size» (now (vertices .entry)) (now (walks .entry)) (now (hops .entry)) v ⌝ }
 {
     let x = vertex_at(vertices, v as usize);
     if !first_ok(walks, WALK_SIZE, x.first_walk, v) {
         return false;
     }
-    if !first_ok(hops, HOP_SIZE, x.first_hop, v) {
+    if !first_ok(hops, hop_size, x.first_hop, v) {
         return false;
     }
     x.zeros == 0
@@ -387,15 +407,15 @@ fn whole_before(v: usize) -> usize
 }
 
 // Up to which vertex all are in order, with the next one: its first is where the run ends.
-fn ordered(vertices: &[u8], walks: &[u8], hops: &[u8]) -> usize
+fn ordered(vertices: &[u8], walks: &[u8], hops: &[u8], hop_size: usize) -> usize
     requires { ⌜ length (now vertices) / 12 ≤ 65536 ⌝ }
-    requires { ⌜ Ascending 16 (now walks) × Ascending 16 (now hops) ⌝ }
-    ensures { λ r. ⌜ Ordered (now (vertices .entry)) (now (walks .entry)) (now (hops .entry)) r ⌝ }
+    requires { ⌜ Ascending 16 (now walks) × Ascending «hop_size» (now hops) × (16 ≤ «hop_size») ⌝ }
+    ensures { λ r. ⌜ Ordered «hop_size» (now (vertices .entry)) (now (walks .entry)) (now (hops .entry)) r ⌝ }
 {
     let n = vertices.len() / 12;
     let mut v = 0;
     while v < n {
-        if !in_order(vertices, walks, hops, v as u32) {
+        if !in_order(vertices, walks, hops, hop_size, v as u32) {
             return whole_before(v);
         }
         v += 1;
@@ -408,6 +428,7 @@ fn advance(
     vertices: &[u8],
     walks: &[u8],
     hops: &[u8],
+    hop_size: usize,
     alone: usize,
     limit: usize,
     most: usize,
@@ -416,16 +437,26 @@ fn advance(
 ) -> usize
     requires { ⌜ (length (now vertices) / 12 ≤ 65536) × (recordsIn 16 (now walks) ≤ 262144) × (length (now scratch) ≡ 2048) ⌝ }
     requires { ⌜ Ascending 16 (now walks) × (alone ≡ aloneIn (now walks)) ⌝ }
-    requires { ⌜ ((i : ℕ) → i < recordsIn 16 (now walks) → walkOk (tablesOf (now vertices) (now walks) (now hops)) i ≡ true) ⌝ }
-    requires { ⌜ Ordered (now vertices) (now walks) (now hops) limit ⌝ }
-    requires { ⌜ (start ≤ limit) × (most ≤ 65536) ⌝ }
-    ensures { λ r. ⌜ (start ≤ r) × (r ≤ limit) × ((v : ℕ) → start ≤ v → v < r → vertexOk (tablesOf (now (vertices .entry)) (now (walks .entry)) (now (hops .entry))) v ≡ true) ⌝ }
+    requires { ⌜ ((i : ℕ) → i < recordsIn 16 (now walks) → walkOk (tablesOf «hop_size» (now vertices) (now walks) (now hops)) i ≡ true) ⌝ }
+    requires { ⌜ Ordered «hop_size» (now vertices) (now walks) (now hops) limit ⌝ }
+    requires { ⌜ (start ≤ limit) × (most ≤ 65536) × (16 ≤ «hop_size») ⌝ }
+    ensures { λ r. ⌜ (start ≤ r) × (r ≤ limit) × ((v : ℕ) → start ≤ v → v < r → vertexOk (tablesOf «hop_size» (now (vertices .entry)) (now (walks .entry)) (now (hops .entry))) v ≡ true) ⌝ }
 {
     let pairs = 2 * alone <= walks.len() / 16;
     let mut base = start;
     while base < limit {
         let end = lesser(base + most, limit);
-        let len = stretch(vertices, walks, hops, alone, pairs, end, base, scratch);
+        let len = stretch(
+            vertices,
+            walks,
+            hops,
+            hop_size,
+            alone,
+            pairs,
+            end,
+            base,
+            scratch,
+        );
         if len == 0 {
             return base;
         }
@@ -436,14 +467,41 @@ fn advance(
 
 // Every vertex below the answer is good. Of the others nothing is said. `alone` walks have no twin.
 // Where a long stretch has a bad vertex, short ones come closer to it: the exact check then has less to do.
-pub fn sure(vertices: &[u8], walks: &[u8], hops: &[u8], alone: usize, scratch: &mut [u16]) -> usize
+pub fn sure(
+    vertices: &[u8],
+    walks: &[u8],
+    hops: &[u8],
+    hop_size: usize,
+    alone: usize,
+    scratch: &mut [u16],
+) -> usize
     requires { ⌜ (length (now vertices) / 12 ≤ 65536) × (recordsIn 16 (now walks) ≤ 262144) × (length (now scratch) ≡ 2048) ⌝ }
-    requires { ⌜ Ascending 16 (now walks) × Ascending 16 (now hops) ⌝ }
-    requires { ⌜ ((i : ℕ) → i < recordsIn 16 (now walks) → walkOk (tablesOf (now vertices) (now walks) (now hops)) i ≡ true) ⌝ }
+    requires { ⌜ Ascending 16 (now walks) × Ascending «hop_size» (now hops) × (16 ≤ «hop_size») ⌝ }
+    requires { ⌜ ((i : ℕ) → i < recordsIn 16 (now walks) → walkOk (tablesOf «hop_size» (now vertices) (now walks) (now hops)) i ≡ true) ⌝ }
     requires { ⌜ alone ≡ aloneIn (now walks) ⌝ }
-    ensures { λ r. ⌜ (r ≤ length (now (vertices .entry)) / 12) × ((v : ℕ) → v < r → vertexOk (tablesOf (now (vertices .entry)) (now (walks .entry)) (now (hops .entry))) v ≡ true) ⌝ }
+    ensures { λ r. ⌜ (r ≤ length (now (vertices .entry)) / 12) × ((v : ℕ) → v < r → vertexOk (tablesOf «hop_size» (now (vertices .entry)) (now (walks .entry)) (now (hops .entry))) v ≡ true) ⌝ }
 {
-    let limit = ordered(vertices, walks, hops);
-    let far = advance(vertices, walks, hops, alone, limit, LONG, 0, scratch);
-    advance(vertices, walks, hops, alone, limit, SHORT, far, scratch)
+    let limit = ordered(vertices, walks, hops, hop_size);
+    let far = advance(
+        vertices,
+        walks,
+        hops,
+        hop_size,
+        alone,
+        limit,
+        LONG,
+        0,
+        scratch,
+    );
+    advance(
+        vertices,
+        walks,
+        hops,
+        hop_size,
+        alone,
+        limit,
+        SHORT,
+        far,
+        scratch,
+    )
 }

@@ -37,20 +37,20 @@ even = eq-eqb (length partRoom % 12) 0 (omega (arith, length-replicate {A = ℕ}
 
 module _ (v w h : List ℕ) (Q : Query) (few : length v / 12 ≤ 512) (short : length w / 16 ≤ 1024) where
   abbrev N : Tables
-  N = tablesOf v w h
+  N = tablesOf 16 v w h
 
   module _ (ok : Valid N Q) {l : List Settled} (O : IsOrder N Q l) where
     steps : length l ≤ 512
-    steps = omega (arith, order-size N Q ok O, vertex-count v w h)
+    steps = omega (arith, order-size N Q ok O, vertex-count 16 v w h)
 
     room : (j : ℕ) → Room (roomy v w h) Q l j
     room j = (
-      omega (arith, held-most (network N Q) (distanceIn (take j l)), vertex-count v w h, length-replicate {A = ℕ} 8192 0),
+      omega (arith, held-most (network N Q) (distanceIn (take j l)), vertex-count 16 v w h, length-replicate {A = ℕ} 8192 0),
       omega (arith, length-take j l, steps, length-replicate {A = ℕ} 4096 0),
     )
 
     parts-room : (j : ℕ) → PartsFit (roomy v w h) partRoom Q l j
-    parts-room j = omega (arith, parts-most N Q (take j l) (order-distinct N Q ok O j), walk-count v w h, length-replicate {A = ℕ} 12312 0)
+    parts-room j = omega (arith, parts-most N Q (take j l) (order-distinct N Q ok O j), walk-count 16 v w h, length-replicate {A = ℕ} 12312 0)
 
   -- A job with sound tables and a sound query is answered.
   pub never-short : (a : Answer) → Allowed (roomy v w h) Q none a → early (roomy v w h) Q .number ≡ 0 → a .refusal ≡ 0

@@ -66,7 +66,7 @@ module _ (v w h : List ℕ) (Q : Query) (held settled parts : List ℕ) (x : sea
   o = given (record { refusal = x .refusal; place = x .place; settled = x .settled; parts = p .parts; held = x .held; finished = x .finished }) settled parts held
 
   few-parts : p .parts ≤ 1026
-  few-parts = omega (arith, parts-within (partsLent v w h (ownList a) partRoom) Q, ap (λ (y : PartsAnswer). y .partCount) P, length-replicate {A = ℕ} 12312 0)
+  few-parts = omega (arith, parts-within (partsLent v w h 16 (ownList a) partRoom) Q, ap (λ (y : PartsAnswer). y .partCount) P, length-replicate {A = ℕ} 12312 0)
 
   all-fits : fits o (length out) ≡ true
   unfolding fits

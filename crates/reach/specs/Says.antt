@@ -17,14 +17,14 @@ use Rattle.copying.specs.Write.{over}
 
 -- the tables of a job, with room for all that its 512 vertices can need; for the parts, all that its 1,024 walks can need
 abbrev pub roomy : List ℕ → List ℕ → List ℕ → Lent
-roomy v w h = lent v w h (replicate 8192 0) (replicate 4096 0)
+roomy v w h = lent v w h 16 (replicate 8192 0) (replicate 4096 0)
 
 abbrev pub partRoom : List ℕ
 partRoom = replicate 12312 0
 
 -- the parts of the list of a run, and both answers together
 abbrev pub partsOf : List ℕ → List ℕ → List ℕ → Query → Answer → PartsAnswer
-partsOf v w h Q a = partsAnswer (partsLent v w h (ownList a) partRoom) Q
+partsOf v w h Q a = partsAnswer (partsLent v w h 16 (ownList a) partRoom) Q
 
 abbrev pub both : List ℕ → List ℕ → List ℕ → Query → Answer → OneAnswer
 both v w h Q a = together a (partsOf v w h Q a)

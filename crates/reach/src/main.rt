@@ -11,6 +11,9 @@ ghost use Rattle.io.specs.Counts.{Counts};
 ghost use Rattle.records.specs.Asked.{queryOf};
 ghost use Rattle.reach.specs.Says.{RunTold, Answered};
 
+// The hops of a job have 16 bytes: it knows no trips.
+const HOP_SIZE: usize = 16;
+
 // The run over the tables of a job, the parts of its list, and the text of both. The list is what the run counts: the zero rest of its buffer would read as
 // entries. That of a refused run is empty, and no parts of it are printed.
 fn run_text<'a>(vertices: &[u8], walks: &'a [u8], hops: &'a [u8], q: Query, out: &mut [u8]) -> usize
@@ -25,13 +28,22 @@ fn run_text<'a>(vertices: &[u8], walks: &'a [u8], hops: &'a [u8], q: Query, out:
         vertices,
         walks,
         hops,
+        HOP_SIZE,
         &mut held,
         &mut settled,
         q,
         4294967295,
     );
     let end = 8 * a.settled as usize;
-    let p = covering::parts(vertices, walks, hops, &settled[..end], &mut parts, q);
+    let p = covering::parts(
+        vertices,
+        walks,
+        hops,
+        HOP_SIZE,
+        &settled[..end],
+        &mut parts,
+        q,
+    );
     a.parts = p.parts;
     report::report(a, &settled, &parts, &held, out)
 }

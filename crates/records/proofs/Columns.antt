@@ -80,51 +80,51 @@ module _ (size : ℕ) (t : List ℕ) (up : Ascending size t) where
         (le-or-lt v (toAt size t first))
 
 -- ---- the tables of `journeys`
-module _ (v w h : List ℕ) where
-  pub walk-to : (i : ℕ) → i < recordsIn 16 w → walk (tablesOf v w h) i .to ≡ toAt 16 w i
+module _ (size : ℕ) (v w h : List ℕ) where
+  pub walk-to : (i : ℕ) → i < recordsIn 16 w → walk (tablesOf size v w h) i .to ≡ toAt 16 w i
   unfolding walkAt
-  walk-to i l = ap (λ (x : Walk). x .to) (walk-at v w h i l)
+  walk-to i l = ap (λ (x : Walk). x .to) (walk-at size v w h i l)
 
-  pub walk-from : (i : ℕ) → i < recordsIn 16 w → walk (tablesOf v w h) i .from ≡ fromAt 16 w i
+  pub walk-from : (i : ℕ) → i < recordsIn 16 w → walk (tablesOf size v w h) i .from ≡ fromAt 16 w i
   unfolding walkAt
-  walk-from i l = ap (λ (x : Walk). x .from) (walk-at v w h i l)
+  walk-from i l = ap (λ (x : Walk). x .from) (walk-at size v w h i l)
 
-  pub hop-to : (j : ℕ) → j < recordsIn 16 h → hop (tablesOf v w h) j .to ≡ toAt 16 h j
+  pub hop-to : (j : ℕ) → j < recordsIn size h → hop (tablesOf size v w h) j .to ≡ toAt size h j
   unfolding hopAt
-  hop-to j l = ap (λ (x : Hop). x .to) (hop-at v w h j l)
+  hop-to j l = ap (λ (x : Hop). x .to) (hop-at size v w h j l)
 
-  pub hop-from : (j : ℕ) → j < recordsIn 16 h → hop (tablesOf v w h) j .from ≡ fromAt 16 h j
+  pub hop-from : (j : ℕ) → j < recordsIn size h → hop (tablesOf size v w h) j .from ≡ fromAt size h j
   unfolding hopAt
-  hop-from j l = ap (λ (x : Hop). x .from) (hop-at v w h j l)
+  hop-from j l = ap (λ (x : Hop). x .from) (hop-at size v w h j l)
 
-  pub walks-below : (x : ℕ) → count (λ i. ltb (walk (tablesOf v w h) i .to) x) (walkCount (tablesOf v w h)) ≡ arrivingBelow 16 w x
+  pub walks-below : (x : ℕ) → count (λ i. ltb (walk (tablesOf size v w h) i .to) x) (walkCount (tablesOf size v w h)) ≡ arrivingBelow 16 w x
   unfolding arrivingBelow
-  walks-below x = rw (walk-count v w h) (count-same _ _ (recordsIn 16 w) (λ i l. ap (λ (k : ℕ). ltb k x) (walk-to i l)))
+  walks-below x = rw (walk-count size v w h) (count-same _ _ (recordsIn 16 w) (λ i l. ap (λ (k : ℕ). ltb k x) (walk-to i l)))
 
-  pub hops-below : (x : ℕ) → count (λ j. ltb (hop (tablesOf v w h) j .to) x) (hopCount (tablesOf v w h)) ≡ arrivingBelow 16 h x
+  pub hops-below : (x : ℕ) → count (λ j. ltb (hop (tablesOf size v w h) j .to) x) (hopCount (tablesOf size v w h)) ≡ arrivingBelow size h x
   unfolding arrivingBelow
-  hops-below x = rw (hop-count v w h) (count-same _ _ (recordsIn 16 h) (λ j l. ap (λ (k : ℕ). ltb k x) (hop-to j l)))
+  hops-below x = rw (hop-count size v w h) (count-same _ _ (recordsIn size h) (λ j l. ap (λ (k : ℕ). ltb k x) (hop-to j l)))
 
-  record-walk : (r : ℕ) → r < recordsIn 16 w → from (recordAt (tablesOf v w h) r) ≡ fromAt 16 w r
+  record-walk : (r : ℕ) → r < recordsIn 16 w → from (recordAt (tablesOf size v w h) r) ≡ fromAt 16 w r
   unfolding recordAt
   record-walk r l =
-      ap from (cond-true (walked (walk (tablesOf v w h) r)) (ridden (hop (tablesOf v w h) (r - walkCount (tablesOf v w h)))) (lt-ltb r _ (rw (walk-count v w h) l)))
+      ap from (cond-true (walked (walk (tablesOf size v w h) r)) (ridden (hop (tablesOf size v w h) (r - walkCount (tablesOf size v w h)))) (lt-ltb r _ (rw (walk-count size v w h) l)))
       ∙ walk-from r l
 
-  record-hop : (j : ℕ) → j < recordsIn 16 h → from (recordAt (tablesOf v w h) (recordsIn 16 w + j)) ≡ fromAt 16 h j
+  record-hop : (j : ℕ) → j < recordsIn size h → from (recordAt (tablesOf size v w h) (recordsIn 16 w + j)) ≡ fromAt size h j
   unfolding recordAt
   record-hop j l =
-      let N = tablesOf v w h in
+      let N = tablesOf size v w h in
       let k : recordsIn 16 w + j - recordsIn 16 w ≡ j = omega arith in
-      ap from (cond-false (walked (walk N (recordsIn 16 w + j))) (ridden (hop N (recordsIn 16 w + j - walkCount N))) (le-ltb (recordsIn 16 w + j) _ (rw (walk-count v w h) (omega arith))))
-      ∙ rw (walk-count v w h, k) (hop-from j l)
+      ap from (cond-false (walked (walk N (recordsIn 16 w + j))) (ridden (hop N (recordsIn 16 w + j - walkCount N))) (le-ltb (recordsIn 16 w + j) _ (rw (walk-count size v w h) (omega arith))))
+      ∙ rw (walk-count size v w h, k) (hop-from j l)
 
   -- walks and hops together
-  pub departing-is : (x : ℕ) → departing (tablesOf v w h) x ≡ leaving 16 w x + leaving 16 h x
+  pub departing-is : (x : ℕ) → departing (tablesOf size v w h) x ≡ leaving 16 w x + leaving size h x
   unfolding departing leaving
   departing-is x =
-      rw (walk-count v w h, hop-count v w h)
-      (count-append _ (recordsIn 16 w) (recordsIn 16 h)
+      rw (walk-count size v w h, hop-count size v w h)
+      (count-append _ (recordsIn 16 w) (recordsIn size h)
       ∙ ap₂ (λ (a b : ℕ). a + b)
       (count-same _ _ (recordsIn 16 w) (λ r l. ap (λ (k : ℕ). eqb k x) (record-walk r l)))
-      (count-same _ _ (recordsIn 16 h) (λ j l. ap (λ (k : ℕ). eqb k x) (record-hop j l))))
+      (count-same _ _ (recordsIn size h) (λ j l. ap (λ (k : ℕ). eqb k x) (record-hop j l))))

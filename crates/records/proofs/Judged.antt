@@ -18,11 +18,11 @@ use Rattle.records.specs.Meaning.{vertexOf, walkOf, hopOf}
 use Rattle.records.specs.Readings.{toldVertex, toldWalk, toldHop, vertexReading, walkReading, hopReading}
 use Rattle.records.proofs.Columns.{walks-below, hops-below}
 
-module _ (v w h : List ℕ) where
+module _ (size : ℕ) (v w h : List ℕ) where
   pub walk-ok : (i : ℕ) → i < recordsIn 16 w
-      → walkOk (tablesOf v w h) i ≡ endsOk (length v / 12) (walkAt w i .from) (walkAt w i .to) && lengthOk (walkAt w i .len) && twinOk (tablesOf [] w []) i (walkAt w i)
+      → walkOk (tablesOf size v w h) i ≡ endsOk (length v / 12) (walkAt w i .from) (walkAt w i .to) && lengthOk (walkAt w i .len) && twinOk (tablesOf 16 [] w []) i (walkAt w i)
   unfolding walkOk tablesOf
-  walk-ok i l = rw (walk-at v w h i l, vertex-count v w h)
+  walk-ok i l = rw (walk-at size v w h i l, vertex-count size v w h)
 
   -- a test of a walk that fails decides, and the last one does where the others hold
   module _ (i : ℕ) (l : i < recordsIn 16 w) where
@@ -32,46 +32,46 @@ module _ (v w h : List ℕ) where
     abbrev ends : Bool
     ends = endsOk (length v / 12) (x .from) (x .to)
 
-    pub ends-decide : ends ≡ false → walkOk (tablesOf v w h) i ≡ false
-    ends-decide e = walk-ok i l ∙ and-left (twinOk (tablesOf [] w []) i x) (and-left (lengthOk (x .len)) e)
+    pub ends-decide : ends ≡ false → walkOk (tablesOf size v w h) i ≡ false
+    ends-decide e = walk-ok i l ∙ and-left (twinOk (tablesOf 16 [] w []) i x) (and-left (lengthOk (x .len)) e)
 
-    pub length-decides : lengthOk (x .len) ≡ false → walkOk (tablesOf v w h) i ≡ false
-    length-decides e = walk-ok i l ∙ and-left (twinOk (tablesOf [] w []) i x) (and-right ends e)
+    pub length-decides : lengthOk (x .len) ≡ false → walkOk (tablesOf size v w h) i ≡ false
+    length-decides e = walk-ok i l ∙ and-left (twinOk (tablesOf 16 [] w []) i x) (and-right ends e)
 
-    pub twin-decides : ends ≡ true → lengthOk (x .len) ≡ true → walkOk (tablesOf v w h) i ≡ twinOk (tablesOf [] w []) i x
+    pub twin-decides : ends ≡ true → lengthOk (x .len) ≡ true → walkOk (tablesOf size v w h) i ≡ twinOk (tablesOf 16 [] w []) i x
     twin-decides e f = walk-ok i l ∙ rw (e, f)
 
-  pub hop-ok : (j : ℕ) → j < recordsIn 16 h
-      → hopOk (tablesOf v w h) j ≡ endsOk (length v / 12) (hopAt h j .from) (hopAt h j .to) && timesOk (hopAt h j .departure) (hopAt h j .arrival)
+  pub hop-ok : (j : ℕ) → j < recordsIn size h
+      → hopOk (tablesOf size v w h) j ≡ endsOk (length v / 12) (hopAt size h j .from) (hopAt size h j .to) && timesOk (hopAt size h j .departure) (hopAt size h j .arrival)
   unfolding hopOk
-  hop-ok j l = rw (hop-at v w h j l, vertex-count v w h)
+  hop-ok j l = rw (hop-at size v w h j l, vertex-count size v w h)
 
   pub vertex-ok : (x : ℕ) → x < length v / 12
-      → vertexOk (tablesOf v w h) x ≡ eqb (vertexAt v x .firstWalk) (arrivingBelow 16 w x) && eqb (vertexAt v x .firstHop) (arrivingBelow 16 h x) && eqb (vertexAt v x .departing) (departing (tablesOf v w h) x) && eqb (vertexAt v x .zeros) 0
+      → vertexOk (tablesOf size v w h) x ≡ eqb (vertexAt v x .firstWalk) (arrivingBelow 16 w x) && eqb (vertexAt v x .firstHop) (arrivingBelow size h x) && eqb (vertexAt v x .departing) (departing (tablesOf size v w h) x) && eqb (vertexAt v x .zeros) 0
   unfolding vertexOk
-  vertex-ok x l = rw (vertex-at v w h x l, walks-below v w h x, hops-below v w h x)
+  vertex-ok x l = rw (vertex-at size v w h x l, walks-below size v w h x, hops-below size v w h x)
 
   -- the two answers of each reader
-  pub walk-good : (i : ℕ) → i < recordsIn 16 w → walkOk (tablesOf v w h) i ≡ true → toldWalk (walks.Good (walkOf (walkAt w i))) ≡ walkReading (tablesOf v w h) i
+  pub walk-good : (i : ℕ) → i < recordsIn 16 w → walkOk (tablesOf size v w h) i ≡ true → toldWalk (walks.Good (walkOf (walkAt w i))) ≡ walkReading (tablesOf size v w h) i
   unfolding toldWalk walkReading
-  walk-good i l e = rw (e, walk-at v w h i l)
+  walk-good i l e = rw (e, walk-at size v w h i l)
 
-  pub walk-bad : (i : ℕ) → walkOk (tablesOf v w h) i ≡ false → toldWalk (walks.Bad i) ≡ walkReading (tablesOf v w h) i
+  pub walk-bad : (i : ℕ) → walkOk (tablesOf size v w h) i ≡ false → toldWalk (walks.Bad i) ≡ walkReading (tablesOf size v w h) i
   unfolding toldWalk walkReading
   walk-bad i e = rw e
 
-  pub hop-good : (j : ℕ) → j < recordsIn 16 h → hopOk (tablesOf v w h) j ≡ true → toldHop (hops.Good (hopOf (hopAt h j))) ≡ hopReading (tablesOf v w h) j
+  pub hop-good : (j : ℕ) → j < recordsIn size h → hopOk (tablesOf size v w h) j ≡ true → toldHop (hops.Good (hopOf (hopAt size h j))) ≡ hopReading (tablesOf size v w h) j
   unfolding toldHop hopReading
-  hop-good j l e = rw (e, hop-at v w h j l)
+  hop-good j l e = rw (e, hop-at size v w h j l)
 
-  pub hop-bad : (j : ℕ) → hopOk (tablesOf v w h) j ≡ false → toldHop (hops.Bad j) ≡ hopReading (tablesOf v w h) j
+  pub hop-bad : (j : ℕ) → hopOk (tablesOf size v w h) j ≡ false → toldHop (hops.Bad j) ≡ hopReading (tablesOf size v w h) j
   unfolding toldHop hopReading
   hop-bad j e = rw e
 
-  pub vertex-good : (x : ℕ) → x < length v / 12 → vertexOk (tablesOf v w h) x ≡ true → toldVertex (vertices.Good (vertexOf (vertexAt v x))) ≡ vertexReading (tablesOf v w h) x
+  pub vertex-good : (x : ℕ) → x < length v / 12 → vertexOk (tablesOf size v w h) x ≡ true → toldVertex (vertices.Good (vertexOf (vertexAt v x))) ≡ vertexReading (tablesOf size v w h) x
   unfolding toldVertex vertexReading
-  vertex-good x l e = rw (e, vertex-at v w h x l)
+  vertex-good x l e = rw (e, vertex-at size v w h x l)
 
-  pub vertex-bad : (x : ℕ) → vertexOk (tablesOf v w h) x ≡ false → toldVertex (vertices.Bad x) ≡ vertexReading (tablesOf v w h) x
+  pub vertex-bad : (x : ℕ) → vertexOk (tablesOf size v w h) x ≡ false → toldVertex (vertices.Bad x) ≡ vertexReading (tablesOf size v w h) x
   unfolding toldVertex vertexReading
   vertex-bad x e = rw e

@@ -79,11 +79,11 @@ module _ (N : Tables) where
     lower-names = same-test _ _ named (λ t. names-back (eqb-true _ _ t))
 
 -- the same in the bytes of the table
-pub lower-names-at : (v w : List ℕ) (i : ℕ) → i < recordsIn 16 w → recordsIn 16 w ≤ 262144 → ((k : ℕ) → k < i → walkOk (tablesOf v w []) k ≡ true)
-    → walkAt w i .twin < i → eqb (walkAt w (walkAt w i .twin) .twin) i ≡ walkOk (tablesOf v w []) i
+pub lower-names-at : (v w : List ℕ) (i : ℕ) → i < recordsIn 16 w → recordsIn 16 w ≤ 262144 → ((k : ℕ) → k < i → walkOk (tablesOf 16 v w []) k ≡ true)
+    → walkAt w i .twin < i → eqb (walkAt w (walkAt w i .twin) .twin) i ≡ walkOk (tablesOf 16 v w []) i
 lower-names-at v w i inside few before lower =
-    let N = tablesOf v w [] in
-    let e : walk N i .twin ≡ walkAt w i .twin = ap (λ (x : Walk). x .twin) (walk-at v w [] i inside) in
+    let N = tablesOf 16 v w [] in
+    let e : walk N i .twin ≡ walkAt w i .twin = ap (λ (x : Walk). x .twin) (walk-at 16 v w [] i inside) in
     let l : walk N i .twin < i = omega arith in
-    let t : walk N (walk N i .twin) ≡ walkAt w (walkAt w i .twin) = ap (walk N) e ∙ walk-at v w [] (walkAt w i .twin) (omega arith) in
-    sym (lower-names N i (omega arith) (omega (arith, walk-count v w [])) l (before (walk N i .twin) l) ∙ ap (λ (x : Walk). eqb (x .twin) i) t)
+    let t : walk N (walk N i .twin) ≡ walkAt w (walkAt w i .twin) = ap (walk N) e ∙ walk-at 16 v w [] (walkAt w i .twin) (omega arith) in
+    sym (lower-names N i (omega arith) (omega (arith, walk-count 16 v w [])) l (before (walk N i .twin) l) ∙ ap (λ (x : Walk). eqb (x .twin) i) t)

@@ -13,6 +13,11 @@ unfoldable pub tableOf : Kind → List ℕ → List ℕ → List ℕ
 tableOf Walks walks hops = walks
 tableOf Hops walks hops = hops
 
+-- the size of its records
+unfoldable pub sizeOf : Kind → ℕ → ℕ
+sizeOf Walks hopSize = 16
+sizeOf Hops hopSize = hopSize
+
 unfoldable pub firstOf : Kind → Vertex → ℕ
 firstOf Walks x = x .firstWalk
 firstOf Hops x = x .firstHop
@@ -21,6 +26,6 @@ firstOf Hops x = x .firstHop
 unfoldable pub endOf : Kind → List ℕ → ℕ → ℕ → ℕ
 endOf kind vertices records v = cond (ltb (v + 1) (length vertices / 12)) (firstOf kind (vertexAt vertices (v + 1))) records
 
--- the records from one number to another
-unfoldable pub run : List ℕ → ℕ → ℕ → List ℕ
-run table first end = take (16 * end - 16 * first) (drop (16 * first) table)
+-- of records of a size those from one number to another
+unfoldable pub run : ℕ → List ℕ → ℕ → ℕ → List ℕ
+run size table first end = take (size * end - size * first) (drop (size * first) table)

@@ -26,7 +26,7 @@ ghost use Rattle.journeys.specs.Parts.{partBytes};
 ghost use Rattle.records.specs.Meaning.{vertexOf, walkOf, walkIn, hopOf, refusalOf};
 ghost use Rattle.records.specs.Readings.{toldVertex, toldWalk, toldHop, vertexReading, walkReading, hopReading};
 ghost use Rattle.records.specs.Columns.{recordsIn, fromAt, toAt, Ascending, arrivingBelow};
-ghost use Rattle.records.specs.Arriving.{tableOf, firstOf, endOf, run};
+ghost use Rattle.records.specs.Arriving.{tableOf, sizeOf, firstOf, endOf, run};
 ghost use Rattle.records.specs.Fields.{settledOf, partOf};
 ghost use Rattle.words.specs.Written.{written};
 
@@ -92,10 +92,8 @@ pub struct Answer {
     pub finished: u32,
 }
 
-// The bytes of a walk record and of a hop record.
+// The bytes of a walk record. A hop has 16 bytes or 20; whoever lends hops names the size.
 pub const WALK_SIZE: usize = 16;
-
-pub const HOP_SIZE: usize = 16;
 
 // An answer that refuses: nothing is listed.
 pub fn refusal(number: u32, place: u32) -> Answer
@@ -138,11 +136,12 @@ pub fn walk_at(walks: &[u8], i: usize) -> Walk
     }
 }
 
-pub fn hop_at(hops: &[u8], j: usize) -> Hop
-    requires { ⌜ j < length (now hops) / 16 ⌝ }
-    ensures { λ r. ⌜ r ≡ hopOf (hopAt (now (hops .entry)) j) ⌝ }
+// Of a hop record the first 16 bytes are read, whatever its size.
+pub fn hop_at(hops: &[u8], size: usize, j: usize) -> Hop
+    requires { ⌜ (16 ≤ size) × (j < recordsIn size (now hops)) ⌝ }
+    ensures { λ r. ⌜ r ≡ hopOf (hopAt size (now (hops .entry)) j) ⌝ }
 {
-    let at = hop_start(HOP_SIZE, j);
+    let at = hop_start(size, j);
     Hop {
         from: word_at(hops, at),
         to: word_at(hops, at + 4),
@@ -194,7 +193,7 @@ fn pair_ok(i: u32, w: Walk, t: Walk) -> bool
 }
 
 fn twin_ok(walks: &[u8], i: u32, w: Walk) -> bool
-    ensures { λ r. ⌜ r ≡ twinOk (tablesOf [] (now (walks .entry)) []) i (walkIn w) ⌝ }
+    ensures { λ r. ⌜ r ≡ twinOk (tablesOf 16 [] (now (walks .entry)) []) i (walkIn w) ⌝ }
 {
     let twin = w.twin;
     if twin == NONE {
@@ -237,16 +236,23 @@ pub fn first_ok(table: &[u8], size: usize, first: u32, v: u32) -> bool
 }
 
 // The record at a number, or the refusal of it. For a vertex both tables ascend by "to", and `departs` is the number of its departing records.
-pub fn read_vertex(vertices: &[u8], walks: &[u8], hops: &[u8], v: u32, departs: u32) -> VertexRead
-    requires { ⌜ v < length (now vertices) / 12 ⌝ }
+pub fn read_vertex(
+    vertices: &[u8],
+    walks: &[u8],
+    hops: &[u8],
+    hop_size: usize,
+    v: u32,
+    departs: u32,
+) -> VertexRead
+    requires { ⌜ (v < length (now vertices) / 12) × (16 ≤ «hop_size») ⌝ }
     requires { ⌜ Ascending 16 (now walks) ⌝ }
-    requires { ⌜ Ascending 16 (now hops) ⌝ }
-    requires { ⌜ departs ≡ departing (tablesOf (now vertices) (now walks) (now hops)) v ⌝ }
-    ensures { λ r. ⌜ toldVertex r ≡ vertexReading (tablesOf (now (vertices .entry)) (now (walks .entry)) (now (hops .entry))) v ⌝ }
+    requires { ⌜ Ascending «hop_size» (now hops) ⌝ }
+    requires { ⌜ departs ≡ departing (tablesOf «hop_size» (now vertices) (now walks) (now hops)) v ⌝ }
+    ensures { λ r. ⌜ toldVertex r ≡ vertexReading (tablesOf «hop_size» (now (vertices .entry)) (now (walks .entry)) (now (hops .entry))) v ⌝ }
 {
     let x = vertex_at(vertices, v as usize);
     if first_ok(walks, WALK_SIZE, x.first_walk, v)
-        & first_ok(hops, HOP_SIZE, x.first_hop, v)
+        & first_ok(hops, hop_size, x.first_hop, v)
         & (x.departing == departs)
         & (x.zeros == 0)
     {
@@ -260,8 +266,8 @@ pub fn read_vertex(vertices: &[u8], walks: &[u8], hops: &[u8], v: u32, departs: 
 // exactly if the twin names it.
 fn walk_ok(vertices: &[u8], walks: &[u8], i: u32) -> bool
     requires { ⌜ (i < recordsIn 16 (now walks)) × (recordsIn 16 (now walks) ≤ 262144) ⌝ }
-    requires { ⌜ ((k : ℕ) → k < i → walkOk (tablesOf (now vertices) (now walks) []) k ≡ true) ⌝ }
-    ensures { λ r. ⌜ r ≡ walkOk (tablesOf (now (vertices .entry)) (now (walks .entry)) []) i ⌝ }
+    requires { ⌜ ((k : ℕ) → k < i → walkOk (tablesOf 16 (now vertices) (now walks) []) k ≡ true) ⌝ }
+    ensures { λ r. ⌜ r ≡ walkOk (tablesOf 16 (now (vertices .entry)) (now (walks .entry)) []) i ⌝ }
 {
     let w = walk_at(walks, i as usize);
     if w.twin < i {
@@ -279,8 +285,8 @@ fn walk_ok(vertices: &[u8], walks: &[u8], i: u32) -> bool
 // Of a walk those before it are good.
 pub fn read_walk(vertices: &[u8], walks: &[u8], i: u32) -> WalkRead
     requires { ⌜ (i < recordsIn 16 (now walks)) × (recordsIn 16 (now walks) ≤ 262144) ⌝ }
-    requires { ⌜ ((k : ℕ) → k < i → walkOk (tablesOf (now vertices) (now walks) []) k ≡ true) ⌝ }
-    ensures { λ r. ⌜ toldWalk r ≡ walkReading (tablesOf (now (vertices .entry)) (now (walks .entry)) []) i ⌝ }
+    requires { ⌜ ((k : ℕ) → k < i → walkOk (tablesOf 16 (now vertices) (now walks) []) k ≡ true) ⌝ }
+    ensures { λ r. ⌜ toldWalk r ≡ walkReading (tablesOf 16 (now (vertices .entry)) (now (walks .entry)) []) i ⌝ }
 {
     if walk_ok(vertices, walks, i) {
         WalkRead::Good(walk_at(walks, i as usize))
@@ -289,11 +295,11 @@ pub fn read_walk(vertices: &[u8], walks: &[u8], i: u32) -> WalkRead
     }
 }
 
-pub fn read_hop(vertices: &[u8], hops: &[u8], j: u32) -> HopRead
-    requires { ⌜ j < length (now hops) / 16 ⌝ }
-    ensures { λ r. ⌜ toldHop r ≡ hopReading (tablesOf (now (vertices .entry)) [] (now (hops .entry))) j ⌝ }
+pub fn read_hop(vertices: &[u8], hops: &[u8], size: usize, j: u32) -> HopRead
+    requires { ⌜ (16 ≤ size) × (j < recordsIn size (now hops)) ⌝ }
+    ensures { λ r. ⌜ toldHop r ≡ hopReading (tablesOf size (now (vertices .entry)) [] (now (hops .entry))) j ⌝ }
 {
-    let h = hop_at(hops, j as usize);
+    let h = hop_at(hops, size, j as usize);
     let departure = h.departure;
     let arrival = h.arrival;
     if ends_ok(vertices.len() / 12, h.from, h.to) & times_ok(departure, arrival) {
@@ -325,27 +331,28 @@ pub fn end_arriving(vertices: &[u8], kind: Kind, v: usize, records: usize) -> us
     records
 }
 
-fn part_of(table: &[u8], first: usize, end: usize) -> &[u8]
-    requires { ⌜ (first ≤ end) × (end ≤ recordsIn 16 (now table)) ⌝ }
-    ensures { λ r. ⌜ now r ≡ run (now (table .entry)) first end ⌝ }
+fn part_of(table: &[u8], size: usize, first: usize, end: usize) -> &[u8]
+    requires { ⌜ (0 < size) × (first ≤ end) × (end ≤ recordsIn size (now table)) ⌝ }
+    ensures { λ r. ⌜ now r ≡ run size (now (table .entry)) first end ⌝ }
 {
-    &table[16 * first..16 * end]
+    &table[hop_start(size, first)..hop_start(size, end)]
 }
 
 // Those records, as a part of the table.
 pub fn arriving<'a>(
     walks: &'a [u8],
     hops: &'a [u8],
+    hop_size: usize,
     kind: Kind,
     first: usize,
     end: usize,
 ) -> &'a [u8]
-    requires { ⌜ (first ≤ end) × (end ≤ recordsIn 16 (tableOf kind (now walks) (now hops))) ⌝ }
-    ensures { λ r. ⌜ now r ≡ run (tableOf kind (now (walks .entry)) (now (hops .entry))) first end ⌝ }
+    requires { ⌜ (0 < «hop_size») × (first ≤ end) × (end ≤ recordsIn (sizeOf kind «hop_size») (tableOf kind (now walks) (now hops))) ⌝ }
+    ensures { λ r. ⌜ now r ≡ run (sizeOf kind «hop_size») (tableOf kind (now (walks .entry)) (now (hops .entry))) first end ⌝ }
 {
     match kind {
-        Kind::Walks => part_of(walks, first, end),
-        Kind::Hops => part_of(hops, first, end),
+        Kind::Walks => part_of(walks, WALK_SIZE, first, end),
+        Kind::Hops => part_of(hops, hop_size, first, end),
     }
 }
 

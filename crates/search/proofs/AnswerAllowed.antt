@@ -18,7 +18,7 @@ use Rattle.journeys.specs.Refusals.{unless, wholeOf, tableLengths, bufferLength
 use Rattle.journeys.specs.Answers as answers
 use Rattle.journeys.specs.Answers.{Lent, tables, early, refusedEarly, refusedLate, heldBytes, settledBytes, heldAfter, roomAt, roomUpTo, acceptedAfter, answerOver, Allowed, Room}
 use Rattle.journeys.proofs.Tests.{cond-true, cond-false}
-use Rattle.journeys.proofs.Valid.{early-valid}
+use Rattle.journeys.proofs.Valid.{early-valid, size-fits}
 use Rattle.journeys.specs.Valid.{Valid}
 use Rattle.journeys.proofs.Refusals.{or-fine, unless-fine, room-is, room-exactly, room-first}
 use Rattle.journeys.proofs.OrderLaws.{orderOf, order-is, order-size}
@@ -67,9 +67,13 @@ module _ (b : Lent) (Q : Query) (limit : ℕ) (fault : audit.Refusal) (F : told 
     pub whole-held : length (b .held) % 16 ≡ 0
     unfolding early bufferLengths wholeOf
     whole-held =
-        let x = or-fine (tableLengths (b .vertices) (b .walks) (b .hops)) _ passes in
+        let x = or-fine (tableLengths (b .hopSize) (b .vertices) (b .walks) (b .hops)) _ passes in
         let y = or-fine (bufferLengths (b .held) (b .settled)) _ (x .1) in
         eqb-true _ 0 (unless-fine (wholeOf 16 (b .held)) 1 3 (omega arith) (or-fine (unless (wholeOf 16 (b .held)) 1 3) _ (y .0) .0))
+
+    pub hop-fits : 16 ≤ b .hopSize
+    unfolding early
+    hop-fits = size-fits (b .hopSize) (b .vertices) (b .walks) (b .hops) (or-fine (tableLengths (b .hopSize) (b .vertices) (b .walks) (b .hops)) _ passes .0)
 
     abbrev order : List Settled
     order = orderOf (tables b) Q valid
@@ -77,7 +81,7 @@ module _ (b : Lent) (Q : Query) (limit : ℕ) (fault : audit.Refusal) (F : told 
     allow : (a : answers.Answer) → a ≡ answerOver b Q order limit → Allowed b Q limit a
     allow a e = record { refused = λ n. absurd (n passes); accepted = λ z. (order, order-is (tables b) Q valid, e) }
 
-    module _ (held settled : List ℕ) (end : Ended) (S : Ends (b .vertices) (b .walks) (b .hops) (length (b .held)) (length (b .settled)) Q limit held settled end) where
+    module _ (held settled : List ℕ) (end : Ended) (S : Ends (b .hopSize) (b .vertices) (b .walks) (b .hops) (length (b .held)) (length (b .settled)) Q limit held settled end) where
       ended : EndedIs b Q order limit held settled end
       unfolding Ends
       ended = S (b .held) (b .settled) refl refl order (order-is (tables b) Q valid)

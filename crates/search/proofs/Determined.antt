@@ -23,5 +23,5 @@ allowed-one b Q limit r r′ h s h′ s′ x y =
     (ap₂ numbers e (x .1 ∙ sym (y .1)), ap (λ (a : answers.Answer). a .held) e, ap (λ (a : answers.Answer). a .settled) e)
 
 pub one-run : (κs : _) (a : _) (z z′ : _) (e e′ : _) → run.Post κs a z e → run.Post κs a z′ e′
-    → (z ≡ z′) × (now (e .1 .1 .1 .0) ≡ now (e′ .1 .1 .1 .0)) × (now (e .1 .1 .1 .1 .0) ≡ now (e′ .1 .1 .1 .1 .0))
+    → (z ≡ z′) × (now (e .1 .1 .1 .1 .0) ≡ now (e′ .1 .1 .1 .1 .0)) × (now (e .1 .1 .1 .1 .1 .0) ≡ now (e′ .1 .1 .1 .1 .1 .0))
 one-run κs a z z′ e e′ p q = allowed-one _ _ _ z z′ _ _ _ _ p q

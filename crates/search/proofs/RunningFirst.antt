@@ -27,8 +27,8 @@ use Rattle.steps.specs.declared.Ended.{Ended}
 use Rattle.steps.specs.declared.Ended.the-variants.{Refused}
 
 -- the end of the steps, with the length of the held buffer as it was lent
-pub ends-as : (v w h : List ℕ) (m m′ n : ℕ) (Q : Query) (limit : ℕ) (held settled : List ℕ) (r : Ended) → m ≡ m′ → Ends v w h m n Q limit held settled r → Ends v w h m′ n Q limit held settled r
-ends-as v w h m m′ n Q limit held settled r e = subst (λ (k : ℕ). Ends v w h k n Q limit held settled r) e
+pub ends-as : (size : ℕ) (v w h : List ℕ) (m m′ n : ℕ) (Q : Query) (limit : ℕ) (held settled : List ℕ) (r : Ended) → m ≡ m′ → Ends size v w h m n Q limit held settled r → Ends size v w h m′ n Q limit held settled r
+ends-as size v w h m m′ n Q limit held settled r e = subst (λ (k : ℕ). Ends size v w h k n Q limit held settled r) e
 
 module _ (b : Lent) (Q : Query) (ok : Valid (tables b) Q) where
   abbrev N : Tables
@@ -45,12 +45,12 @@ module _ (b : Lent) (Q : Query) (ok : Valid (tables b) Q) where
 
   -- The run stands before its first step.
   pub begins : (held′ : List ℕ) (p : Progress) → Opens capacity (firstMap (b .vertices) (b .walks) road) (cond (toIsSeed road) 2 1) held′ p → length held′ ≡ length (b .held)
-      → Stands (b .vertices) (b .walks) (b .hops) (length held′) (length (b .settled)) Q p held′ (b .settled)
+      → Stands (b .hopSize) (b .vertices) (b .walks) (b .hops) (length held′) (length (b .settled)) Q p held′ (b .settled)
   unfolding Stands flatMap
   begins held′ p H same x y same-held same-settled l O = subst (λ (z : Progress). Running b′ Q l z held′ (b .settled)) whole-p at-zero
     where
       b′ : Lent
-      b′ = lent (b .vertices) (b .walks) (b .hops) x y
+      b′ = lent (b .vertices) (b .walks) (b .hops) (b .hopSize) x y
 
       p0 : Progress
       p0 = record { table = p .table; settled = 0 }
@@ -71,14 +71,14 @@ module _ (b : Lent) (Q : Query) (ok : Valid (tables b) Q) where
 
   -- There is no room for step 0.
   pub shut : (limit n : ℕ) (held settled : List ℕ) → Shut capacity (cond (toIsSeed road) 2 1) n
-      → Ends (b .vertices) (b .walks) (b .hops) (length (b .held)) (length (b .settled)) Q limit held settled (Refused n 0)
+      → Ends (b .hopSize) (b .vertices) (b .walks) (b .hops) (length (b .held)) (length (b .settled)) Q limit held settled (Refused n 0)
   unfolding Ends EndedIs roomAt
   shut limit n held settled h x y same-held same-settled l O = record { made = omega arith; refusal = refused; some = omega (arith, h .0); before = λ j z. absurd (omega arith) }
     where
       few : length (heldAfter b Q l 0) ≤ min (length (b .vertices) / 12) 65536
       few = omega (arith, held-most G (distanceIn []), ok .tables .vertices-few, vertices-as b Q ok)
 
-      refused : roomAt (lent (b .vertices) (b .walks) (b .hops) x y) Q l 0 ≡ record { number = n; place = 0 }
+      refused : roomAt (lent (b .vertices) (b .walks) (b .hops) (b .hopSize) x y) Q l 0 ≡ record { number = n; place = 0 }
       refused =
           failed _ 8 0 _ (omega arith) (lt-leb (length (heldAfter b Q l 0)) (length x / 16) (omega (arith, seeds-sized b Q ok l, h .1, few, same-held)))
           ∙ ap (λ (z : ℕ). record { number = z; place = 0 }) (sym (h .0))

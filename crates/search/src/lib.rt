@@ -8,7 +8,7 @@ use records::refusal;
 use stepping::Stepped;
 use steps::Ended;
 ghost use mathlib.Core.Path.{_≡_};
-ghost use Prim.Native.Nat.{_%_};
+ghost use Prim.Native.Nat.{_%_, _≤_};
 ghost use lib.ListN.{length, replicate};
 ghost use Rattle.journeys.specs.Tables.{tablesOf};
 ghost use Rattle.journeys.specs.Answers.{Allowed};
@@ -23,14 +23,15 @@ fn all_steps<'a>(
     vertices: &[u8],
     walks: &'a [u8],
     hops: &'a [u8],
+    hop_size: usize,
     held: &mut [u8],
     settled: &mut [u8],
     scratch: &mut [u16],
     q: Query,
     limit: u32,
 ) -> Ended
-    requires { ⌜ Valid (tablesOf (now vertices) (now walks) (now hops)) (queryOf q) × (now scratch ≡ replicate 2048 0) × (length (now held) % 16 ≡ 0) ⌝ }
-    ensures { λ r. ⌜ Ends (now (vertices .entry)) (now (walks .entry)) (now (hops .entry)) (length (now (held .entry))) (length (now (settled .entry))) (queryOf q) limit (now (held .exit)) (now (settled .exit)) r ⌝ }
+    requires { ⌜ Valid (tablesOf «hop_size» (now vertices) (now walks) (now hops)) (queryOf q) × (now scratch ≡ replicate 2048 0) × (length (now held) % 16 ≡ 0) × (16 ≤ «hop_size») ⌝ }
+    ensures { λ r. ⌜ Ends «hop_size» (now (vertices .entry)) (now (walks .entry)) (now (hops .entry)) (length (now (held .entry))) (length (now (settled .entry))) (queryOf q) limit (now (held .exit)) (now (settled .exit)) r ⌝ }
     ensures { λ _. ⌜ now (scratch .exit) ≡ replicate 2048 0 ⌝ }
 {
     let road = parts::read_road(walks, q.walk, q.offset);
@@ -41,6 +42,7 @@ fn all_steps<'a>(
             vertices,
             walks,
             hops,
+            hop_size,
             held,
             settled,
             scratch,
@@ -57,16 +59,26 @@ pub fn run<'a>(
     vertices: &[u8],
     walks: &'a [u8],
     hops: &'a [u8],
+    hop_size: usize,
     held: &mut [u8],
     settled: &mut [u8],
     q: Query,
     limit: u32,
 ) -> Answer
-    ensures { λ r. ⌜ Allowed (lent (now (vertices .entry)) (now (walks .entry)) (now (hops .entry)) (now (held .entry)) (now (settled .entry))) (queryOf q) limit (answerOf r (now (held .exit)) (now (settled .exit))) ⌝ }
+    ensures { λ r. ⌜ Allowed (lent (now (vertices .entry)) (now (walks .entry)) (now (hops .entry)) «hop_size» (now (held .entry)) (now (settled .entry))) (queryOf q) limit (answerOf r (now (held .exit)) (now (settled .exit))) ⌝ }
     ensures { λ r. ⌜ r .parts ≡ 0 ⌝ }
 {
     let mut scratch = [0u16; 2048];
-    let fault = intake::input_fault(vertices, walks, hops, held, settled, q, &mut scratch);
+    let fault = intake::input_fault(
+        vertices,
+        walks,
+        hops,
+        hop_size,
+        held,
+        settled,
+        q,
+        &mut scratch,
+    );
     if fault.number != 0 {
         return refusal(fault.number, fault.place);
     }
@@ -74,6 +86,7 @@ pub fn run<'a>(
         vertices,
         walks,
         hops,
+        hop_size,
         held,
         settled,
         &mut scratch[..],

@@ -24,18 +24,18 @@ use Rattle.siltbrow.proofs.siltbrow_run.Reads as siltbrow-run
 pub one-siltbrow-check : (κs : _) (a : _) (z z′ : _) (e e′ : _) → siltbrow-check.Post κs a z e → siltbrow-check.Post κs a z′ e′ → z ≡ z′
 one-siltbrow-check κs a z z′ e e′ p q = p ∙ sym q
 
--- the call that the contract of `siltbrow_run` speaks of: its twelve arguments, what it returns, and its slices at the exit, in the order of its signature
+-- the call that the contract of `siltbrow_run` speaks of: its thirteen arguments, what it returns, and its slices at the exit, in the order of its signature
 module _ (κs : Lfts 5) (args : ArgsD siltbrow_run.signature κs) (returned : ℕ) (exit : AtExit (endedOf 5 kinds.ps kinds.r) κs) where
   abbrev pub called : Call
   called =
       record {
-        lent = lent (now (args .0)) (now (args .1 .0)) (now (args .1 .1 .0)) (now (args .1 .1 .1 .1 .1 .1 .1 .1 .1 .0)) (now (args .1 .1 .1 .1 .1 .1 .1 .1 .1 .1 .0));
-        query = queryBy (args .1 .1 .1 .0) (args .1 .1 .1 .1 .0) (args .1 .1 .1 .1 .1 .0) (args .1 .1 .1 .1 .1 .1 .0) (args .1 .1 .1 .1 .1 .1 .1 .0);
-        limit = args .1 .1 .1 .1 .1 .1 .1 .1 .0;
-        slice = now (args .1 .1 .1 .1 .1 .1 .1 .1 .1 .1 .1 .0);
-        held = now (exit .1 .1 .1 .1 .1 .1 .1 .1 .1 .0);
-        settled = now (exit .1 .1 .1 .1 .1 .1 .1 .1 .1 .1 .0);
-        answer = now (exit .1 .1 .1 .1 .1 .1 .1 .1 .1 .1 .1 .0);
+        lent = lent (now (args .0)) (now (args .1 .0)) (now (args .1 .1 .0)) (args .1 .1 .1 .0) (now (args .1 .1 .1 .1 .1 .1 .1 .1 .1 .1 .0)) (now (args .1 .1 .1 .1 .1 .1 .1 .1 .1 .1 .1 .0));
+        query = queryBy (args .1 .1 .1 .1 .0) (args .1 .1 .1 .1 .1 .0) (args .1 .1 .1 .1 .1 .1 .0) (args .1 .1 .1 .1 .1 .1 .1 .0) (args .1 .1 .1 .1 .1 .1 .1 .1 .0);
+        limit = args .1 .1 .1 .1 .1 .1 .1 .1 .1 .0;
+        slice = now (args .1 .1 .1 .1 .1 .1 .1 .1 .1 .1 .1 .1 .0);
+        held = now (exit .1 .1 .1 .1 .1 .1 .1 .1 .1 .1 .0);
+        settled = now (exit .1 .1 .1 .1 .1 .1 .1 .1 .1 .1 .1 .0);
+        answer = now (exit .1 .1 .1 .1 .1 .1 .1 .1 .1 .1 .1 .1 .0);
         returned = returned;
       }
 
@@ -44,7 +44,7 @@ pub call-completed : (κs : _) (a : _) (z : _) (e : _) → siltbrow-run.Post κs
 call-completed κs a z e p whole = (p, whole)
 
 -- the answers for one slice of any length
-ran-one : (b : Lent) (Q : Query) (limit : ℕ) (slice h s a h′ s′ a′ : List ℕ) (r r′ : ℕ) → Ran b Q limit slice h s a r → Ran b Q limit slice h′ s′ a′ r′
+pub ran-one : (b : Lent) (Q : Query) (limit : ℕ) (slice h s a h′ s′ a′ : List ℕ) (r r′ : ℕ) → Ran b Q limit slice h s a r → Ran b Q limit slice h′ s′ a′ r′
     → (r ≡ r′) × (h ≡ h′) × (s ≡ s′) × (a ≡ a′)
 ran-one b Q limit slice h s a h′ s′ a′ r r′ x y = go (ℕ-discrete (length slice) 24)
   where

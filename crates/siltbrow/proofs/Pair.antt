@@ -60,7 +60,7 @@ module _ (c : Call) (E : Completed c) (accepted : refusal c ≡ 0) (p : PartsCal
   q-is =
       let counted : settledCount c ≡ a .settledCount = ap (λ (s : List ℕ). be32 s 8) answer-is ∙ settled-read a in
       let list : take (8 * settledCount c) (c .settled) ≡ take (8 * a .settledCount) (a .settled) = ap₂ (λ (n : ℕ) (s : List ℕ). take (8 * n) s) counted (E .0 .answered (E .1) .1 .3) in
-      ap₂ partsAnswer (own .lent ∙ ap (λ (s : List ℕ). partsLent (b .vertices) (b .walks) (b .hops) s parts) list) (own .query)
+      ap₂ partsAnswer (own .lent ∙ ap (λ (s : List ℕ). partsLent (b .vertices) (b .walks) (b .hops) (b .hopSize) s parts) list) (own .query)
 
   parts-bytes : p .parts ≡ q .parts
   parts-bytes = F .0 .answered (F .1) .1 ∙ ap (λ (x : PartsAnswer). x .parts) q-is

@@ -19,16 +19,16 @@ use Rattle.siltbrow.proofs.streets.siltbrow_parts as siltbrow_parts
 use Rattle.siltbrow.proofs.streets.siltbrow_parts.Kinds as kinds
 use Rattle.siltbrow.proofs.streets.siltbrow_parts.Reads as siltbrow-parts
 
--- the call that the contract of `siltbrow_parts` speaks of: its eleven arguments, what it returns, and its slices at the exit, in the order of its signature
+-- the call that the contract of `siltbrow_parts` speaks of: its twelve arguments, what it returns, and its slices at the exit, in the order of its signature
 module _ (κs : Lfts 6) (args : ArgsD siltbrow_parts.signature κs) (returned : ℕ) (exit : AtExit (endedOf 6 kinds.ps kinds.r) κs) where
   abbrev pub called : PartsCall
   called =
       record {
-        lent = partsLent (now (args .0)) (now (args .1 .0)) (now (args .1 .1 .0)) (now (args .1 .1 .1 .1 .1 .1 .1 .1 .0)) (now (args .1 .1 .1 .1 .1 .1 .1 .1 .1 .0));
-        query = queryBy (args .1 .1 .1 .0) (args .1 .1 .1 .1 .0) (args .1 .1 .1 .1 .1 .0) (args .1 .1 .1 .1 .1 .1 .0) (args .1 .1 .1 .1 .1 .1 .1 .0);
-        slice = now (args .1 .1 .1 .1 .1 .1 .1 .1 .1 .1 .0);
-        parts = now (exit .1 .1 .1 .1 .1 .1 .1 .1 .1 .0);
-        answer = now (exit .1 .1 .1 .1 .1 .1 .1 .1 .1 .1 .0);
+        lent = partsLent (now (args .0)) (now (args .1 .0)) (now (args .1 .1 .0)) (args .1 .1 .1 .0) (now (args .1 .1 .1 .1 .1 .1 .1 .1 .1 .0)) (now (args .1 .1 .1 .1 .1 .1 .1 .1 .1 .1 .0));
+        query = queryBy (args .1 .1 .1 .1 .0) (args .1 .1 .1 .1 .1 .0) (args .1 .1 .1 .1 .1 .1 .0) (args .1 .1 .1 .1 .1 .1 .1 .0) (args .1 .1 .1 .1 .1 .1 .1 .1 .0);
+        slice = now (args .1 .1 .1 .1 .1 .1 .1 .1 .1 .1 .1 .0);
+        parts = now (exit .1 .1 .1 .1 .1 .1 .1 .1 .1 .1 .0);
+        answer = now (exit .1 .1 .1 .1 .1 .1 .1 .1 .1 .1 .1 .0);
         returned = returned;
       }
 
@@ -37,7 +37,7 @@ pub call-completed : (κs : _) (a : _) (z : _) (e : _) → siltbrow-parts.Post �
 call-completed κs a z e p whole = (p, whole)
 
 -- the answers for one slice of any length
-ran-one : (b : PartsLent) (Q : Query) (slice p a p′ a′ : List ℕ) (r r′ : ℕ) → PartsRan b Q slice p a r → PartsRan b Q slice p′ a′ r′
+pub ran-one : (b : PartsLent) (Q : Query) (slice p a p′ a′ : List ℕ) (r r′ : ℕ) → PartsRan b Q slice p a r → PartsRan b Q slice p′ a′ r′
     → (r ≡ r′) × (p ≡ p′) × (a ≡ a′)
 ran-one b Q slice p a p′ a′ r r′ x y = go (ℕ-discrete (length slice) 12)
   where

@@ -11,7 +11,7 @@ use Rattle.siltbrow.specs.PartsCall.{PartsCall}
 
 -- The second call has the tables and the query of the first; its list is the counted records of the settled bytes, and the zero tail stays behind.
 pub record Follows (c : Call) (p : PartsCall) : Type 0 where
-  pub lent : p .lent ≡ partsLent (c .lent .vertices) (c .lent .walks) (c .lent .hops) (take (8 * settledCount c) (c .settled)) (p .lent .parts)
+  pub lent : p .lent ≡ partsLent (c .lent .vertices) (c .lent .walks) (c .lent .hops) (c .lent .hopSize) (take (8 * settledCount c) (c .settled)) (p .lent .parts)
   pub query : p .query ≡ c .query
 
 -- the 24 bytes of the one run of RULES 11.7

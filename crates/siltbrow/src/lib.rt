@@ -1,7 +1,8 @@
 // What the map server in C calls: include/siltbrow.h declares it.
 // Promises: the numbers of RULES 13, for every byte string of every length; the tables are only read.
-// Rests on: `audit`, whose scratch it lends, `search`, which has the run, `covering`, which has the parts, and `frame`.
+// Rests on: `audit`, whose scratch it lends, `search`, which has the run, `covering`, which has the parts, `frame`, and `moves`.
 mod framing;
+mod moving;
 mod streets;
 
 use records::Answer;
@@ -19,13 +20,13 @@ ghost use Rattle.intake.specs.Lending.{lent};
 ghost use Rattle.siltbrow.specs.Packed.{packed};
 ghost use Rattle.siltbrow.specs.Ran.{Ran};
 
-// The check alone, refusal times 2^32 plus place.
+// The check alone, refusal times 2^32 plus place. Whoever lends hops names their size, 16 or 20 bytes.
 #[no_mangle]
-pub extern "C" fn siltbrow_check(vertices: &[u8], walks: &[u8], hops: &[u8]) -> u64
-    ensures { λ r. ⌜ r ≡ packed (check (now (vertices .entry)) (now (walks .entry)) (now (hops .entry))) ⌝ }
+pub extern "C" fn siltbrow_check(vertices: &[u8], walks: &[u8], hops: &[u8], hop_size: u32) -> u64
+    ensures { λ r. ⌜ r ≡ packed (check «hop_size» (now (vertices .entry)) (now (walks .entry)) (now (hops .entry))) ⌝ }
 {
     let mut scratch = [0u16; 2048];
-    let refusal = audit::check(vertices, walks, hops, &mut scratch);
+    let refusal = audit::check(vertices, walks, hops, hop_size as usize, &mut scratch);
     (refusal.number as u64) * 4294967296 + (refusal.place as u64)
 }
 
@@ -48,6 +49,7 @@ pub extern "C" fn siltbrow_run<'a>(
     vertices: &[u8],
     walks: &'a [u8],
     hops: &'a [u8],
+    hop_size: u32,
     record_number: u32,
     offset: u32,
     arrival: i32,
@@ -58,7 +60,7 @@ pub extern "C" fn siltbrow_run<'a>(
     settled: &mut [u8],
     answer: &mut [u8],
 ) -> u32
-    ensures { λ r. ⌜ Ran (lent (now (vertices .entry)) (now (walks .entry)) (now (hops .entry)) (now (held .entry)) (now (settled .entry))) (queryBy «record_number» offset arrival duration speed) limit (now (answer .entry)) (now (held .exit)) (now (settled .exit)) (now (answer .exit)) r ⌝ }
+    ensures { λ r. ⌜ Ran (lent (now (vertices .entry)) (now (walks .entry)) (now (hops .entry)) «hop_size» (now (held .entry)) (now (settled .entry))) (queryBy «record_number» offset arrival duration speed) limit (now (answer .entry)) (now (held .exit)) (now (settled .exit)) (now (answer .exit)) r ⌝ }
 {
     if answer.len() != 24 {
         return 1;
@@ -70,7 +72,16 @@ pub extern "C" fn siltbrow_run<'a>(
         duration: duration,
         speed: speed,
     };
-    let a = search::run(vertices, walks, hops, held, settled, q, limit);
+    let a = search::run(
+        vertices,
+        walks,
+        hops,
+        hop_size as usize,
+        held,
+        settled,
+        q,
+        limit,
+    );
     put_answer(answer, a);
     0
 }

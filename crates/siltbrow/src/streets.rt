@@ -28,6 +28,7 @@ pub extern "C" fn siltbrow_parts(
     vertices: &[u8],
     walks: &[u8],
     hops: &[u8],
+    hop_size: u32,
     record_number: u32,
     offset: u32,
     arrival: i32,
@@ -37,7 +38,7 @@ pub extern "C" fn siltbrow_parts(
     parts: &mut [u8],
     answer: &mut [u8],
 ) -> u32
-    ensures { λ r. ⌜ PartsRan (partsLent (now (vertices .entry)) (now (walks .entry)) (now (hops .entry)) (now (list .entry)) (now (parts .entry))) (queryBy «record_number» offset arrival duration speed) (now (answer .entry)) (now (parts .exit)) (now (answer .exit)) r ⌝ }
+    ensures { λ r. ⌜ PartsRan (partsLent (now (vertices .entry)) (now (walks .entry)) (now (hops .entry)) «hop_size» (now (list .entry)) (now (parts .entry))) (queryBy «record_number» offset arrival duration speed) (now (answer .entry)) (now (parts .exit)) (now (answer .exit)) r ⌝ }
 {
     if answer.len() != 12 {
         return 1;
@@ -49,7 +50,7 @@ pub extern "C" fn siltbrow_parts(
         duration: duration,
         speed: speed,
     };
-    let a = covering::parts(vertices, walks, hops, list, parts, q);
+    let a = covering::parts(vertices, walks, hops, hop_size as usize, list, parts, q);
     put_three(answer, a);
     0
 }

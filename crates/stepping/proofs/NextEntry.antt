@@ -6,7 +6,7 @@ use Prim.Native.Nat.{ℕ, _-_, _/_, _≤_, _<_}
 use native.Mathlib.Omega.{arith}
 use lib.ListN.{length}
 use Rattle.journeys.specs.Tables.{vertexAt}
-use Rattle.records.specs.Arriving.{tableOf, firstOf, endOf, run}
+use Rattle.records.specs.Arriving.{tableOf, sizeOf, firstOf, endOf, run}
 use Rattle.records.specs.declared.Kind.the-variants.{Walks, Hops}
 use Rattle.words.specs.declared.Seconds.{Seconds}
 use Rattle.worktable.specs.Table.{NearestIs}
@@ -46,16 +46,16 @@ module _ (t : Table) (b : List ℕ) (D D′ : ℕ) (q : D ≡ D′) (r : Nearest
   next-found e = as-next e
 
 -- how many records arrive, from the firsts and the ends as they are read
-pub arriving-is : (v w h : List ℕ) (x d : ℕ) (A : Seconds) (speed fw ew fh eh : ℕ) → fw ≡ firstOf Walks (vertexAt v x) → ew ≡ endOf Walks v (length w / 16) x → fh ≡ firstOf Hops (vertexAt v x)
-    → eh ≡ endOf Hops v (length h / 16) x → record { walks = ew - fw; hops = eh - fh; distance = record { 0 = d }; arrival = A; speed = speed } ≡ arrivingAt v w h x d A speed
+pub arriving-is : (size : ℕ) (v w h : List ℕ) (x d : ℕ) (A : Seconds) (speed fw ew fh eh : ℕ) → fw ≡ firstOf Walks (vertexAt v x) → ew ≡ endOf Walks v (length w / 16) x → fh ≡ firstOf Hops (vertexAt v x)
+    → eh ≡ endOf Hops v (length h / size) x → record { walks = ew - fw; hops = eh - fh; size = size; distance = record { 0 = d }; arrival = A; speed = speed } ≡ arrivingAt size v w h x d A speed
 unfolding arrivingAt
-arriving-is v w h x d A speed fw ew fh eh a b c e = rw (a, b, c, e) refl
+arriving-is size v w h x d A speed fw ew fh eh a b c e = rw (a, b, c, e) refl
 
 -- the part of a table from its first and its end as they are read
-pub walks-are : (v w h : List ℕ) (x first end : ℕ) {part : List ℕ} → first ≡ firstOf Walks (vertexAt v x) → end ≡ endOf Walks v (length w / 16) x → part ≡ run (tableOf Walks w h) first end → part ≡ walksAt v w x
-unfolding walksAt tableOf
-walks-are v w h x first end a b p = p ∙ ap (λ (k : ℕ). run w k end) a ∙ ap (run w (firstOf Walks (vertexAt v x))) b
+pub walks-are : (size : ℕ) (v w h : List ℕ) (x first end : ℕ) {part : List ℕ} → first ≡ firstOf Walks (vertexAt v x) → end ≡ endOf Walks v (length w / 16) x → part ≡ run (sizeOf Walks size) (tableOf Walks w h) first end → part ≡ walksAt v w x
+unfolding walksAt tableOf sizeOf
+walks-are size v w h x first end a b p = p ∙ ap (λ (k : ℕ). run 16 w k end) a ∙ ap (run 16 w (firstOf Walks (vertexAt v x))) b
 
-pub hops-are : (v w h : List ℕ) (x first end : ℕ) {part : List ℕ} → first ≡ firstOf Hops (vertexAt v x) → end ≡ endOf Hops v (length h / 16) x → part ≡ run (tableOf Hops w h) first end → part ≡ hopsAt v h x
-unfolding hopsAt tableOf
-hops-are v w h x first end a b p = p ∙ ap (λ (k : ℕ). run h k end) a ∙ ap (run h (firstOf Hops (vertexAt v x))) b
+pub hops-are : (size : ℕ) (v w h : List ℕ) (x first end : ℕ) {part : List ℕ} → first ≡ firstOf Hops (vertexAt v x) → end ≡ endOf Hops v (length h / size) x → part ≡ run (sizeOf Hops size) (tableOf Hops w h) first end → part ≡ hopsAt size v h x
+unfolding hopsAt tableOf sizeOf
+hops-are size v w h x first end a b p = p ∙ ap (λ (k : ℕ). run size h k end) a ∙ ap (run size h (firstOf Hops (vertexAt v x))) b

@@ -23,7 +23,7 @@ use Rattle.stepping.specs.declared.Progress.{Progress}
 use Rattle.stepping.specs.declared.Stepped.the-variants.{Next, Full}
 
 -- x is settled, its arriving records are two parts, and they are passed
-module _ (v w h : List ℕ) (x slot : ℕ) (a : Arriving) (t t1 : Table) (h1 : List ℕ) {held w1 r1 : List ℕ} (B : Begins v w h x slot a t held) (walks-are : w1 ≡ walksAt v w x) (hops-are : r1 ≡ hopsAt v h x)
+module _ (v w h : List ℕ) (x slot : ℕ) (a : Arriving) (t t1 : Table) (h1 : List ℕ) {held w1 r1 : List ℕ} (B : Begins v w h x slot a t held) (walks-are : w1 ≡ walksAt v w x) (hops-are : r1 ≡ hopsAt (a .size) v h x)
     (L : Leads t t1 h1 (settledNow (mapOf t held) x)) where
   abbrev R : Row
   R = rowAt v w h x a

@@ -48,9 +48,9 @@ pub record Begins (v w h : List ℕ) (x slot : ℕ) (a : Arriving) (t : Table) (
   pub place : Place t held x slot
   pub unsettled : stateOf (mapOf t held x) ≡ 0
   pub some : distanceOf (mapOf t held x) < none
-  pub standing : Standing v w h x
-  pub sound : Sound (walksAt v w x) (hopsAt v h x) a
-  pub leaves : Leaves v (walksAt v w x) (hopsAt v h x) a
+  pub standing : Standing (a .size) v w h x
+  pub sound : Sound (walksAt v w x) (hopsAt (a .size) v h x) a
+  pub leaves : Leaves v (walksAt v w x) (hopsAt (a .size) v h x) a
   pub enough : Enough (rowAt v w h x a) (passes a) (settledNow (mapOf t held) x)
 
 -- the map after it

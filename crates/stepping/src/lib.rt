@@ -42,23 +42,23 @@ fn settle_next(held: &mut [u8], t: Table, v: usize, slot: usize) -> Table
 }
 
 // The walks that arrive at x: a part of the walk table.
-fn walks_at<'a>(vertices: &[u8], walks: &'a [u8], hops: &'a [u8], x: usize) -> &'a [u8]
-    requires { ⌜ Standing (now vertices) (now walks) (now hops) x ⌝ }
+fn walks_at<'a>(vertices: &[u8], walks: &'a [u8], hops: &'a [u8], size: usize, x: usize) -> &'a [u8]
+    requires { ⌜ Standing size (now vertices) (now walks) (now hops) x × (16 ≤ size) ⌝ }
     ensures { λ r. ⌜ now r ≡ walksAt (now (vertices .entry)) (now (walks .entry)) x ⌝ }
 {
     let first = records::first_arriving(vertices, Kind::Walks, x);
     let end = records::end_arriving(vertices, Kind::Walks, x, walks.len() / 16);
-    records::arriving(walks, hops, Kind::Walks, first, end)
+    records::arriving(walks, hops, size, Kind::Walks, first, end)
 }
 
 // The hops that arrive at x: a part of the hop table.
-fn hops_at<'a>(vertices: &[u8], walks: &'a [u8], hops: &'a [u8], x: usize) -> &'a [u8]
-    requires { ⌜ Standing (now vertices) (now walks) (now hops) x ⌝ }
-    ensures { λ r. ⌜ now r ≡ hopsAt (now (vertices .entry)) (now (hops .entry)) x ⌝ }
+fn hops_at<'a>(vertices: &[u8], walks: &'a [u8], hops: &'a [u8], size: usize, x: usize) -> &'a [u8]
+    requires { ⌜ Standing size (now vertices) (now walks) (now hops) x × (16 ≤ size) ⌝ }
+    ensures { λ r. ⌜ now r ≡ hopsAt size (now (vertices .entry)) (now (hops .entry)) x ⌝ }
 {
     let first = records::first_arriving(vertices, Kind::Hops, x);
-    let end = records::end_arriving(vertices, Kind::Hops, x, hops.len() / 16);
-    records::arriving(walks, hops, Kind::Hops, first, end)
+    let end = records::end_arriving(vertices, Kind::Hops, x, hops.len() / size);
+    records::arriving(walks, hops, size, Kind::Hops, first, end)
 }
 
 // The vertex x at its slot is settled, and the records that arrive at it are passed.
@@ -77,8 +77,8 @@ fn settle_and_pass<'a>(
     ensures { λ r. ⌜ ArrivedIs t (now (held .exit)) (mapAfter (now (vertices .entry)) (now (walks .entry)) (now (hops .entry)) x arriving (mapOf t (now (held .entry)))) r × (now (scratch .exit) ≡ replicate 2048 0) ⌝ }
 {
     let settled = settle_next(held, t, x, slot);
-    let walked = walks_at(vertices, walks, hops, x);
-    let ridden = hops_at(vertices, walks, hops, x);
+    let walked = walks_at(vertices, walks, hops, arriving.size, x);
+    let ridden = hops_at(vertices, walks, hops, arriving.size, x);
     arrivals::arrive(held, settled, vertices, walked, ridden, arriving, scratch)
 }
 
@@ -144,19 +144,21 @@ pub fn arriving_at(
     vertices: &[u8],
     walks: &[u8],
     hops: &[u8],
+    hop_size: usize,
     x: usize,
     d: u32,
     arrival: Seconds,
     speed: u32,
 ) -> Arriving
-    requires { ⌜ Standing (now vertices) (now walks) (now hops) x ⌝ }
-    ensures { λ r. ⌜ r ≡ arrivingAt (now (vertices .entry)) (now (walks .entry)) (now (hops .entry)) x d arrival speed ⌝ }
+    requires { ⌜ Standing «hop_size» (now vertices) (now walks) (now hops) x × (0 < «hop_size») ⌝ }
+    ensures { λ r. ⌜ r ≡ arrivingAt «hop_size» (now (vertices .entry)) (now (walks .entry)) (now (hops .entry)) x d arrival speed ⌝ }
 {
     let first_walk = records::first_arriving(vertices, Kind::Walks, x);
     let first_hop = records::first_arriving(vertices, Kind::Hops, x);
     Arriving {
         walks: records::end_arriving(vertices, Kind::Walks, x, walks.len() / 16) - first_walk,
-        hops: records::end_arriving(vertices, Kind::Hops, x, hops.len() / 16) - first_hop,
+        hops: records::end_arriving(vertices, Kind::Hops, x, hops.len() / hop_size) - first_hop,
+        size: hop_size,
         distance: Ticks(d),
         arrival: arrival,
         speed: speed,

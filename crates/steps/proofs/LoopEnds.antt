@@ -49,15 +49,15 @@ module _ (t : Table) (b : List ℕ) (D : ℕ) (r : Nearest) (h : NextIs t b D r)
   unfolding WaitsIs
   waits-not e = subst (NextIs t b D) e h
 
-module _ (v w h : List ℕ) (heldLong settledLong : ℕ) (Q : query.Query) (ok : Valid (tablesOf v w h) Q) (p : Progress) (held settled : List ℕ) (H : Stands v w h heldLong settledLong Q p held settled) where
+module _ (size : ℕ) (wide : 16 ≤ size) (v w h : List ℕ) (heldLong settledLong : ℕ) (Q : query.Query) (ok : Valid (tablesOf size v w h) Q) (p : Progress) (held settled : List ℕ) (H : Stands size v w h heldLong settledLong Q p held settled) where
   abbrev N : Tables
-  N = tablesOf v w h
+  N = tablesOf size v w h
 
   abbrev G : Network
   G = network N Q
 
   -- the order is there, so the run stands somewhere
-  stand : Running (lent v w h (replicate heldLong 0) (replicate settledLong 0)) Q (orderOf N Q ok) p held settled
+  stand : Running (lent v w h size (replicate heldLong 0) (replicate settledLong 0)) Q (orderOf N Q ok) p held settled
   unfolding Stands
   stand = H (replicate heldLong 0) (replicate settledLong 0) (length-replicate {A = ℕ} heldLong 0) (length-replicate {A = ℕ} settledLong 0) (orderOf N Q ok) (order-is N Q ok)
 
@@ -73,7 +73,7 @@ module _ (v w h : List ℕ) (heldLong settledLong : ℕ) (Q : query.Query) (ok :
       (omega (arith, room .1, long, stand .long), omega (arith, stand .made, most, ok .tables .vertices-few))
 
   -- Nothing waits within D: the whole order is settled.
-  pub whole : (limit : ℕ) → p .settled ≤ limit → NextIs (p .table) held (allowed Q) Nearest.Nothing → Ends v w h heldLong settledLong Q limit held settled (Done p 1)
+  pub whole : (limit : ℕ) → p .settled ≤ limit → NextIs (p .table) held (allowed Q) Nearest.Nothing → Ends size v w h heldLong settledLong Q limit held settled (Done p 1)
   unfolding Stands Ends EndedIs NextIs
   whole limit below n x y a c l O =
       let R = H x y a c l O in
@@ -96,27 +96,27 @@ module _ (v w h : List ℕ) (heldLong settledLong : ℕ) (Q : query.Query) (ok :
     unfolding NextIs
     near = n .2
 
-    ahead : {y z : List ℕ} {l : List Settled} → Running (lent v w h y z) Q l p held settled → Foremost (heldMap G (distanceIn (take (p .settled) l))) x d
+    ahead : {y z : List ℕ} {l : List Settled} → Running (lent v w h size y z) Q l p held settled → Foremost (heldMap G (distanceIn (take (p .settled) l))) x d
     ahead R = subst (λ (m : Map). Foremost m x d) (R .table .map) front
 
     -- The limit is reached while a vertex waits within D.
-    pub more-left : (limit : ℕ) → p .settled ≡ limit → Ends v w h heldLong settledLong Q limit held settled (Done p 0)
+    pub more-left : (limit : ℕ) → p .settled ≡ limit → Ends size v w h heldLong settledLong Q limit held settled (Done p 0)
     unfolding Stands Ends EndedIs
     more-left limit e y z a c l O =
         let R = H y z a c l O in
-        let f = one-further v w h Q ok O (bounded-is N Q ok) (p .settled) (R .made) x d (ahead R) near in
+        let f = one-further size wide v w h Q ok O (bounded-is N Q ok) (p .settled) (R .made) x d (ahead R) near in
         record { running = R; steps = omega (arith, f .0); finished-is = sym (cond-false 1 0 (lt-leb (length l) (p .settled) (f .0))) }
 
     pub x-low : x < length v / 12
-    x-low = rw (vertex-count v w h) at (foremost-next G (distanceIn (take (p .settled) (orderOf N Q ok))) (bounded-is N Q ok) x d (ahead stand) .0 .low)
+    x-low = rw (vertex-count size v w h) at (foremost-next G (distanceIn (take (p .settled) (orderOf N Q ok))) (bounded-is N Q ok) x d (ahead stand) .0 .low)
 
     -- its arriving records are a run of each table
-    pub run-fits : Standing v w h x
-    run-fits = standing v w h (ok .tables) x x-low
+    pub run-fits : Standing size v w h x
+    run-fits = standing size v w h (ok .tables) x x-low
 
     module _ (A : Seconds) (clock : clocked (A .0) ≡ Q .arrival) where
       abbrev r : Arriving
-      r = arrivingAt v w h x d A (Q .speed)
+      r = arrivingAt size v w h x d A (Q .speed)
 
       -- the step may begin
       pub begins : Begins v w h x s r (p .table) held
@@ -128,11 +128,11 @@ module _ (v w h : List ℕ) (heldLong settledLong : ℕ) (Q : query.Query) (ok :
             unsettled = front .waits .unsettled;
             some = omega (arith, front .waits .at, front .waits .some);
             standing = run-fits;
-            sound = sound-next v w h Q ok (order-is N Q ok) (bounded-is N Q ok) (p .settled) (stand .made) x d (ahead stand) near A clock;
-            leaves = leaves-next v w h Q ok (order-is N Q ok) (bounded-is N Q ok) (p .settled) (stand .made) x d (ahead stand) near A clock;
+            sound = sound-next size wide v w h Q ok (order-is N Q ok) (bounded-is N Q ok) (p .settled) (stand .made) x d (ahead stand) near A clock;
+            leaves = leaves-next size wide v w h Q ok (order-is N Q ok) (bounded-is N Q ok) (p .settled) (stand .made) x d (ahead stand) near A clock;
             enough =
                 subst (λ (m : Map). Enough (rowAt v w h x r) (passes r) (settledNow m x)) (sym (stand .table .map))
-                (enough-next v w h Q ok (order-is N Q ok) (bounded-is N Q ok) (p .settled) (stand .made) x d (ahead stand) near A clock);
+                (enough-next size wide v w h Q ok (order-is N Q ok) (bounded-is N Q ok) (p .settled) (stand .made) x d (ahead stand) near A clock);
           }
 
       abbrev M : Map
@@ -151,24 +151,24 @@ module _ (v w h : List ℕ) (heldLong settledLong : ℕ) (Q : query.Query) (ok :
         unfolding StepIs
         one-counted q T = T .count
 
-        pub stands-on : (q : Progress) → StepIs p M x d held′ settled settled′ (Next q) → Stands v w h heldLong settledLong Q q held′ settled′
+        pub stands-on : (q : Progress) → StepIs p M x d held′ settled settled′ (Next q) → Stands size v w h heldLong settledLong Q q held′ settled′
         unfolding Stands StepIs
-        stands-on q T y z a c l O = onward (lent v w h y z) Q ok O (bounded-is N Q ok) p held settled (H y z a c l O) x d front near A clock held′ settled′ q T
+        stands-on q T y z a c l O = onward (lent v w h size y z) wide Q ok O (bounded-is N Q ok) p held settled (H y z a c l O) x d front near A clock held′ settled′ q T
 
-        pub stops : (limit n′ : ℕ) → p .settled < limit → StepIs p M x d held′ settled settled′ (Full n′) → Ends v w h heldLong settledLong Q limit held′ settled′ (Refused n′ (p .settled + 1))
+        pub stops : (limit n′ : ℕ) → p .settled < limit → StepIs p M x d held′ settled settled′ (Full n′) → Ends size v w h heldLong settledLong Q limit held′ settled′ (Refused n′ (p .settled + 1))
         unfolding Stands StepIs Ends EndedIs
         stops limit n′ below T y z a c l O =
-            subst (λ (j : ℕ). Short (lent v w h y z) Q l limit n′ j) (let e : suc (p .settled) ≡ p .settled + 1 = omega arith in e)
-            (onward-short (lent v w h y z) Q ok O (bounded-is N Q ok) p held settled (H y z a c l O) x d front near A clock held′ settled′ limit n′ below T)
+            subst (λ (j : ℕ). Short (lent v w h size y z) Q l limit n′ j) (let e : suc (p .settled) ≡ p .settled + 1 = omega arith in e)
+            (onward-short (lent v w h size y z) wide Q ok O (bounded-is N Q ok) p held settled (H y z a c l O) x d front near A clock held′ settled′ limit n′ below T)
 
   -- The limit is reached, and `waits` tells whether a vertex waits within D.
   module _ (D : ℕ) (q : D ≡ allowed Q) (r : Bool) (W : WaitsIs (p .table) held D r) (limit : ℕ) where
-    pub some-wait : p .settled ≡ limit → r ≡ true → Ends v w h heldLong settledLong Q limit held settled (Done p 0)
+    pub some-wait : p .settled ≡ limit → r ≡ true → Ends size v w h heldLong settledLong Q limit held settled (Done p 0)
     unfolding WaitsIs
     some-wait e t =
         let n = subst (λ (z : ℕ). WaitsIs (p .table) held z true) q (subst (WaitsIs (p .table) held D) t W) in
         more-left (n .0) (n .1) (n .2) (n .3) limit e
 
-    pub none-wait : p .settled ≤ limit → r ≡ false → Ends v w h heldLong settledLong Q limit held settled (Done p 1)
+    pub none-wait : p .settled ≤ limit → r ≡ false → Ends size v w h heldLong settledLong Q limit held settled (Done p 1)
     unfolding WaitsIs
     none-wait below t = whole limit below (subst (λ (z : ℕ). WaitsIs (p .table) held z false) q (subst (WaitsIs (p .table) held D) t W))

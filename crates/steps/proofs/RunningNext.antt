@@ -42,7 +42,7 @@ front-next : (d p : List ℕ) (at n : ℕ) → at ≤ length d → at + length p
 unfolding written
 front-next d p at n h e = take-at (take at d ++ p) (drop (at + length p) d) n (omega (arith, length-append (take at d) p, length-take-le at d h))
 
-module _ (b : Lent) (Q : Query) (ok : Valid (tables b) Q) {l : List Settled} (O : IsOrder (tables b) Q l) (bounded : Bounded (network (tables b) Q))
+module _ (b : Lent) (wide : 16 ≤ b .hopSize) (Q : Query) (ok : Valid (tables b) Q) {l : List Settled} (O : IsOrder (tables b) Q l) (bounded : Bounded (network (tables b) Q))
     (p : Progress) (held settled : List ℕ) (H : Running b Q l p held settled) (x d : ℕ) (F : Foremost (mapOf (p .table) held) x d) (near : d ≤ allowed Q)
     (A : Seconds) (clock : clocked (A .0) ≡ Q .arrival) where
   abbrev N : Tables
@@ -58,10 +58,10 @@ module _ (b : Lent) (Q : Query) (ok : Valid (tables b) Q) {l : List Settled} (O 
   F′ = subst (λ (m : Map). Foremost m x d) (H .table .map) F
 
   further : (k < length l) × (take (suc k) l ≡ take k l ++ order.settled x d ∷ [])
-  further = one-further (b .vertices) (b .walks) (b .hops) Q ok O bounded k (H .made) x d F′ near
+  further = one-further (b .hopSize) wide (b .vertices) (b .walks) (b .hops) Q ok O bounded k (H .made) x d F′ near
 
   abbrev r : Arriving
-  r = arrivingAt (b .vertices) (b .walks) (b .hops) x d A (Q .speed)
+  r = arrivingAt (b .hopSize) (b .vertices) (b .walks) (b .hops) x d A (Q .speed)
 
   -- the map that the step makes
   abbrev M : Map
@@ -70,7 +70,7 @@ module _ (b : Lent) (Q : Query) (ok : Valid (tables b) Q) {l : List Settled} (O 
   M-is : M ≡ heldMap G (distanceIn (take (suc k) l))
   M-is =
       ap (λ (m : Map). mapAfter (b .vertices) (b .walks) (b .hops) x r m) (H .table .map)
-      ∙ map-next (b .vertices) (b .walks) (b .hops) Q ok O bounded k (H .made) x d F′ near A clock
+      ∙ map-next (b .hopSize) wide (b .vertices) (b .walks) (b .hops) Q ok O bounded k (H .made) x d F′ near A clock
 
   size-M : size M ≡ length (heldAfter b Q l (suc k))
   size-M = ap size M-is ∙ size-held G (distanceIn (take (suc k) l)) bounded (ok .tables .vertices-few)

@@ -47,13 +47,13 @@ EndedIs b Q l limit held settled (Done p finished) = Over b Q l limit p finished
 EndedIs b Q l limit held settled (Refused number step) = Short b Q l limit number step
 
 -- whatever was lent in buffers of these lengths, and for the order of settling, whichever list that is
-unfoldable pub Stands : List ℕ → List ℕ → List ℕ → ℕ → ℕ → query.Query → Progress → List ℕ → List ℕ → Type 0
-Stands v w h heldLong settledLong Q p held settled =
-    (x y : List ℕ) → length x ≡ heldLong → length y ≡ settledLong → (l : List Settled) → IsOrder (tablesOf v w h) Q l → Running (lent v w h x y) Q l p held settled
+unfoldable pub Stands : ℕ → List ℕ → List ℕ → List ℕ → ℕ → ℕ → query.Query → Progress → List ℕ → List ℕ → Type 0
+Stands size v w h heldLong settledLong Q p held settled =
+    (x y : List ℕ) → length x ≡ heldLong → length y ≡ settledLong → (l : List Settled) → IsOrder (tablesOf size v w h) Q l → Running (lent v w h size x y) Q l p held settled
 
-unfoldable pub Ends : List ℕ → List ℕ → List ℕ → ℕ → ℕ → query.Query → ℕ → List ℕ → List ℕ → Ended → Type 0
-Ends v w h heldLong settledLong Q limit held settled r =
-    (x y : List ℕ) → length x ≡ heldLong → length y ≡ settledLong → (l : List Settled) → IsOrder (tablesOf v w h) Q l → EndedIs (lent v w h x y) Q l limit held settled r
+unfoldable pub Ends : ℕ → List ℕ → List ℕ → List ℕ → ℕ → ℕ → query.Query → ℕ → List ℕ → List ℕ → Ended → Type 0
+Ends size v w h heldLong settledLong Q limit held settled r =
+    (x y : List ℕ) → length x ≡ heldLong → length y ≡ settledLong → (l : List Settled) → IsOrder (tablesOf size v w h) Q l → EndedIs (lent v w h size x y) Q l limit held settled r
 
 -- whether a vertex waits within D
 unfoldable pub WaitsIs : Table → List ℕ → ℕ → Bool → Type 0

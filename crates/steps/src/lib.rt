@@ -8,6 +8,7 @@ use words::Ticks;
 use worktable::Nearest;
 use worktable::Table;
 ghost use mathlib.Core.Path.{_≡_};
+ghost use Prim.Native.Nat.{_≤_};
 ghost use lib.ListN.{length, replicate};
 ghost use Rattle.journeys.specs.Tables.{tablesOf};
 ghost use Rattle.journeys.specs.Query as query;
@@ -38,6 +39,7 @@ pub fn steps<'a>(
     vertices: &[u8],
     walks: &'a [u8],
     hops: &'a [u8],
+    hop_size: usize,
     held: &mut [u8],
     settled: &mut [u8],
     scratch: &mut [u16],
@@ -46,9 +48,9 @@ pub fn steps<'a>(
     allowed: Ticks,
     limit: u32,
 ) -> Ended
-    requires { ⌜ Valid (tablesOf (now vertices) (now walks) (now hops)) (queryOf q) × (allowed .0 ≡ query.allowed (queryOf q)) × (now scratch ≡ replicate 2048 0) × (start .settled ≡ 0) ⌝ }
-    requires { ⌜ Stands (now vertices) (now walks) (now hops) (length (now held)) (length (now settled)) (queryOf q) start (now held) (now settled) ⌝ }
-    ensures { λ r. ⌜ Ends (now (vertices .entry)) (now (walks .entry)) (now (hops .entry)) (length (now (held .entry))) (length (now (settled .entry))) (queryOf q) limit (now (held .exit)) (now (settled .exit)) r ⌝ }
+    requires { ⌜ Valid (tablesOf «hop_size» (now vertices) (now walks) (now hops)) (queryOf q) × (allowed .0 ≡ query.allowed (queryOf q)) × (now scratch ≡ replicate 2048 0) × (start .settled ≡ 0) × (16 ≤ «hop_size») ⌝ }
+    requires { ⌜ Stands «hop_size» (now vertices) (now walks) (now hops) (length (now held)) (length (now settled)) (queryOf q) start (now held) (now settled) ⌝ }
+    ensures { λ r. ⌜ Ends «hop_size» (now (vertices .entry)) (now (walks .entry)) (now (hops .entry)) (length (now (held .entry))) (length (now (settled .entry))) (queryOf q) limit (now (held .exit)) (now (settled .exit)) r ⌝ }
     ensures { λ _. ⌜ now (scratch .exit) ≡ replicate 2048 0 ⌝ }
 {
     let mut p = start;
@@ -57,7 +59,16 @@ pub fn steps<'a>(
         let Nearest::At(slot, x, d) = stepping::next(held, table, allowed.0) else {
             return Ended::Done(p, 1);
         };
-        let arriving = stepping::arriving_at(vertices, walks, hops, x, d, q.arrival, q.speed);
+        let arriving = stepping::arriving_at(
+            vertices,
+            walks,
+            hops,
+            hop_size,
+            x,
+            d,
+            q.arrival,
+            q.speed,
+        );
         match stepping::step(
             vertices,
             walks,

@@ -1,11 +1,11 @@
 -- Where each number that passes one test leads to a number of its own that passes another, the other passes at least as often. Assumes nothing.
 use mathlib.Core.Path.{_≡_, refl, sym, ap, _∙_}
-use mathlib.Core.Logic.{_≢_, ⊎-elim}
+use mathlib.Core.Logic.{⊎-elim}
 use mathlib.Core.Bool.{Bool, true, false, not, _&&_}
 use Prim.Native.Nat.{ℕ, zero, suc, _+_, _≤_, _<_}
 use native.Mathlib.Omega.{arith}
 use lib.Dec.{eqb}
-use borrow.Author.Tests.{eq-eqb, ne-eqb}
+use borrow.Author.Tests.{ne-eqb}
 use Rattle.journeys.specs.Counting.{one, count}
 use Rattle.journeys.proofs.Tests.{split, and-true, never, Test, same, other, test}
 use Rattle.journeys.proofs.Counting.{is-one, is-zero, count-join, none-count}

@@ -1,13 +1,14 @@
 -- `arrivals::arrive` meets its contract by one of the two ways. Assumes nothing.
 use native.Mathlib.Omega.{arith}
 use Rattle.meeting.proofs.Leading as le
+use Rattle.passing.proofs.Few.{hops-few}
 use borrow.Author.Needs.{needs}
 use Rattle.arrivals.proofs.arrive.Statement.{statement}
 use Rattle.arrivals.proofs.arrive.Tie as tie
 
 add-if1 : tie.Need-add-if1
 add-if1 c =
-    let s = c .before .before .before .before .before .before in record { fits = omega (arith, s .pre .0 .sound .counted .walks, s .pre .0 .sound .counted .hops, s .good) }
+    let s = c .before .before .before .before .before .before in record { fits = omega (arith, s .pre .0 .sound .counted .walks, hops-few (s .pre .0 .sound .counted), s .good) }
 
 free-requires : tie.Need-free-requires
 free-requires c κs = c .before .before .before .before .before .before .before .pre .0 .order

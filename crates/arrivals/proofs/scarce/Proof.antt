@@ -9,6 +9,7 @@ use Rattle.meeting.proofs.Loops.{from-low}
 use Rattle.halves.specs.Half.{halved}
 use Rattle.halves.proofs.NextRecord.{zero-length}
 use Rattle.arrivals.proofs.HalvesAreStep as hs
+use Rattle.passing.proofs.Few.{hops-few}
 use borrow.Author.Needs.{needs}
 use Rattle.arrivals.proofs.scarce.Statement.{statement}
 use Rattle.arrivals.proofs.scarce.Tie as tie
@@ -19,7 +20,7 @@ clear-requires c κs =
 
 add-if1 : tie.Need-add-if1
 add-if1 c =
-    let s = c .before .before .before .before .before .before .before .before .before .before .before .before .before .before .before .before .before in record { fits = omega (arith, s .pre .0 .sound .counted .walks, s .pre .0 .sound .counted .hops, s .good) }
+    let s = c .before .before .before .before .before .before .before .before .before .before .before .before .before .before .before .before .before in record { fits = omega (arith, s .pre .0 .sound .counted .walks, hops-few (s .pre .0 .sound .counted), s .good) }
 
 end-both-requires : tie.Need-end-both-requires
 end-both-requires c κs =

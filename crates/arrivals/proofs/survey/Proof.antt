@@ -16,6 +16,7 @@ use Rattle.halves.specs.Half.{newTo}
 use Rattle.halves.proofs.NextRecord as nx
 use Rattle.arrivals.specs.Survey.{touches}
 use Rattle.arrivals.proofs.TallyIsGrowth as ta
+use Rattle.passing.proofs.Few.{hops-few}
 use borrow.Author.Needs.{needs}
 use Rattle.arrivals.proofs.survey.Statement.{statement}
 use Rattle.arrivals.proofs.survey.Tie as tie
@@ -33,7 +34,7 @@ abbrev μ-loop : tie.MeasureT-loop
 
 add-n : tie.Need-add-n Inv-loop μ-loop
 add-n c =
-    let s = c .before .before .before .before .before .before in record { fits = omega (arith, s .pre .0 .sound .counted .walks, s .pre .0 .sound .counted .hops, s .good) }
+    let s = c .before .before .before .before .before .before in record { fits = omega (arith, s .pre .0 .sound .counted .walks, hops-few (s .pre .0 .sound .counted), s .good) }
 
 loop-holds : tie.Need-loop-holds Inv-loop μ-loop
 unfolding goes newTo
@@ -55,12 +56,12 @@ survey-one-requires c κs =
     let R = rowOf (a .vertices .now) (a .walks .now) (a .hops .now) (a .arriving) in
     let i = L .inv .0 .leads in (
       (i .holds .order, c .before .before .offer-at .ensures .1, ta.touched-some R (passes (a .arriving)) (mapOf (a .t) (a .held .now)) (L .j) l (c .before .before .before .from-at .ensures) (s .pre .0 .enough) (i .holds .map)),
-      (omega (arith, L .inv .4, l), omega (arith, L .inv .5, l, s .pre .0 .sound .counted .walks, s .pre .0 .sound .counted .hops, s .good), L .inv .1 ∙ nx.zero-length (s .pre .1)),
+      (omega (arith, L .inv .4, l), omega (arith, L .inv .5, l, s .pre .0 .sound .counted .walks, hops-few (s .pre .0 .sound .counted), s .good), L .inv .1 ∙ nx.zero-length (s .pre .1)),
     )
 
 add-j : tie.Need-add-j Inv-loop μ-loop
 add-j c =
-    let s = c .before .before .before .before .before .before .before .before .before .before .before .before .before .before .before .before .before in record { fits = omega (arith, c .before .before .before .before .before .before .before .before .before .loop-test .taken, s .pre .0 .sound .counted .walks, s .pre .0 .sound .counted .hops, s .good) }
+    let s = c .before .before .before .before .before .before .before .before .before .before .before .before .before .before .before .before .before in record { fits = omega (arith, c .before .before .before .before .before .before .before .before .before .loop-test .taken, s .pre .0 .sound .counted .walks, hops-few (s .pre .0 .sound .counted), s .good) }
 
 loop-again : tie.Need-loop-again Inv-loop μ-loop
 loop-again c =

@@ -25,7 +25,7 @@ judge-requires c κs =
           s .pre .1 .1 .0 .0,
           (
             s .pre .1 .1 .0 .1,
-            departs-exact (now (a .vertices)) (now (a .walks)) (now (a .hops)) (counted .count-departing .last .1 .1 .1 .1 .0) (counted .before .before .lesser .result) (counted .count-departing .result) (1904 * a .g) own,
+            departs-exact (a .hop-size) (now (a .vertices)) (now (a .walks)) (now (a .hops)) (counted .count-departing .last .1 .1 .1 .1 .1 .0) (counted .before .before .lesser .result) (counted .count-departing .result) (1904 * a .g) own,
           ),
         ),
       ),
@@ -39,8 +39,8 @@ returns c =
     let a = s .args in
     let own = counted .count-departing .ensures .0 in
     let e = counted .before .before .lesser .ensures in
-    let n : (vertexRefusals (tablesOf (now (a .vertices)) (now (a .walks)) (now (a .hops))) (counted .count-departing .result) (1904 * a .g) .number ≡ 0 → ⊥) = λ z. c .if1 .taken (same-number (found .judge .ensures) ∙ z) in (
-      found .judge .ensures ∙ block-found (tablesOf (now (a .vertices)) (now (a .walks)) (now (a .hops))) (counted .count-departing .result) (counted .before .before .lesser .result) (1904 * a .g) (own .within) n ∙ ap (λ (k : ℕ). vertexRefusals (tablesOf (now (a .vertices)) (now (a .walks)) (now (a .hops))) k (1904 * a .g)) e,
+    let n : (vertexRefusals (tablesOf (a .hop-size) (now (a .vertices)) (now (a .walks)) (now (a .hops))) (counted .count-departing .result) (1904 * a .g) .number ≡ 0 → ⊥) = λ z. c .if1 .taken (same-number (found .judge .ensures) ∙ z) in (
+      found .judge .ensures ∙ block-found (tablesOf (a .hop-size) (now (a .vertices)) (now (a .walks)) (now (a .hops))) (counted .count-departing .result) (counted .before .before .lesser .result) (1904 * a .g) (own .within) n ∙ ap (λ (k : ℕ). vertexRefusals (tablesOf (a .hop-size) (now (a .vertices)) (now (a .walks)) (now (a .hops))) k (1904 * a .g)) e,
       counted .count-departing .ensures .1,
     )
 
@@ -52,9 +52,9 @@ returns-2 c =
     let a = s .args in
     let own = counted .count-departing .ensures .0 in
     let e = counted .before .before .lesser .ensures in
-    let z : vertexRefusals (tablesOf (now (a .vertices)) (now (a .walks)) (now (a .hops))) (counted .count-departing .result) (1904 * a .g) .number ≡ 0 = sym (same-number (found .judge .ensures)) ∙ c .before .before .if1 .left in
-    let bad = departs-over (now (a .vertices)) (now (a .walks)) (now (a .hops)) _ (counted .before .before .lesser .result) (counted .count-departing .result) (1904 * a .g) own (c .before .if2 .taken) (omega (arith, e)) (λ i. omega (arith, counted .before .before .before .before .before .before .shared-slice-known .given i)) in (
-      c .refused .ensures ∙ block-passed (tablesOf (now (a .vertices)) (now (a .walks)) (now (a .hops))) (counted .count-departing .result) (counted .before .before .lesser .result) (1904 * a .g) (own .within) z (c .before .if2 .taken) bad ∙ ap (λ (k : ℕ). vertexRefusals (tablesOf (now (a .vertices)) (now (a .walks)) (now (a .hops))) k (1904 * a .g)) e,
+    let z : vertexRefusals (tablesOf (a .hop-size) (now (a .vertices)) (now (a .walks)) (now (a .hops))) (counted .count-departing .result) (1904 * a .g) .number ≡ 0 = sym (same-number (found .judge .ensures)) ∙ c .before .before .if1 .left in
+    let bad = departs-over (a .hop-size) (now (a .vertices)) (now (a .walks)) (now (a .hops)) _ (counted .before .before .lesser .result) (counted .count-departing .result) (1904 * a .g) own (c .before .if2 .taken) (omega (arith, e)) (λ i. omega (arith, counted .before .before .before .before .before .before .shared-slice-known .given i)) in (
+      c .refused .ensures ∙ block-passed (tablesOf (a .hop-size) (now (a .vertices)) (now (a .walks)) (now (a .hops))) (counted .count-departing .result) (counted .before .before .lesser .result) (1904 * a .g) (own .within) z (c .before .if2 .taken) bad ∙ ap (λ (k : ℕ). vertexRefusals (tablesOf (a .hop-size) (now (a .vertices)) (now (a .walks)) (now (a .hops))) k (1904 * a .g)) e,
       counted .count-departing .ensures .1,
     )
 
@@ -66,7 +66,7 @@ returns-3 c =
     let a = s .args in
     let own = counted .count-departing .ensures .0 in
     let e : counted .count-departing .result ≡ min 1904 (length (now (a .vertices)) / 12 - 1904 * a .g) = omega (arith, counted .before .before .lesser .ensures, own .within, c .if2 .left) in
-    (found .judge .ensures ∙ ap (λ (k : ℕ). vertexRefusals (tablesOf (now (a .vertices)) (now (a .walks)) (now (a .hops))) k (1904 * a .g)) e, counted .count-departing .ensures .1)
+    (found .judge .ensures ∙ ap (λ (k : ℕ). vertexRefusals (tablesOf (a .hop-size) (now (a .vertices)) (now (a .walks)) (now (a .hops))) k (1904 * a .g)) e, counted .count-departing .ensures .1)
 
 pub block-spec : {M : Type 1} → statement M
 block-spec =

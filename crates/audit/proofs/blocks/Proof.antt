@@ -18,22 +18,22 @@ use Rattle.audit.proofs.blocks.Statement.{statement}
 use Rattle.audit.proofs.blocks.Tie as tie
 
 abbrev Inv-loop : tie.InvT-loop
-Inv-loop vertices walks hops start scratch₀ n g₀ scratch g =
+Inv-loop vertices walks hops hop-size start scratch₀ n g₀ scratch g =
     (n ≡ length vertices / 12)
     × (g ≤ 35)
     × (length scratch ≡ 2048)
     × Noted 16 walks 1904 (recordsIn 16 walks) scratch
-    × Noted 16 hops 1974 (recordsIn 16 hops) scratch
-    × (vertexRefusals (tablesOf vertices walks hops) (length vertices / 12 - 1904 * g) (1904 * g) ≡ vertexRefusals (tablesOf vertices walks hops) (length vertices / 12) 0)
+    × Noted hop-size hops 1974 (recordsIn hop-size hops) scratch
+    × (vertexRefusals (tablesOf hop-size vertices walks hops) (length vertices / 12 - 1904 * g) (1904 * g) ≡ vertexRefusals (tablesOf hop-size vertices walks hops) (length vertices / 12) 0)
 
 abbrev μ-loop : tie.MeasureT-loop
-μ-loop vertices walks hops start scratch₀ n g₀ scratch g = n - 1904 * g
+μ-loop vertices walks hops hop-size start scratch₀ n g₀ scratch g = n - 1904 * g
 
 loop-holds : tie.Need-loop-holds Inv-loop μ-loop
 loop-holds c =
     let s = c .before .before .before .before in
     let a = s .args in
-    let ok = good-before (tablesOf (now (a .vertices)) (now (a .walks)) (now (a .hops))) (1904 * a .start) (length (now (a .vertices)) / 12) (s .pre .1 .0 .0) (s .pre .1 .1 .0) in
+    let ok = good-before (tablesOf (a .hop-size) (now (a .vertices)) (now (a .walks)) (now (a .hops))) (1904 * a .start) (length (now (a .vertices)) / 12) (s .pre .1 .0 .0) (s .pre .1 .1 .0) in
     (refl, omega (arith, s .pre .0 .vertices-most), s .pre .1 .0 .1, s .pre .1 .1 .1 .1 .0, s .pre .1 .1 .1 .1 .1, ok)
 
 mul-loop : tie.Need-mul-loop Inv-loop μ-loop
@@ -54,8 +54,8 @@ returns c =
     let s = call .before .before .before .before .before .before .before .before in
     let a = s .args in
     let n = length (now (a .vertices)) / 12 in
-    let q : (vertexRefusals (tablesOf (now (a .vertices)) (now (a .walks)) (now (a .hops))) (min 1904 (n - 1904 * loop .g)) (1904 * loop .g) .number ≡ 0 → ⊥) = λ z. c .if1 .taken (same-number (call .block .ensures .0) ∙ z) in
-    call .block .ensures .0 ∙ block-refuses (tablesOf (now (a .vertices)) (now (a .walks)) (now (a .hops))) n (loop .g) q ∙ loop .inv .5
+    let q : (vertexRefusals (tablesOf (a .hop-size) (now (a .vertices)) (now (a .walks)) (now (a .hops))) (min 1904 (n - 1904 * loop .g)) (1904 * loop .g) .number ≡ 0 → ⊥) = λ z. c .if1 .taken (same-number (call .block .ensures .0) ∙ z) in
+    call .block .ensures .0 ∙ block-refuses (tablesOf (a .hop-size) (now (a .vertices)) (now (a .walks)) (now (a .hops))) n (loop .g) q ∙ loop .inv .5
 
 add-g : tie.Need-add-g Inv-loop μ-loop
 add-g c = omega arith
@@ -70,16 +70,16 @@ loop-again c =
     let s = call .before .before .before .before .before .before .before .before in
     let a = s .args in
     let n = length (now (a .vertices)) / 12 in
-    let last = call .block .last .1 .1 .1 .1 .0 in
-    let z : vertexRefusals (tablesOf (now (a .vertices)) (now (a .walks)) (now (a .hops))) (min 1904 (n - 1904 * loop .g)) (1904 * loop .g) .number ≡ 0 = sym (same-number (call .block .ensures .0)) ∙ c .if1 .left in
+    let last = call .block .last .1 .1 .1 .1 .1 .0 in
+    let z : vertexRefusals (tablesOf (a .hop-size) (now (a .vertices)) (now (a .walks)) (now (a .hops))) (min 1904 (n - 1904 * loop .g)) (1904 * loop .g) .number ≡ 0 = sym (same-number (call .block .ensures .0)) ∙ c .if1 .left in
     let w = now (a .walks) in
     let h = now (a .hops) in (
       loop .inv .0,
       omega (arith, s .pre .0 .vertices-most),
       omega (arith, call .block .kept),
       noted-kept 16 w 1904 (recordsIn 16 w) 0 1904 (loop .scratch) last (λ i l. inr (omega arith)) (call .block .ensures .1) (loop .inv .3),
-      noted-kept 16 h 1974 (recordsIn 16 h) 0 1904 (loop .scratch) last (λ i l. inr (omega arith)) (call .block .ensures .1) (loop .inv .4),
-      block-good (tablesOf (now (a .vertices)) (now (a .walks)) (now (a .hops))) n (loop .g) z ∙ loop .inv .5,
+      noted-kept (a .hop-size) h 1974 (recordsIn (a .hop-size) h) 0 1904 (loop .scratch) last (λ i l. inr (omega arith)) (call .block .ensures .1) (loop .inv .4),
+      block-good (tablesOf (a .hop-size) (now (a .vertices)) (now (a .walks)) (now (a .hops))) n (loop .g) z ∙ loop .inv .5,
     )
 
 returns-2 : tie.Need-returns-2 Inv-loop μ-loop
@@ -89,7 +89,7 @@ returns-2 c =
     let s = c .before .before .before .before .before .before .before in
     let a = s .args in
     let n = length (now (a .vertices)) / 12 in
-    c .fine .ensures ∙ sym (scan-end 6 (vertexOk (tablesOf (now (a .vertices)) (now (a .walks)) (now (a .hops)))) (n - 1904 * loop .g) (1904 * loop .g) (omega arith)) ∙ loop .inv .5
+    c .fine .ensures ∙ sym (scan-end 6 (vertexOk (tablesOf (a .hop-size) (now (a .vertices)) (now (a .walks)) (now (a .hops)))) (n - 1904 * loop .g) (1904 * loop .g) (omega arith)) ∙ loop .inv .5
 
 pub blocks-spec : {M : Type 1} → statement M
 blocks-spec =

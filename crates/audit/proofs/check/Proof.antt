@@ -17,7 +17,7 @@ returns c =
     let s = one .before .before .before .before in
     let a = s .args in (
       one .lengths .ensures
-          ∙ sym (or-first (tableLengths (now (a .vertices)) (now (a .walks)) (now (a .hops))) (contents (tablesOf (now (a .vertices)) (now (a .walks)) (now (a .hops)))) (λ z. c .before .before .if1 .taken (same-number (one .lengths .ensures) ∙ z))),
+          ∙ sym (or-first (tableLengths (a .hop-size) (now (a .vertices)) (now (a .walks)) (now (a .hops))) (contents (tablesOf (a .hop-size) (now (a .vertices)) (now (a .walks)) (now (a .hops)))) (λ z. c .before .before .if1 .taken (same-number (one .lengths .ensures) ∙ z))),
       c .clear .ensures,
     )
 
@@ -26,7 +26,7 @@ contents-requires c κs =
     let one = c .before .before .before in
     let s = one .before .before .before .before in
     let a = s .args in
-    sizes (now (a .vertices)) (now (a .walks)) (now (a .hops)) (sym (same-number (one .lengths .ensures)) ∙ c .before .if1 .left)
+    sizes (a .hop-size) (now (a .vertices)) (now (a .walks)) (now (a .hops)) (sym (same-number (one .lengths .ensures)) ∙ c .before .if1 .left)
 
 returns-2 : tie.Need-returns-2
 unfolding check
@@ -36,7 +36,7 @@ returns-2 c =
     let s = one .before .before .before .before in
     let a = s .args in (
       c .contents .ensures .0
-          ∙ sym (or-next (tableLengths (now (a .vertices)) (now (a .walks)) (now (a .hops))) (contents (tablesOf (now (a .vertices)) (now (a .walks)) (now (a .hops)))) (sym (same-number (one .lengths .ensures)) ∙ call .before .if1 .left)),
+          ∙ sym (or-next (tableLengths (a .hop-size) (now (a .vertices)) (now (a .walks)) (now (a .hops))) (contents (tablesOf (a .hop-size) (now (a .vertices)) (now (a .walks)) (now (a .hops)))) (sym (same-number (one .lengths .ensures)) ∙ call .before .if1 .left)),
       c .contents .ensures .1,
     )
 

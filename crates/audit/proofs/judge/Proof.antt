@@ -14,12 +14,12 @@ use Rattle.audit.proofs.judge.Statement.{statement}
 use Rattle.audit.proofs.judge.Tie as tie
 
 abbrev Inv-loop : tie.InvT-loop
-Inv-loop vertices walks hops base low scratch k₀ k =
+Inv-loop vertices walks hops hop-size base low scratch k₀ k =
     (k ≤ low)
-    × (firstFrom (refusing 6 (vertexOk (tablesOf vertices walks hops))) (low - k) (base + k) ≡ vertexRefusals (tablesOf vertices walks hops) low base)
+    × (firstFrom (refusing 6 (vertexOk (tablesOf hop-size vertices walks hops))) (low - k) (base + k) ≡ vertexRefusals (tablesOf hop-size vertices walks hops) low base)
 
 abbrev μ-loop : tie.MeasureT-loop
-μ-loop vertices walks hops base low scratch k₀ k = low - k
+μ-loop vertices walks hops hop-size base low scratch k₀ k = low - k
 
 loop-holds : tie.Need-loop-holds Inv-loop μ-loop
 unfolding vertexRefusals
@@ -45,7 +45,7 @@ cast-read-vertex c = omega (arith, c .shared-slice-known5 .given (c .before .bef
 read-vertex-requires : tie.Need-read-vertex-requires Inv-loop μ-loop
 read-vertex-requires c κs =
     let s = c .before .before .before .before .before .before .before in
-    (omega arith, (s .pre .1 .1 .0, (s .pre .1 .1 .1 .0, s .pre .1 .1 .1 .1 (c .before .before .loop .k) (omega arith))))
+    ((omega arith, s .pre .0 .hop-fits), (s .pre .1 .1 .0, (s .pre .1 .1 .1 .0, s .pre .1 .1 .1 .1 (c .before .before .loop .k) (omega arith))))
 
 returns : tie.Need-returns Inv-loop μ-loop
 unfolding vertexRefusals
@@ -53,8 +53,8 @@ returns c =
     let loop = c .before .before .before .before .before .before .loop in
     let s = c .before .before .before .before .before .before .before .before .before .before .before in
     let a = s .args in
-    let bad = bad-vertex (tablesOf (now (a .vertices)) (now (a .walks)) (now (a .hops))) (a .base + loop .k) (c .before .before .before .read-vertex .ensures) (c .before .enum-told2 .given .1) in
-    c .refused .ensures ∙ sym (scan-stop 6 (vertexOk (tablesOf (now (a .vertices)) (now (a .walks)) (now (a .hops)))) (a .low - loop .k) (a .low - (loop .k + 1)) (a .base + loop .k) (omega arith) (omega arith) bad) ∙ loop .inv .1
+    let bad = bad-vertex (tablesOf (a .hop-size) (now (a .vertices)) (now (a .walks)) (now (a .hops))) (a .base + loop .k) (c .before .before .before .read-vertex .ensures) (c .before .enum-told2 .given .1) in
+    c .refused .ensures ∙ sym (scan-stop 6 (vertexOk (tablesOf (a .hop-size) (now (a .vertices)) (now (a .walks)) (now (a .hops)))) (a .low - loop .k) (a .low - (loop .k + 1)) (a .base + loop .k) (omega arith) (omega arith) bad) ∙ loop .inv .1
 
 add-k : tie.Need-add-k Inv-loop μ-loop
 add-k c = omega arith
@@ -68,11 +68,11 @@ loop-again c =
     let loop = c .before .before .before .before .before .loop in
     let s = c .before .before .before .before .before .before .before .before .before .before in
     let a = s .args in
-    let good = good-vertex (tablesOf (now (a .vertices)) (now (a .walks)) (now (a .hops))) (a .base + loop .k) (c .before .before .read-vertex .ensures) (c .enum-told .given .1) in
+    let good = good-vertex (tablesOf (a .hop-size) (now (a .vertices)) (now (a .walks)) (now (a .hops))) (a .base + loop .k) (c .before .before .read-vertex .ensures) (c .enum-told .given .1) in
     let e : a .base + loop .k + 1 ≡ a .base + (loop .k + 1) = omega arith in (
       omega arith,
-      ap (firstFrom (refusing 6 (vertexOk (tablesOf (now (a .vertices)) (now (a .walks)) (now (a .hops))))) (a .low - (loop .k + 1))) (sym e)
-          ∙ sym (scan-step 6 (vertexOk (tablesOf (now (a .vertices)) (now (a .walks)) (now (a .hops)))) (a .low - loop .k) (a .low - (loop .k + 1)) (a .base + loop .k) (omega arith) good)
+      ap (firstFrom (refusing 6 (vertexOk (tablesOf (a .hop-size) (now (a .vertices)) (now (a .walks)) (now (a .hops))))) (a .low - (loop .k + 1))) (sym e)
+          ∙ sym (scan-step 6 (vertexOk (tablesOf (a .hop-size) (now (a .vertices)) (now (a .walks)) (now (a .hops)))) (a .low - loop .k) (a .low - (loop .k + 1)) (a .base + loop .k) (omega arith) good)
           ∙ loop .inv .1,
     )
 
@@ -82,7 +82,7 @@ returns-2 c =
     let loop = c .before .before .loop in
     let s = c .before .before .before .before .before .before .before in
     let a = s .args in
-    c .fine .ensures ∙ sym (scan-end 6 (vertexOk (tablesOf (now (a .vertices)) (now (a .walks)) (now (a .hops)))) (a .low - loop .k) (a .base + loop .k) (omega arith)) ∙ loop .inv .1
+    c .fine .ensures ∙ sym (scan-end 6 (vertexOk (tablesOf (a .hop-size) (now (a .vertices)) (now (a .walks)) (now (a .hops)))) (a .low - loop .k) (a .base + loop .k) (omega arith)) ∙ loop .inv .1
 
 pub judge-spec : {M : Type 1} → statement M
 judge-spec =

@@ -16,11 +16,11 @@ returns-2 c = c .refused2 .ensures ∙ simp (← c .before .before .before .befo
 
 returns-3 : tie.Need-returns-3
 unfolding tableLengths orElse unless
-returns-3 c = c .refused3 .ensures ∙ simp (← c .before .before .before .before .before .before .table-ok .ensures, not-false (c .before .before .before .before .before .before .table-ok .result) (c .before .before .before .before .before .if1 .left), ← c .before .before .before .before .table-ok2 .ensures, not-false (c .before .before .before .before .table-ok2 .result) (c .before .before .before .if2 .left), ← c .before .before .table-ok3 .ensures, not-true (c .before .before .table-ok3 .result) (c .before .if3 .taken))
+returns-3 c = c .refused3 .ensures ∙ simp (← c .before .before .before .before .before .before .table-ok .ensures, not-false (c .before .before .before .before .before .before .table-ok .result) (c .before .before .before .before .before .if1 .left), ← c .before .before .before .before .table-ok2 .ensures, not-false (c .before .before .before .before .table-ok2 .result) (c .before .before .before .if2 .left), ← c .before .before .hops-ok .ensures, not-true (c .before .before .hops-ok .result) (c .before .if3 .taken))
 
 returns-4 : tie.Need-returns-4
 unfolding tableLengths orElse unless
-returns-4 c = c .fine .ensures ∙ simp (← c .before .before .before .before .before .before .table-ok .ensures, not-false (c .before .before .before .before .before .before .table-ok .result) (c .before .before .before .before .before .if1 .left), ← c .before .before .before .before .table-ok2 .ensures, not-false (c .before .before .before .before .table-ok2 .result) (c .before .before .before .if2 .left), ← c .before .before .table-ok3 .ensures, not-false (c .before .before .table-ok3 .result) (c .before .if3 .left))
+returns-4 c = c .fine .ensures ∙ simp (← c .before .before .before .before .before .before .table-ok .ensures, not-false (c .before .before .before .before .before .before .table-ok .result) (c .before .before .before .before .before .if1 .left), ← c .before .before .before .before .table-ok2 .ensures, not-false (c .before .before .before .before .table-ok2 .result) (c .before .before .before .if2 .left), ← c .before .before .hops-ok .ensures, not-false (c .before .before .hops-ok .result) (c .before .if3 .left))
 
 pub lengths-spec : {M : Type 1} → statement M
 lengths-spec =

@@ -5,12 +5,14 @@ use mathlib.Core.Bool.{Bool}
 use mathlib.Core.List.{List}
 use Prim.Native.Nat.{ℕ, _+_, _-_, _≤_, _<_}
 use lib.Dec.{eqb, leb}
+use lib.ListN.{length}
 use denote.Ref.{now}
 use Rattle.journeys.specs.Counting.{none, one, count}
 use Rattle.journeys.specs.Refusals.{Refusal, unless, orElse, firstBad}
 use Rattle.journeys.proofs.Refusals.{from-first, from-none}
 use Rattle.journeys.proofs.Counting.{is-one, is-zero, count-most}
 use Rattle.words.specs.Told.{told}
+use Rattle.records.proofs.Sizes.{as-small}
 use Rattle.records.specs.Columns.{recordsIn, toAt, ascendsAt}
 use Rattle.quick.specs.Claims.{twinAt, aloneIn}
 use Rattle.quick.proofs.Sifted.{count-zero, count-next}
@@ -26,17 +28,20 @@ abbrev hasNoTwin : List ℕ → ℕ → Bool
 hasNoTwin t k = eqb (twinAt t k) none
 
 abbrev Inv-loop : tie.InvT-loop
-Inv-loop vertices table kind number n order₀ alone₀ before₀ i₀ order alone before i =
+Inv-loop vertices table size kind number n order₀ alone₀ before₀ i₀ order alone before i =
     (i ≤ n)
-    × (n ≡ recordsIn 16 table)
+    × (n ≡ recordsIn size table)
     × (i ≡ 0 → before ≡ 0)
-    × (0 < i → before ≡ toAt 16 table (i - 1))
-    × ((k : ℕ) → k < i → recordFault kind vertices table k .number ≡ 0)
-    × (told order ≡ firstBad number (ascendsAt 16 table) i)
+    × (0 < i → before ≡ toAt size table (i - 1))
+    × ((k : ℕ) → k < i → recordFault kind size vertices table k .number ≡ 0)
+    × (told order ≡ firstBad number (ascendsAt size table) i)
     × (alone ≡ count (hasNoTwin table) i)
 
 abbrev μ-loop : tie.MeasureT-loop
-μ-loop vertices table kind number n order₀ alone₀ before₀ i₀ order alone before i = n - i
+μ-loop vertices table size kind number n order₀ alone₀ before₀ i₀ order alone before i = n - i
+
+div-n : tie.Need-div-n Inv-loop μ-loop
+div-n c = omega arith
 
 cast-n : tie.Need-cast-n Inv-loop μ-loop
 cast-n c = omega arith
@@ -50,23 +55,23 @@ loop-holds c =
       λ h. refl,
       λ h. absurd (omega arith),
       λ k l. absurd (omega arith),
-      c .fine .ensures ∙ sym (bad-none (a .number) (ascendsAt 16 t)),
+      c .fine .ensures ∙ sym (bad-none (a .number) (ascendsAt (a .size) t)),
       sym (count-zero (hasNoTwin t)),
     )
 
 record-fault-requires : tie.Need-record-fault-requires Inv-loop μ-loop
 record-fault-requires c κs =
     let s = c .before .before .before .before .before in
-    ((omega arith, s .pre .0), c .before .loop .inv .4)
+    ((omega arith, s .pre .0 .0), (c .before .loop .inv .4, s .pre .1))
 
 returns : tie.Need-returns Inv-loop μ-loop
 returns c =
     let call = c .before in
     let loop = call .before .before .loop in
     let a = call .before .before .before .before .before .before .args in
-    let f = recordFault (a .kind) (now (a .vertices)) (now (a .table)) in
+    let f = recordFault (a .kind) (a .size) (now (a .vertices)) (now (a .table)) in
     let some : f (loop .i) .number ≢ 0 = λ z. c .if1 .taken (same-number (call .record-fault .ensures) ∙ z) in (
-      call .record-fault .ensures ∙ sym (from-first f (recordsIn 16 (now (a .table))) 0 (loop .i) (omega arith) (omega arith) some (λ j l m. loop .inv .4 j m)),
+      call .record-fault .ensures ∙ sym (from-first f (recordsIn (a .size) (now (a .table))) 0 (loop .i) (omega arith) (omega arith) some (λ j l m. loop .inv .4 j m)),
       (λ z. absurd (c .if1 .taken z), λ z. absurd (c .if1 .taken z)),
     )
 
@@ -80,7 +85,10 @@ cast-alone : tie.Need-cast-alone Inv-loop μ-loop
 cast-alone c = omega arith
 
 alone-requires : tie.Need-alone-requires Inv-loop μ-loop
-alone-requires c κs = omega arith
+alone-requires c κs =
+    let loop = c .before .before .before .before .before .loop in
+    let s = c .before .before .before .before .before .before .before .before .before in
+    as-small (s .args .size) (loop .i) (length (now (s .args .table))) (s .pre .1 .0) (omega arith)
 
 -- what is added where the two arms meet makes the count of one record more
 counts : (c : tie.After-row-known Inv-loop μ-loop) →
@@ -99,7 +107,7 @@ add-alone : tie.Need-add-alone Inv-loop μ-loop
 add-alone c =
     let loop = c .before .before .before .before .before .before .before .before .loop in
     let s = c .before .before .before .before .before .before .before .before .before .before .before .before in
-    omega (arith, counts c, count-most (hasNoTwin (now (s .args .table))) (loop .i + 1), loop .inv .0, loop .inv .1, s .pre .0)
+    omega (arith, counts c, count-most (hasNoTwin (now (s .args .table))) (loop .i + 1), loop .inv .0, loop .inv .1, s .pre .0 .0)
 
 add-i : tie.Need-add-i Inv-loop μ-loop
 add-i c = omega arith
@@ -117,16 +125,16 @@ loop-again c =
     let t = now (a .table) in
     let to = ordered .before .to-at .ensures in
     let good = sym (same-number (call .record-fault .ensures)) ∙ ordered .before .before .if1 .left in
-    let up = ap (leb (loop .before)) to ∙ ascends-is 16 t (loop .i) (loop .before) (loop .inv .2) (loop .inv .3) in
+    let up = ap (leb (loop .before)) to ∙ ascends-is (a .size) t (loop .i) (loop .before) (loop .inv .2) (loop .inv .3) in
     let e : loop .i + 1 - 1 ≡ loop .i = omega arith in (
       omega arith,
       loop .inv .1,
       λ h. absurd (omega arith),
-      λ h. to ∙ ap (toAt 16 t) (sym e),
-      none-more (recordFault (a .kind) (now (a .vertices)) t) (loop .i) (loop .inv .4) good,
+      λ h. to ∙ ap (toAt (a .size) t) (sym e),
+      none-more (recordFault (a .kind) (a .size) (now (a .vertices)) t) (loop .i) (loop .inv .4) good,
       ordered .order-fault .ensures
           ∙ ap₂ (λ (x : Refusal) (b : Bool). orElse x (unless b (a .number) (loop .i))) (loop .inv .5) up
-          ∙ sym (bad-more (a .number) (ascendsAt 16 t) (loop .i) (s .pre .1)),
+          ∙ sym (bad-more (a .number) (ascendsAt (a .size) t) (loop .i) (s .pre .0 .1)),
       counts c,
     )
 
@@ -135,10 +143,10 @@ unfolding aloneIn
 returns-2 c =
     let loop = c .before .before .loop in
     let a = c .before .before .before .before .before .before .args in
-    let e : loop .i ≡ recordsIn 16 (now (a .table)) = omega arith in (
-      c .fine2 .ensures ∙ sym (from-none (recordFault (a .kind) (now (a .vertices)) (now (a .table))) (recordsIn 16 (now (a .table))) 0 (λ k l m. loop .inv .4 k (omega arith))),
+    let e : loop .i ≡ recordsIn (a .size) (now (a .table)) = omega arith in (
+      c .fine2 .ensures ∙ sym (from-none (recordFault (a .kind) (a .size) (now (a .vertices)) (now (a .table))) (recordsIn (a .size) (now (a .table))) 0 (λ k l m. loop .inv .4 k (omega arith))),
       (
-        λ z. loop .inv .5 ∙ ap (firstBad (a .number) (ascendsAt 16 (now (a .table)))) e,
+        λ z. loop .inv .5 ∙ ap (firstBad (a .number) (ascendsAt (a .size) (now (a .table)))) e,
         λ z. loop .inv .6 ∙ ap (count (hasNoTwin (now (a .table)))) e,
       ),
     )
@@ -149,6 +157,7 @@ table-faults-spec =
     (tie.spec
     Inv-loop
     μ-loop
+    div-n
     cast-n
     (λ c κs. search needs)
     loop-holds

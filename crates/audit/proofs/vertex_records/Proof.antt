@@ -15,14 +15,14 @@ sure-requires : tie.Need-sure-requires
 sure-requires c κs =
     let s = c .before .before .before .before .before in
     let ok = s .pre .1 .1 in
-    ((s .pre .0 .vertices-most, s .pre .0 .walks-most, s .pre .1 .0 .0), ((ok .walks-ascend, ok .hops-ascend), (ok .walks-good, s .pre .1 .0 .1)))
+    ((s .pre .0 .vertices-most, s .pre .0 .walks-most, s .pre .1 .0 .0), ((ok .walks-ascend, ok .hops-ascend, s .pre .0 .hop-fits), (ok .walks-good, s .pre .1 .0 .1)))
 
 returns : tie.Need-returns
 returns c =
     let call = c .before .before .before .before in
     let a = call .before .before .before .before .before .before .args in
     let n = length (now (a .vertices)) / 12 in
-    c .fine .ensures ∙ sym (all-good (tablesOf (now (a .vertices)) (now (a .walks)) (now (a .hops))) n (λ v l. call .sure .ensures .1 v (omega (arith, c .before .if1 .taken))))
+    c .fine .ensures ∙ sym (all-good (tablesOf (a .hop-size) (now (a .vertices)) (now (a .walks)) (now (a .hops))) n (λ v l. call .sure .ensures .1 v (omega (arith, c .before .if1 .taken))))
 
 note-ranges-requires : tie.Need-note-ranges-requires
 note-ranges-requires c κs =
@@ -31,10 +31,10 @@ note-ranges-requires c κs =
     let a = s .args in
     let few = s .pre .0 in
     let ok = s .pre .1 .1 in (
-      (few .walks-most, few .hops-most, omega (arith, call .sure .kept)),
+      (few .walks-most, few .hops-most, omega (arith, call .sure .kept), omega (arith, few .hop-fits)),
       (
-        walks-low (now (a .vertices)) (now (a .walks)) (now (a .hops)) (few .vertices-most) ok,
-        hops-low (now (a .vertices)) (now (a .walks)) (now (a .hops)) (few .vertices-most) ok,
+        walks-low (a .hop-size) (now (a .vertices)) (now (a .walks)) (now (a .hops)) (few .vertices-most) ok,
+        hops-low (a .hop-size) (now (a .vertices)) (now (a .walks)) (now (a .hops)) (few .vertices-most) ok,
       ),
     )
 

@@ -12,13 +12,13 @@ use Rattle.covering.proofs.parts.Tie as tie
 returns : tie.Need-returns
 returns c =
     let a = c .before .before .before .before .before .before .before .before .before .before .before in
-    let b = partsLent (now (a .args .vertices)) (now (a .args .walks)) (now (a .args .hops)) (now (a .args .list)) (now (a .args .parts)) in
+    let b = partsLent (now (a .args .vertices)) (now (a .args .walks)) (now (a .args .hops)) (a .args .hop-size) (now (a .args .list)) (now (a .args .parts)) in
     ap (λ (r : PartsAnswer). partsAnswerOf r (now (a .args .parts))) (c .refusal .ensures) ∙ refused-as b (queryOf (a .args .q)) _ (c .before .before .before .fault .ensures) (c .before .if1 .taken)
 
 read-road-requires : tie.Need-read-road-requires
 read-road-requires c κs =
     let a = c .before .before .before .before .before .before .before .before .before .before in
-    let b = partsLent (now (a .args .vertices)) (now (a .args .walks)) (now (a .args .hops)) (now (a .args .list)) (now (a .args .parts)) in
+    let b = partsLent (now (a .args .vertices)) (now (a .args .walks)) (now (a .args .hops)) (a .args .hop-size) (now (a .args .list)) (now (a .args .parts)) in
     let Q = queryOf (a .args .q) in
     let e = fine-so-far _ (c .before .before .fault .ensures) (c .if1 .left) in
     road-fits b Q e
@@ -26,7 +26,7 @@ read-road-requires c κs =
 allowed-requires : tie.Need-allowed-requires
 allowed-requires c κs =
     let a = c .before .before .before .before .before .before .before .before .before .before .before .before in
-    let b = partsLent (now (a .args .vertices)) (now (a .args .walks)) (now (a .args .hops)) (now (a .args .list)) (now (a .args .parts)) in
+    let b = partsLent (now (a .args .vertices)) (now (a .args .walks)) (now (a .args .hops)) (a .args .hop-size) (now (a .args .list)) (now (a .args .parts)) in
     let Q = queryOf (a .args .q) in
     let e = fine-so-far _ (c .before .before .before .before .fault .ensures) (c .before .before .if1 .left) in
     query-high b Q e
@@ -34,7 +34,7 @@ allowed-requires c κs =
 cover-requires : tie.Need-cover-requires
 cover-requires c κs =
     let a = c .before .before .before .before .before .before .before .before .before .before .before .before .before in
-    let b = partsLent (now (a .args .vertices)) (now (a .args .walks)) (now (a .args .hops)) (now (a .args .list)) (now (a .args .parts)) in
+    let b = partsLent (now (a .args .vertices)) (now (a .args .walks)) (now (a .args .hops)) (a .args .hop-size) (now (a .args .list)) (now (a .args .parts)) in
     let Q = queryOf (a .args .q) in
     let e = fine-so-far _ (c .before .before .before .before .before .fault .ensures) (c .before .before .before .if1 .left) in
     list-fits b Q e _ (c .allowed .ensures)
@@ -42,7 +42,7 @@ cover-requires c κs =
 fill-requires : tie.Need-fill-requires
 fill-requires c κs =
     let a = c .before .before .before .before .before .before .before .before .before .before .before .before .before .before .before .before .before .before .before .before in
-    let b = partsLent (now (a .args .vertices)) (now (a .args .walks)) (now (a .args .hops)) (now (a .args .list)) (now (a .args .parts)) in
+    let b = partsLent (now (a .args .vertices)) (now (a .args .walks)) (now (a .args .hops)) (a .args .hop-size) (now (a .args .list)) (now (a .args .parts)) in
     let Q = queryOf (a .args .q) in
     let e = fine-so-far _ (c .before .before .before .before .before .before .before .before .before .before .before .before .fault .ensures) (c .before .before .before .before .before .before .before .before .before .before .if1 .left) in
     all-low b Q e _ _ (covered-told b Q e _ (c .before .before .before .before .before .before .before .before .before .read-road .ensures) _ (c .before .before .before .before .before .before .before .allowed .ensures) _ _ _ (c .before .before .count .given .1) (c .before .before .before .before .before .before .cover .ensures))
@@ -50,7 +50,7 @@ fill-requires c κs =
 give-up-requires : tie.Need-give-up-requires
 give-up-requires c κs =
     let a = c .before .before .before .before .before .before .before .before .before .before .before .before .before .before .before .before .before .before .before .before in
-    let b = partsLent (now (a .args .vertices)) (now (a .args .walks)) (now (a .args .hops)) (now (a .args .list)) (now (a .args .parts)) in
+    let b = partsLent (now (a .args .vertices)) (now (a .args .walks)) (now (a .args .hops)) (a .args .hop-size) (now (a .args .list)) (now (a .args .parts)) in
     let Q = queryOf (a .args .q) in
     let e = fine-so-far _ (c .before .before .before .before .before .before .before .before .before .before .before .before .fault .ensures) (c .before .before .before .before .before .before .before .before .before .before .if1 .left) in
     full-low b Q e _ _ (covered-told b Q e _ (c .before .before .before .before .before .before .before .before .before .read-road .ensures) _ (c .before .before .before .before .before .before .before .allowed .ensures) _ _ _ (c .before .before .entry .given .1) (c .before .before .before .before .before .before .cover .ensures))
@@ -58,7 +58,7 @@ give-up-requires c κs =
 returns-2 : tie.Need-returns-2
 returns-2 c =
     let a = c .before .before .before .before .before .before .before .before .before .before .before .before .before .before .before .before .before .before .before .before .before .before .before in
-    let b = partsLent (now (a .args .vertices)) (now (a .args .walks)) (now (a .args .hops)) (now (a .args .list)) (now (a .args .parts)) in
+    let b = partsLent (now (a .args .vertices)) (now (a .args .walks)) (now (a .args .hops)) (a .args .hop-size) (now (a .args .list)) (now (a .args .parts)) in
     let Q = queryOf (a .args .q) in
     let e = fine-so-far _ (c .before .before .before .before .before .before .before .before .before .before .before .before .before .before .before .fault .ensures) (c .before .before .before .before .before .before .before .before .before .before .before .before .before .if1 .left) in
     answered b Q _ _ _ _ (c .before .before .fill .ensures .0) (c .before .before .fill .ensures .1) (all-as b Q e _ _ (covered-told b Q e _ (c .before .before .before .before .before .before .before .before .before .before .before .before .read-road .ensures) _ (c .before .before .before .before .before .before .before .before .before .before .allowed .ensures) _ _ _ (c .before .before .before .before .before .count .given .1) (c .before .before .before .before .before .before .before .before .before .cover .ensures)))
@@ -66,7 +66,7 @@ returns-2 c =
 returns-3 : tie.Need-returns-3
 returns-3 c =
     let a = c .before .before .before .before .before .before .before .before .before .before .before .before .before .before .before .before .before .before .before .before .before .before .before in
-    let b = partsLent (now (a .args .vertices)) (now (a .args .walks)) (now (a .args .hops)) (now (a .args .list)) (now (a .args .parts)) in
+    let b = partsLent (now (a .args .vertices)) (now (a .args .walks)) (now (a .args .hops)) (a .args .hop-size) (now (a .args .list)) (now (a .args .parts)) in
     let Q = queryOf (a .args .q) in
     let e = fine-so-far _ (c .before .before .before .before .before .before .before .before .before .before .before .before .before .before .before .fault .ensures) (c .before .before .before .before .before .before .before .before .before .before .before .before .before .if1 .left) in
     answered b Q _ _ _ _ (c .before .before .give-up .ensures .0) (c .before .before .give-up .ensures .1) (full-as b Q e _ _ (covered-told b Q e _ (c .before .before .before .before .before .before .before .before .before .before .before .before .read-road .ensures) _ (c .before .before .before .before .before .before .before .before .before .before .allowed .ensures) _ _ _ (c .before .before .before .before .before .entry .given .1) (c .before .before .before .before .before .before .before .before .before .cover .ensures)))

@@ -43,7 +43,7 @@ count-block-requires-2 c κs =
       omega arith,
       (
         (omega arith, omega arith, omega arith, omega arith, omega arith, omega (arith, cleared .zero .kept .0, first .count-block .kept)),
-        noted-kept 16 h 1974 (recordsIn 16 h) 0 1904 (now (s .args .scratch)) (first .count-block .last .1 .1 .1 .1 .1 .0) (λ i l. inr (omega arith)) (after-walks first) (s .pre .1 .1),
+        noted-kept (s .args .hop-size) h 1974 (recordsIn (s .args .hop-size) h) 0 1904 (now (s .args .scratch)) (first .count-block .last .1 .1 .1 .1 .1 .0) (λ i l. inr (omega arith)) (after-walks first) (s .pre .1 .1),
       ),
     )
 
@@ -55,7 +55,7 @@ returns c =
     let s = cleared .before .before .before .before .before in
     let a = s .args in
     let zeros : Counted (a .len) (a .len) (cleared .zero .last .0) (λ k. 0) = rw (cleared .zero .ensures) (zeroed (now (a .scratch)) (a .len) (omega arith)) in (
-      counted-same (λ k l. ap (λ (x : ℕ). x + leaving 16 (now (a .hops)) (1904 * a .g + k)) (omega arith))
+      counted-same (λ k l. ap (λ (x : ℕ). x + leaving (a .hop-size) (now (a .hops)) (1904 * a .g + k)) (omega arith))
           (second .count-block2 .ensures .0 _ (first .count-block .ensures .0 _ zeros)),
       outside-then 0 1904 (now (a .scratch)) (first .count-block .last .1 .1 .1 .1 .1 .0) (second .count-block2 .last .1 .1 .1 .1 .1 .0) (after-walks first) (second .count-block2 .ensures .1),
     )

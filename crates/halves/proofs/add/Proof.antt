@@ -15,6 +15,7 @@ use Rattle.meeting.proofs.Loops.{Went}
 use Rattle.halves.specs.Half.{inHalf, adds}
 use Rattle.halves.proofs.HalfOfStep.{adds-size}
 use Rattle.halves.proofs.NextRecord as nx
+use Rattle.passing.proofs.Few.{hops-few}
 use borrow.Author.Needs.{needs}
 use Rattle.halves.proofs.add.Statement.{statement}
 use Rattle.halves.proofs.add.Tie as tie
@@ -28,7 +29,7 @@ abbrev μ-loop : tie.MeasureT-loop
 
 add-n : tie.Need-add-n Inv-loop μ-loop
 add-n c =
-    let s = c .before .before .before .before .before .before in record { fits = omega (arith, s .pre .0 .sound .counted .walks, s .pre .0 .sound .counted .hops, s .good) }
+    let s = c .before .before .before .before .before .before in record { fits = omega (arith, s .pre .0 .sound .counted .walks, hops-few (s .pre .0 .sound .counted), s .good) }
 
 loop-holds : tie.Need-loop-holds Inv-loop μ-loop
 loop-holds c = lo.went-none (c .before .before .before .before .before .before .pre .0 .order)
@@ -70,7 +71,7 @@ returns c =
 
 add-j : tie.Need-add-j Inv-loop μ-loop
 add-j c =
-    let s = c .before .before .before .before .before .before .before .before .before .before .before .before .before .before .before .before .before in record { fits = omega (arith, c .before .before .before .before .before .before .before .before .before .loop-test .taken, s .pre .0 .sound .counted .walks, s .pre .0 .sound .counted .hops, s .good) }
+    let s = c .before .before .before .before .before .before .before .before .before .before .before .before .before .before .before .before .before in record { fits = omega (arith, c .before .before .before .before .before .before .before .before .before .loop-test .taken, s .pre .0 .sound .counted .walks, hops-few (s .pre .0 .sound .counted), s .good) }
 
 loop-less : tie.Need-loop-less Inv-loop μ-loop
 loop-less c =

@@ -8,6 +8,7 @@ use Rattle.passing.specs.Row.{fromOf, passes}
 use Rattle.worktable.specs.Table.{mapOf}
 use Rattle.halves.specs.Half.{newTo}
 use Rattle.halves.proofs.NextRecord as nx
+use Rattle.passing.proofs.Few.{hops-few}
 use borrow.Author.Needs.{needs}
 use Rattle.halves.proofs.note_new.Statement.{statement}
 use Rattle.halves.proofs.note_new.Tie as tie
@@ -21,7 +22,7 @@ abbrev μ-loop : tie.MeasureT-loop
 
 add-n : tie.Need-add-n Inv-loop μ-loop
 add-n c =
-    let s = c .before .before .before .before .before in record { fits = omega (arith, s .pre .0 .1 .walks, s .pre .0 .1 .hops, s .good) }
+    let s = c .before .before .before .before .before in record { fits = omega (arith, s .pre .0 .1 .walks, hops-few (s .pre .0 .1), s .good) }
 
 loop-holds : tie.Need-loop-holds Inv-loop μ-loop
 unfolding newTo
@@ -33,6 +34,11 @@ from-at-requires c κs = (c .before .before .before .before .before .before .bef
 note-one-requires : tie.Need-note-one-requires Inv-loop μ-loop
 note-one-requires c κs =
     let s = c .before .before .before .before .before .before .before .before .before in (s .pre .0 .0, c .before .before .before .loop .inv .1 ∙ s .pre .1 .1)
+
+add-j : tie.Need-add-j Inv-loop μ-loop
+add-j c =
+    let s = c .before .before .before .before .before .before .before .before .before .before .before .before in
+    record { fits = omega (arith, c .before .before .before .before .before .loop-test .taken, s .pre .0 .1 .walks, hops-few (s .pre .0 .1), s .good) }
 
 loop-again : tie.Need-loop-again Inv-loop μ-loop
 loop-again c =
@@ -60,7 +66,7 @@ note-new-spec =
     loop-holds
     from-at-requires
     note-one-requires
-    (λ c. search needs)
+    add-j
     (λ c. search needs)
     loop-again
     same-length

@@ -8,6 +8,7 @@ use Rattle.worktable.specs.Map.{swept}
 use Rattle.meeting.proofs.Loops as lo
 use Rattle.meeting.proofs.Loops.{Went}
 use Rattle.halves.specs.Half.{inHalf, sweeps}
+use Rattle.passing.proofs.Few.{hops-few}
 use borrow.Author.Needs.{needs}
 use Rattle.halves.proofs.sweep.Statement.{statement}
 use Rattle.halves.proofs.sweep.Tie as tie
@@ -21,7 +22,7 @@ abbrev μ-loop : tie.MeasureT-loop
 
 add-n : tie.Need-add-n Inv-loop μ-loop
 add-n c =
-    let s = c .before .before .before .before in record { fits = omega (arith, s .pre .1 .walks, s .pre .1 .hops, s .good) }
+    let s = c .before .before .before .before in record { fits = omega (arith, s .pre .1 .walks, hops-few (s .pre .1), s .good) }
 
 loop-holds : tie.Need-loop-holds Inv-loop μ-loop
 loop-holds c = lo.went-none (c .before .before .before .before .pre .0)
@@ -31,6 +32,11 @@ from-at-requires c κs = (c .before .before .before .before .before .before .pre
 
 sweep-one-requires : tie.Need-sweep-one-requires Inv-loop μ-loop
 sweep-one-requires c κs = c .before .before .before .loop .inv .leads .holds .order
+
+add-j : tie.Need-add-j Inv-loop μ-loop
+add-j c =
+    let s = c .before .before .before .before .before .before .before .before .before .before .before in
+    record { fits = omega (arith, c .before .before .before .before .before .loop-test .taken, s .pre .1 .walks, hops-few (s .pre .1), s .good) }
 
 loop-again : tie.Need-loop-again Inv-loop μ-loop
 loop-again c =
@@ -53,7 +59,7 @@ sweep-spec =
     loop-holds
     from-at-requires
     sweep-one-requires
-    (λ c. search needs)
+    add-j
     (λ c. search needs)
     loop-again
     same-length

@@ -14,7 +14,7 @@ unfolding early
 returns-2 c = (hands-on _ (c .before .before .before .before .before .before .before .lengths .ensures) (c .before .before .before .before .before .if1 .left) (refuses _ (c .before .before .before .before .buffer-fault .ensures) _ (c .before .before .if2 .taken)), c .clear2 .ensures)
 
 contents-requires : tie.Need-contents-requires
-contents-requires c κs = sizes _ _ _ (fine-so-far _ (c .before .before .before .before .before .before .lengths .ensures) (c .before .before .before .before .if1 .left))
+contents-requires c κs = sizes _ _ _ _ (fine-so-far _ (c .before .before .before .before .before .before .lengths .ensures) (c .before .before .before .before .if1 .left))
 
 returns-3 : tie.Need-returns-3
 unfolding early
@@ -30,7 +30,7 @@ unfolding early
 returns-4 c = (
   hands-on _ (c .before .before .before .before .before .before .before .before .before .before .lengths .ensures) (c .before .before .before .before .before .before .before .before .if1 .left)
       (hands-on _ (c .before .before .before .before .before .before .before .buffer-fault .ensures) (c .before .before .before .before .before .if2 .left)
-      (hands-on _ (c .before .before .before .contents .ensures .0) (c .before .if3 .left) (c .query-fault .ensures _ _))),
+      (hands-on _ (c .before .before .before .contents .ensures .0) (c .before .if3 .left) (c .query-fault .ensures _ _ _))),
   c .before .before .before .contents .ensures .1,
 )
 

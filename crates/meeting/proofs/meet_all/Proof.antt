@@ -8,6 +8,7 @@ use Rattle.meeting.specs.Passing.{met, meets}
 use Rattle.meeting.proofs.Loops as lo
 use Rattle.meeting.proofs.Loops.{Went}
 use Rattle.meeting.proofs.Sizes.{goes-size}
+use Rattle.passing.proofs.Few.{hops-few}
 use borrow.Author.Needs.{needs}
 use Rattle.meeting.proofs.meet_all.Statement.{statement}
 use Rattle.meeting.proofs.meet_all.Tie as tie
@@ -21,7 +22,7 @@ abbrev μ-loop : tie.MeasureT-loop
 
 add-n : tie.Need-add-n Inv-loop μ-loop
 add-n c =
-    let s = c .before .before .before .before .before in record { fits = omega (arith, s .pre .0 .sound .counted .walks, s .pre .0 .sound .counted .hops, s .good) }
+    let s = c .before .before .before .before .before in record { fits = omega (arith, s .pre .0 .sound .counted .walks, hops-few (s .pre .0 .sound .counted), s .good) }
 
 loop-holds : tie.Need-loop-holds Inv-loop μ-loop
 loop-holds c = lo.went-none (c .before .before .before .before .before .pre .0 .order)

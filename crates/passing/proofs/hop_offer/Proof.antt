@@ -18,7 +18,7 @@ use Rattle.passing.proofs.hop_offer.Tie as tie
 ticks-before-requires : tie.Need-ticks-before-requires
 ticks-before-requires c κs =
     let s = c .before .before .before .before .before .before in
-    let h = hopAt (s .args .hops .now) (s .args .at) in
+    let h = hopAt (s .args .size) (s .args .hops .now) (s .args .at) in
     let e = c .before .before .before .before .hop-at .ensures in
     let k = clocked-signed (h .arrival) in
     let t : h .arrival ≤ clocked (s .args .arrival .0) = leb-true (h .arrival) (clocked (s .args .arrival .0)) (rw (e, k) at (sym (c .before .not-after .ensures) ∙ c .if1 .taken)) in
@@ -27,7 +27,7 @@ ticks-before-requires c κs =
 ticks-before-requires-2 : tie.Need-ticks-before-requires-2
 ticks-before-requires-2 c κs =
     let s = c .before .before .before .before .before .before .before .before .before .before in
-    let h = hopAt (s .args .hops .now) (s .args .at) in
+    let h = hopAt (s .args .size) (s .args .hops .now) (s .args .at) in
     let e = c .before .before .before .before .before .before .before .before .hop-at .ensures in
     let k = clocked-signed (h .departure) in
     let i = clocked-signed (h .arrival) in
@@ -39,7 +39,7 @@ returns : tie.Need-returns
 unfolding offer
 returns c =
     let s = c .before .before .before .before .before .before .before .before .before .before .before in
-    let h = hopAt (s .args .hops .now) (s .args .at) in
+    let h = hopAt (s .args .size) (s .args .hops .now) (s .args .at) in
     let e = c .before .before .before .before .before .before .before .before .before .hop-at .ensures in
     let k = clocked-signed (h .departure) in
     let i = clocked-signed (h .arrival) in
@@ -53,7 +53,7 @@ returns-2 : tie.Need-returns-2
 unfolding offer
 returns-2 c =
     let s = c .before .before .before .before .before .before .before .before .before .before in
-    let h = hopAt (s .args .hops .now) (s .args .at) in
+    let h = hopAt (s .args .size) (s .args .hops .now) (s .args .at) in
     let e = c .before .before .before .before .before .before .before .before .hop-at .ensures in
     let i = clocked-signed (h .arrival) in
     let t = rw (e, i) at (c .before .before .before .ticks-before .ensures) in
@@ -64,7 +64,7 @@ returns-3 : tie.Need-returns-3
 unfolding offer
 returns-3 c =
     let s = c .before .before .before .before .before .before in
-    let h = hopAt (s .args .hops .now) (s .args .at) in
+    let h = hopAt (s .args .size) (s .args .hops .now) (s .args .at) in
     let e = c .before .before .before .before .hop-at .ensures in
     let i = clocked-signed (h .arrival) in
     let a : leb (h .arrival) (clocked (s .args .arrival .0)) ≡ false = rw (e, i) at (sym (c .before .not-after .ensures) ∙ c .if1 .left) in

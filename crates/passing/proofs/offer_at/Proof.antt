@@ -30,7 +30,7 @@ hop-offer-requires c κs =
     let s = c .before .before .before .before .before .before .before in
     let r = s .args .arriving in
     let i : s .args .j - r .walks < r .hops = omega (arith, s .pre .1, c .before .before .if1 .left) in
-    (omega (arith, s .pre .0 .counted .hops), s .pre .0 .times (s .args .j - r .walks) i, s .pre .0 .arrival, s .pre .0 .speed)
+    (omega (arith, s .pre .0 .counted .hops), s .pre .0 .times (s .args .j - r .walks) i, s .pre .0 .arrival, s .pre .0 .speed, s .pre .0 .counted .fits)
 
 returns-2 : tie.Need-returns-2
 unfolding recordOf
@@ -39,7 +39,7 @@ returns-2 c =
     let r = s .args .arriving in
     let i : s .args .j - r .walks < r .hops = omega (arith, s .pre .1, c .before .before .before .if1 .left) in (
       rw (le-ltb (s .args .j) (r .walks) (c .before .before .before .if1 .left), c .hop-offer .ensures),
-      rw (c .hop-offer .ensures) (hop-distance (hopAt (s .args .hops .now) (s .args .j - r .walks)) (clocked (r .arrival .0)) (r .speed) (r .distance .0) (s .pre .0 .times (s .args .j - r .walks) i .departure) (s .pre .0 .arrival) (s .pre .0 .speed)),
+      rw (c .hop-offer .ensures) (hop-distance (hopAt (r .size) (s .args .hops .now) (s .args .j - r .walks)) (clocked (r .arrival .0)) (r .speed) (r .distance .0) (s .pre .0 .times (s .args .j - r .walks) i .departure) (s .pre .0 .arrival) (s .pre .0 .speed)),
     )
 
 pub offer-at-spec : {M : Type 1} → statement M

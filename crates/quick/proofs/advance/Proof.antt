@@ -16,11 +16,11 @@ use Rattle.quick.proofs.advance.Statement.{statement}
 use Rattle.quick.proofs.advance.Tie as tie
 
 abbrev Inv-loop : tie.InvT-loop
-Inv-loop vertices walks hops alone limit most start scratch₀ pairs base₀ scratch base =
-    (start ≤ base) × (base ≤ limit) × (length scratch ≡ 2048) × ((v : ℕ) → start ≤ v → v < base → vertexOk (tablesOf vertices walks hops) v ≡ true)
+Inv-loop vertices walks hops hop-size alone limit most start scratch₀ pairs base₀ scratch base =
+    (start ≤ base) × (base ≤ limit) × (length scratch ≡ 2048) × ((v : ℕ) → start ≤ v → v < base → vertexOk (tablesOf hop-size vertices walks hops) v ≡ true)
 
 abbrev μ-loop : tie.MeasureT-loop
-μ-loop vertices walks hops alone limit most start scratch₀ pairs base₀ scratch base = limit - base
+μ-loop vertices walks hops hop-size alone limit most start scratch₀ pairs base₀ scratch base = limit - base
 
 mul-pairs : tie.Need-mul-pairs Inv-loop μ-loop
 mul-pairs c =
@@ -41,8 +41,8 @@ stretch-requires c κs =
     let order = ordered-less (cut .lesser .result) (omega (arith, cut .lesser .ensures)) (s .pre .1 .1 .1 .0) in (
       (s .pre .1 .0 .0, s .pre .1 .0 .1, λ z. le-leb (2 * a .alone) (length (now (a .walks)) / 16) (omega arith)),
       (
-        (order .within, runs (now (a .vertices)) (now (a .walks)) (now (a .hops)) (s .pre .0 .1) (s .pre .1 .1 .0) (cut .lesser .result) order),
-        (omega (arith, cut .lesser .ensures), omega (arith, order .within, s .pre .0), omega arith),
+        (order .within, runs (a .hop-size) (now (a .vertices)) (now (a .walks)) (now (a .hops)) (s .pre .0 .1) (s .pre .1 .1 .0) (cut .lesser .result) order),
+        (omega (arith, cut .lesser .ensures), omega (arith, order .within, s .pre .0), omega arith, s .pre .1 .1 .1 .1 .2),
       ),
     )
 
@@ -74,7 +74,7 @@ loop-again c =
       λ v l m.
           ⊎-elim (λ (h : loop .base ≤ v).
           let e : loop .base + (v - loop .base) ≡ v = omega arith in
-          vertex-right (now (a .vertices)) (now (a .walks)) (now (a .hops)) (s .pre .0 .1) (s .pre .1 .1 .0) _ (cut .lesser .result) v order
+          vertex-right (a .hop-size) (now (a .vertices)) (now (a .walks)) (now (a .hops)) (s .pre .0 .1) (s .pre .1 .1 .0) _ (cut .lesser .result) v order
           (omega (arith, call .stretch .ensures .0)) (rw e at (call .stretch .ensures .1 (v - loop .base) (omega arith))))
           (λ (h : v < loop .base). loop .inv .3 v l h)
           (le-or-lt (loop .base) v),

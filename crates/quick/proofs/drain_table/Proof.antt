@@ -1,6 +1,7 @@
 -- `quick::drain_table` meets its contract: at each turn what is drained and what waits are the records up to i. Assumes nothing.
 use mathlib.Core.Path.{_≡_, refl, _∙_}
 use Prim.Native.Nat.{ℕ, _+_, _-_, _*_, _≤_, _<_}
+use native.Mathlib.Nat.{div-le-self}
 use native.Mathlib.Omega.{arith}
 use lib.ListN.{length}
 use denote.Ref.{now}
@@ -16,26 +17,31 @@ use Rattle.quick.proofs.drain_table.Statement.{statement}
 use Rattle.quick.proofs.drain_table.Tie as tie
 
 abbrev Inv-loop : tie.InvT-loop
-Inv-loop table pairs base groups scratch₀ n waiting₀ i₀ scratch waiting i =
+Inv-loop table size pairs base groups scratch₀ n waiting₀ i₀ scratch waiting i =
     (i ≤ n)
-    × (n ≡ recordsIn 16 table)
+    × (n ≡ recordsIn size table)
     × (waiting ≤ 32)
     × (length scratch ≡ 2048)
     × ((k : ℕ) → k < 64 * groups → Placed scratch k)
-    × Waiting groups waiting (λ k. countedTo pairs table (base + k) i) scratch₀ scratch
+    × Waiting groups waiting (λ k. countedTo pairs size table (base + k) i) scratch₀ scratch
 
 abbrev μ-loop : tie.MeasureT-loop
-μ-loop table pairs base groups scratch₀ n waiting₀ i₀ scratch waiting i = n - i
+μ-loop table size pairs base groups scratch₀ n waiting₀ i₀ scratch waiting i = n - i
+
+div-n : tie.Need-div-n Inv-loop μ-loop
+div-n c = omega arith
 
 loop-holds : tie.Need-loop-holds Inv-loop μ-loop
 loop-holds c =
     let s = c .before .before in
     let a = s .args in
-    let nothing = takes-none (a .groups) (λ k. countedTo (a .pairs) (now (a .table)) (a .base + k) 0) (now (a .scratch)) (λ k. count-zero (leaves (a .pairs) (now (a .table)) (a .base + k))) in
+    let nothing = takes-none (a .groups) (λ k. countedTo (a .pairs) (a .size) (now (a .table)) (a .base + k) 0) (now (a .scratch)) (λ k. count-zero (leaves (a .pairs) (a .size) (now (a .table)) (a .base + k))) in
     (omega arith, refl, omega arith, omega arith, s .pre .1, none-wait (a .groups) _ _ _ nothing)
 
 add-lesser : tie.Need-add-lesser Inv-loop μ-loop
-add-lesser c = omega arith
+add-lesser c =
+    let a = c .before .before .before .before .args in
+    omega (arith, div-le-self (length (now (a .table))) (a .size))
 
 mul-sift : tie.Need-mul-sift Inv-loop μ-loop
 mul-sift c = omega arith
@@ -95,7 +101,7 @@ returns-2 c =
     let call = c .before .before in
     let loop = call .before .before .before .loop in
     let a = call .before .before .before .before .before .before .args in
-    let e : loop .i ≡ recordsIn 16 (now (a .table)) = omega arith in
+    let e : loop .i ≡ recordsIn (a .size) (now (a .table)) = omega arith in
     λ t. takes-list (a .groups) (loop .waiting) _ (now (a .scratch)) (loop .scratch) (call .drain .last .0) (call .drain .result) (rw e at (loop .inv .5)) (call .drain .ensures .0) t
 
 pub drain-table-spec : {M : Type 1} → statement M
@@ -104,6 +110,7 @@ drain-table-spec =
     (tie.spec
     Inv-loop
     μ-loop
+    div-n
     loop-holds
     add-lesser
     (λ c κs. search needs)

@@ -15,7 +15,7 @@ returns-2 c =
     let s = c .before .before .before in
     let a = s .args in
     let none : a .alone ≡ 0 = omega arith in
-    λ _. takes-none (a .groups) (λ k. counted (a .pairs) (now (a .walks)) (a .base + k)) (now (a .scratch))
+    λ _. takes-none (a .groups) (λ k. counted (a .pairs) 16 (now (a .walks)) (a .base + k)) (now (a .scratch))
     (λ k. rw (s .pre .0 .1 none) (none-leaves (now (a .walks)) (sym (s .pre .0 .0) ∙ none) (a .base + k)))
 
 pub drain-walks-spec : {M : Type 1} → statement M

@@ -12,11 +12,11 @@ use Rattle.quick.proofs.ordered.Statement.{statement}
 use Rattle.quick.proofs.ordered.Tie as tie
 
 abbrev Inv-loop : tie.InvT-loop
-Inv-loop vertices walks hops n v₀ v =
-    (v ≤ n) × (n ≡ length vertices / 12) × ((x : ℕ) → x < v → inOrder vertices walks hops x ≡ true)
+Inv-loop vertices walks hops hop-size n v₀ v =
+    (v ≤ n) × (n ≡ length vertices / 12) × ((x : ℕ) → x < v → inOrder hop-size vertices walks hops x ≡ true)
 
 abbrev μ-loop : tie.MeasureT-loop
-μ-loop vertices walks hops n v₀ v = n - v
+μ-loop vertices walks hops hop-size n v₀ v = n - v
 
 loop-holds : tie.Need-loop-holds Inv-loop μ-loop
 loop-holds c = (omega arith, refl, λ x l. absurd (omega arith))

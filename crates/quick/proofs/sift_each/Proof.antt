@@ -13,18 +13,18 @@ use Rattle.quick.proofs.sift_each.Statement.{statement}
 use Rattle.quick.proofs.sift_each.Tie as tie
 
 abbrev Inv-loop : tie.InvT-loop
-Inv-loop table pairs start end base len scratch₀ waiting count₀ i₀ scratch count i =
+Inv-loop table size pairs start end base len scratch₀ waiting count₀ i₀ scratch count i =
     (count + start ≤ waiting + i)
     × (start ≤ i)
     × (i ≤ end)
     × (length scratch ≡ 2048)
     × ((a : ℕ → ℕ)
-    → Listed len waiting scratch₀ a (λ k. countedTo pairs table (base + k) start)
-    → Listed len count scratch a (λ k. countedTo pairs table (base + k) i))
+    → Listed len waiting scratch₀ a (λ k. countedTo pairs size table (base + k) start)
+    → Listed len count scratch a (λ k. countedTo pairs size table (base + k) i))
     × Same 0 1984 scratch₀ scratch
 
 abbrev μ-loop : tie.MeasureT-loop
-μ-loop table pairs start end base len scratch₀ waiting count₀ i₀ scratch count i = end - i
+μ-loop table size pairs start end base len scratch₀ waiting count₀ i₀ scratch count i = end - i
 
 loop-holds : tie.Need-loop-holds Inv-loop μ-loop
 loop-holds c = (omega arith, omega arith, omega arith, omega arith, λ a h. h, λ k l m. refl)
@@ -47,7 +47,7 @@ loop-again c =
       omega arith,
       omega arith,
       omega (arith, call .sift-one .kept),
-      λ x h. listed-same (λ k. count-next (leaves (a .pairs) (now (a .table)) (a .base + k)) (loop .i)) (call .sift-one .ensures .1 .0 x _ (loop .inv .4 x h)),
+      λ x h. listed-same (λ k. count-next (leaves (a .pairs) (a .size) (now (a .table)) (a .base + k)) (loop .i)) (call .sift-one .ensures .1 .0 x _ (loop .inv .4 x h)),
       λ k l m. call .sift-one .ensures .1 .1 k l m ∙ loop .inv .5 k l m,
     )
 

@@ -10,7 +10,7 @@ drain-table-requires : tie.Need-drain-table-requires
 drain-table-requires c κs =
     let laid = c .before .before .before .lay-claims .ensures .laid in
     let s = c .before .before .before .before .before .before .before .before .before in
-    ((omega arith, omega (arith, laid .shape .least, laid .shape .most), omega (arith, c .before .before .before .lay-claims .kept)), laid-placed laid)
+    ((omega arith, omega (arith, laid .shape .least, laid .shape .most), omega (arith, c .before .before .before .lay-claims .kept), omega arith), laid-placed laid)
 
 drain-walks-requires : tie.Need-drain-walks-requires
 drain-walks-requires c κs =

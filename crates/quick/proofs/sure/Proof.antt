@@ -11,7 +11,7 @@ advance-requires : tie.Need-advance-requires
 advance-requires c κs =
     let order = c .before in
     let s = order .before .before .before .before .before in
-    (s .pre .0, ((s .pre .1 .0 .0, s .pre .1 .1 .1), (s .pre .1 .1 .0, (order .ordered .ensures, (omega arith, omega arith)))))
+    (s .pre .0, ((s .pre .1 .0 .0, s .pre .1 .1 .1), (s .pre .1 .1 .0, (order .ordered .ensures, (omega arith, omega arith, s .pre .1 .0 .2)))))
 
 advance-requires-2 : tie.Need-advance-requires-2
 advance-requires-2 c κs =
@@ -19,7 +19,7 @@ advance-requires-2 c κs =
     let order = first .before .before in
     let s = order .before .before .before .before .before in (
       (s .pre .0 .0, s .pre .0 .1, omega (arith, first .advance .kept, s .pre .0)),
-      ((s .pre .1 .0 .0, s .pre .1 .1 .1), (s .pre .1 .1 .0, (order .ordered .ensures, (omega (arith, first .advance .ensures), omega arith)))),
+      ((s .pre .1 .0 .0, s .pre .1 .1 .1), (s .pre .1 .1 .0, (order .ordered .ensures, (omega (arith, first .advance .ensures), omega arith, s .pre .1 .0 .2)))),
     )
 
 returns : tie.Need-returns

@@ -11,12 +11,12 @@ use Rattle.reach.proofs.run_text.Tie as tie
 array-share-prefix-settled : tie.Need-array-share-prefix-settled
 array-share-prefix-settled c =
     let x = c .before .before .before .run in
-    omega (arith, few _ _ _ _ _ _ (x .ensures .0), x .kept .1 .1 .1 .1 .0, length-replicate {A = ℕ} 4096 0)
+    omega (arith, few _ _ _ _ _ _ (x .ensures .0), x .kept .1 .1 .1 .1 .1 .0, length-replicate {A = ℕ} 4096 0)
 
 slice-aggregate-parts : tie.Need-slice-aggregate-parts
 slice-aggregate-parts c =
     let x = c .before .before .before .before .run in
-    sym (length-take-le _ _ (omega (arith, few _ _ _ _ _ _ (x .ensures .0), x .kept .1 .1 .1 .1 .0, length-replicate {A = ℕ} 4096 0)))
+    sym (length-take-le _ _ (omega (arith, few _ _ _ _ _ _ (x .ensures .0), x .kept .1 .1 .1 .1 .1 .0, length-replicate {A = ℕ} 4096 0)))
 
 returns : tie.Need-returns
 returns c =
@@ -24,7 +24,7 @@ returns c =
     let x = c .before .before .before .before .before .before .before .before .before .before .before .before .before .before .run in
     let p = c .before .before .before .before .before .before .before .before .parts2 in
     let t = c .before .before .report in (
-      ran-text _ _ _ _ _ _ _ (x .result) _ (x .ensures .0) (p .ensures) _ (s .pre) (x .kept .1 .1 .1 .0 ∙ length-replicate {A = ℕ} 8192 0) (x .kept .1 .1 .1 .1 .0 ∙ length-replicate {A = ℕ} 4096 0) (p .kept .1 .1 .1 .1 .0 ∙ length-replicate {A = ℕ} 12312 0)
+      ran-text _ _ _ _ _ _ _ (x .result) _ (x .ensures .0) (p .ensures) _ (s .pre) (x .kept .1 .1 .1 .1 .0 ∙ length-replicate {A = ℕ} 8192 0) (x .kept .1 .1 .1 .1 .1 .0 ∙ length-replicate {A = ℕ} 4096 0) (p .kept .1 .1 .1 .1 .1 .0 ∙ length-replicate {A = ℕ} 12312 0)
           _ _ (t .ensures .0) (t .ensures .1 .0),
       t .ensures .1 .1,
     )

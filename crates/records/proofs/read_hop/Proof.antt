@@ -15,17 +15,17 @@ returns : tie.Need-returns
 returns c =
     let read = c .before .before .before .before .before in
     let s = read .before .before .before in
-    let ok : hopOk (tablesOf (now (s .args .vertices)) [] (now (s .args .hops))) (s .args .j) ≡ true =
-    hop-ok _ [] _ (s .args .j) (s .pre)
+    let ok : hopOk (tablesOf (s .args .size) (now (s .args .vertices)) [] (now (s .args .hops))) (s .args .j) ≡ true =
+    hop-ok _ _ [] _ (s .args .j) (s .pre .1)
     ∙ simp (c .before .before .ends-ok .ensures, c .before .times-ok .ensures, read .hop-at .ensures, clocked-signed) at (c .if1 .taken) in
-    rw (read .hop-at .ensures) (hop-good _ [] _ (s .args .j) (s .pre) ok)
+    rw (read .hop-at .ensures) (hop-good _ _ [] _ (s .args .j) (s .pre .1) ok)
 
 returns-2 : tie.Need-returns-2
 returns-2 c =
     let read = c .before .before .before .before .before in
     let s = read .before .before .before in
-    hop-bad _ [] _ (s .args .j)
-    (hop-ok _ [] _ (s .args .j) (s .pre)
+    hop-bad _ _ [] _ (s .args .j)
+    (hop-ok _ _ [] _ (s .args .j) (s .pre .1)
     ∙ simp (c .before .before .ends-ok .ensures, c .before .times-ok .ensures, read .hop-at .ensures, clocked-signed) at (c .if1 .left))
 
 pub read-hop-spec : {M : Type 1} → statement M

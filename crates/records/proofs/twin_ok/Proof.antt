@@ -14,12 +14,12 @@ returns-2 : tie.Need-returns-2
 returns-2 c =
     let s = c .before .before .before .before .before in
     let w = now (s .args .walks) in
-    simp (ne-eqb _ _ (c .before .before .before .if1 .left), walk-count [] w [], walk-at [] w [] (s .args .w .twin) (c .before .before .if2 .taken), lt-ltb _ _ (c .before .before .if2 .taken), c .pair-ok .ensures, c .before .walk-at .ensures)
+    simp (ne-eqb _ _ (c .before .before .before .if1 .left), walk-count 16 [] w [], walk-at 16 [] w [] (s .args .w .twin) (c .before .before .if2 .taken), lt-ltb _ _ (c .before .before .if2 .taken), c .pair-ok .ensures, c .before .walk-at .ensures)
 
 returns-3 : tie.Need-returns-3
 returns-3 c =
     let s = c .before .before .before in
-    simp (ne-eqb _ _ (c .before .if1 .left), walk-count [] (now (s .args .walks)) [], le-ltb _ _ (c .if2 .left))
+    simp (ne-eqb _ _ (c .before .if1 .left), walk-count 16 [] (now (s .args .walks)) [], le-ltb _ _ (c .if2 .left))
 
 pub twin-ok-spec : {M : Type 1} → statement M
 twin-ok-spec =

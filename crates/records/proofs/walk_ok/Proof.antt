@@ -25,7 +25,7 @@ returns-2 c =
     let read = ends .before .before .before in
     let s = read .before .before .before in
     let e = rw (read .walk-at .ensures) at (sym (ends .ends-ok .ensures) ∙ not-true _ (c .if2 .taken)) in
-    sym (ends-decide (now (s .args .vertices)) (now (s .args .walks)) [] (s .args .i) (s .pre .0 .0) e)
+    sym (ends-decide 16 (now (s .args .vertices)) (now (s .args .walks)) [] (s .args .i) (s .pre .0 .0) e)
 
 returns-3 : tie.Need-returns-3
 returns-3 c =
@@ -33,7 +33,7 @@ returns-3 c =
     let read = long .before .before .before .before .before in
     let s = read .before .before .before in
     let e = rw (read .walk-at .ensures) at (sym (long .length-ok .ensures) ∙ not-true _ (c .if3 .taken)) in
-    sym (length-decides (now (s .args .vertices)) (now (s .args .walks)) [] (s .args .i) (s .pre .0 .0) e)
+    sym (length-decides 16 (now (s .args .vertices)) (now (s .args .walks)) [] (s .args .i) (s .pre .0 .0) e)
 
 returns-4 : tie.Need-returns-4
 returns-4 c =
@@ -43,7 +43,7 @@ returns-4 c =
     let s = read .before .before .before in
     let e = rw (read .walk-at .ensures) at (sym (ends .ends-ok .ensures) ∙ not-false _ (long .before .if2 .left)) in
     let f = rw (read .walk-at .ensures) at (sym (long .length-ok .ensures) ∙ not-false _ (c .before .if3 .left)) in
-    rw (c .twin-ok .ensures, read .walk-at .ensures) (sym (twin-decides (now (s .args .vertices)) (now (s .args .walks)) [] (s .args .i) (s .pre .0 .0) e f))
+    rw (c .twin-ok .ensures, read .walk-at .ensures) (sym (twin-decides 16 (now (s .args .vertices)) (now (s .args .walks)) [] (s .args .i) (s .pre .0 .0) e f))
 
 pub walk-ok-spec : {M : Type 1} → statement M
 walk-ok-spec =

@@ -9,10 +9,10 @@ settle-next-requires c κs =
     let b = c .before .before .before .before .before .before .pre .0 in (b .order, b .place, b .unsettled, b .some)
 
 walks-at-requires : tie.Need-walks-at-requires
-walks-at-requires c κs = c .before .before .before .before .before .before .before .before .before .pre .0 .standing
+walks-at-requires c κs = let b = c .before .before .before .before .before .before .before .before .before .pre .0 in (b .standing, b .sound .counted .fits)
 
 hops-at-requires : tie.Need-hops-at-requires
-hops-at-requires c κs = c .before .before .before .before .before .before .before .before .before .before .pre .0 .standing
+hops-at-requires c κs = let b = c .before .before .before .before .before .before .before .before .before .before .pre .0 in (b .standing, b .sound .counted .fits)
 
 arrive-requires : tie.Need-arrive-requires
 arrive-requires c κs =

@@ -12,18 +12,18 @@ use Rattle.steps.proofs.steps.Statement.{statement}
 use Rattle.steps.proofs.steps.Tie as tie
 
 abbrev Inv-loop : tie.InvT-loop
-Inv-loop vertices walks hops held₀ settled₀ scratch₀ q allowed limit p₀ held settled scratch p =
-    Stands vertices walks hops (length held₀) (length settled₀) (queryOf q) p held settled × (p .settled ≤ limit) × (scratch ≡ replicate 2048 0)
+Inv-loop vertices walks hops hop-size held₀ settled₀ scratch₀ q allowed limit p₀ held settled scratch p =
+    Stands hop-size vertices walks hops (length held₀) (length settled₀) (queryOf q) p held settled × (p .settled ≤ limit) × (scratch ≡ replicate 2048 0)
     × (length held ≡ length held₀) × (length settled ≡ length settled₀) × (length scratch ≡ length scratch₀)
 
 abbrev μ-loop : tie.MeasureT-loop
-μ-loop vertices walks hops held₀ settled₀ scratch₀ q allowed limit p₀ held settled scratch p = limit - p .settled
+μ-loop vertices walks hops hop-size held₀ settled₀ scratch₀ q allowed limit p₀ held settled scratch p = limit - p .settled
 
 loop-holds : tie.Need-loop-holds Inv-loop μ-loop
 loop-holds c = let a = c .before .before .before .before .before .before .pre in (a .1, omega (arith, a .0 .3), a .0 .2, refl, refl, refl)
 
 next-requires : tie.Need-next-requires Inv-loop μ-loop
-next-requires c κs = table-order _ _ _ _ _ _ (c .before .before .before .before .before .before .before .before .before .before .before .pre .0 .0) _ _ _ (c .before .before .before .before .loop .inv .0)
+next-requires c κs = table-order _ (c .before .before .before .before .before .before .before .before .before .before .before .pre .0 .4) _ _ _ _ _ _ (c .before .before .before .before .before .before .before .before .before .before .before .pre .0 .0) _ _ _ (c .before .before .before .before .loop .inv .0)
 
 same-length : tie.Need-same-length Inv-loop μ-loop
 same-length c = c .before .before .before .before .before .before .before .loop .inv .3
@@ -38,44 +38,44 @@ returns : tie.Need-returns Inv-loop μ-loop
 returns c =
     let a = c .before .before .before .before .before .before .before .before .before .before .before .before .before .before .pre .0 in
     let i = c .before .before .before .before .before .before .before .loop .inv in
-    (whole _ _ _ _ _ _ (a .0) _ _ _ (i .0) _ (i .1) (next-nothing _ _ _ _ (a .1) _ (c .before .before .next .ensures) (c .enum-told .given .1)), i .2)
+    (whole _ (a .4) _ _ _ _ _ _ (a .0) _ _ _ (i .0) _ (i .1) (next-nothing _ _ _ _ (a .1) _ (c .before .before .next .ensures) (c .enum-told .given .1)), i .2)
 
 arriving-at-requires : tie.Need-arriving-at-requires Inv-loop μ-loop
 arriving-at-requires c κs =
     let a = c .before .before .before .before .before .before .before .before .before .before .before .before .before .before .before .pre .0 in
-    run-fits _ _ _ _ _ _ (a .0) _ _ _ (c .before .before .before .before .before .before .before .before .loop .inv .0) _ _ _ (next-found _ _ _ _ (a .1) _ (c .before .before .before .next .ensures) (c .before .slot .given .1))
+    (run-fits _ (a .4) _ _ _ _ _ _ (a .0) _ _ _ (c .before .before .before .before .before .before .before .before .loop .inv .0) _ _ _ (next-found _ _ _ _ (a .1) _ (c .before .before .before .next .ensures) (c .before .slot .given .1)), omega (arith, a .4))
 
 step-requires : tie.Need-step-requires Inv-loop μ-loop
 step-requires c κs =
     let a = c .before .before .before .before .before .before .before .before .before .before .before .before .before .before .before .before .before .before .before .pre .0 in
     let i = c .before .before .before .before .before .before .before .before .before .before .before .before .loop .inv in
     let n = next-found _ _ _ _ (a .1) _ (c .before .before .before .before .before .before .before .next .ensures) (c .before .before .before .before .before .slot .given .1) in
-    ((begins-as _ _ _ _ _ _ (a .0) _ _ _ (i .0) _ _ _ n _ refl _ (c .before .before .before .arriving-at .ensures), i .2), counts-fit _ _ _ _ _ _ (a .0) _ _ _ (i .0))
+    ((begins-as _ (a .4) _ _ _ _ _ _ (a .0) _ _ _ (i .0) _ _ _ n _ refl _ (c .before .before .before .arriving-at .ensures), i .2), counts-fit _ (a .4) _ _ _ _ _ _ (a .0) _ _ _ (i .0))
 
 loop-less : tie.Need-loop-less Inv-loop μ-loop
 loop-less c =
     let a = c .before .before .before .before .before .before .before .before .before .before .before .before .before .before .before .before .before .before .before .before .before .before .before .before .before .before .before .before .before .pre .0 in
     let i = c .before .before .before .before .before .before .before .before .before .before .before .before .before .before .before .before .before .before .before .before .before .before .loop .inv in
     let n = next-found _ _ _ _ (a .1) _ (c .before .before .before .before .before .before .before .before .before .before .before .before .before .before .before .before .before .next .ensures) (c .before .before .before .before .before .before .before .before .before .before .before .before .before .before .before .slot .given .1) in
-    let t = subst (StepIs _ _ _ _ _ _ _) (c .before .more .given .1) (step-as _ _ _ _ _ _ (a .0) _ _ _ (i .0) _ _ _ n _ refl _ _ _ (c .before .before .before .before .before .before .before .before .before .before .before .before .before .arriving-at .ensures) _ (c .before .before .before .before .before .before .before .before .before .step .ensures .0)) in
-    omega (arith, one-counted _ _ _ _ _ _ (a .0) _ _ _ (i .0) _ _ _ n _ refl _ _ _ t, c .before .before .before .before .before .before .before .before .before .before .before .before .before .before .before .before .before .before .before .before .if1 .taken)
+    let t = subst (StepIs _ _ _ _ _ _ _) (c .before .more .given .1) (step-as _ (a .4) _ _ _ _ _ _ (a .0) _ _ _ (i .0) _ _ _ n _ refl _ _ _ (c .before .before .before .before .before .before .before .before .before .before .before .before .before .arriving-at .ensures) _ (c .before .before .before .before .before .before .before .before .before .step .ensures .0)) in
+    omega (arith, one-counted _ (a .4) _ _ _ _ _ _ (a .0) _ _ _ (i .0) _ _ _ n _ refl _ _ _ t, c .before .before .before .before .before .before .before .before .before .before .before .before .before .before .before .before .before .before .before .before .if1 .taken)
 
 loop-again : tie.Need-loop-again Inv-loop μ-loop
 loop-again c =
     let a = c .before .before .before .before .before .before .before .before .before .before .before .before .before .before .before .before .before .before .before .before .before .before .before .before .before .before .before .before .before .pre .0 in
     let i = c .before .before .before .before .before .before .before .before .before .before .before .before .before .before .before .before .before .before .before .before .before .before .loop .inv in
     let n = next-found _ _ _ _ (a .1) _ (c .before .before .before .before .before .before .before .before .before .before .before .before .before .before .before .before .before .next .ensures) (c .before .before .before .before .before .before .before .before .before .before .before .before .before .before .before .slot .given .1) in
-    let t = subst (StepIs _ _ _ _ _ _ _) (c .before .more .given .1) (step-as _ _ _ _ _ _ (a .0) _ _ _ (i .0) _ _ _ n _ refl _ _ _ (c .before .before .before .before .before .before .before .before .before .before .before .before .before .arriving-at .ensures) _ (c .before .before .before .before .before .before .before .before .before .step .ensures .0)) in (
-      stands-on _ _ _ _ _ _ (a .0) _ _ _ (i .0) _ _ _ n _ refl _ _ _ t,
-      omega (arith, one-counted _ _ _ _ _ _ (a .0) _ _ _ (i .0) _ _ _ n _ refl _ _ _ t, c .before .before .before .before .before .before .before .before .before .before .before .before .before .before .before .before .before .before .before .before .if1 .taken),
+    let t = subst (StepIs _ _ _ _ _ _ _) (c .before .more .given .1) (step-as _ (a .4) _ _ _ _ _ _ (a .0) _ _ _ (i .0) _ _ _ n _ refl _ _ _ (c .before .before .before .before .before .before .before .before .before .before .before .before .before .arriving-at .ensures) _ (c .before .before .before .before .before .before .before .before .before .step .ensures .0)) in (
+      stands-on _ (a .4) _ _ _ _ _ _ (a .0) _ _ _ (i .0) _ _ _ n _ refl _ _ _ t,
+      omega (arith, one-counted _ (a .4) _ _ _ _ _ _ (a .0) _ _ _ (i .0) _ _ _ n _ refl _ _ _ t, c .before .before .before .before .before .before .before .before .before .before .before .before .before .before .before .before .before .before .before .before .if1 .taken),
       c .before .before .before .before .before .before .before .before .before .step .ensures .1,
       omega (arith, i .3, c .before .before .before .before .before .before .before .before .held .given),
       omega (arith, i .4, c .before .before .before .before .before .before .settled .given),
       omega (arith, i .5, c .before .before .before .before .scratch .given),
     )
 
-add-t32 : tie.Need-add-t32 Inv-loop μ-loop
-add-t32 c = omega (arith, counts-fit _ _ _ _ _ _ (c .before .before .before .before .before .before .before .before .before .before .before .before .before .before .before .before .before .before .before .before .before .before .before .before .before .before .before .before .before .before .pre .0 .0) _ _ _ (c .before .before .before .before .before .before .before .before .before .before .before .before .before .before .before .before .before .before .before .before .before .before .before .loop .inv .0) .1)
+add-t33 : tie.Need-add-t33 Inv-loop μ-loop
+add-t33 c = omega (arith, counts-fit _ (c .before .before .before .before .before .before .before .before .before .before .before .before .before .before .before .before .before .before .before .before .before .before .before .before .before .before .before .before .before .before .pre .0 .4) _ _ _ _ _ _ (c .before .before .before .before .before .before .before .before .before .before .before .before .before .before .before .before .before .before .before .before .before .before .before .before .before .before .before .before .before .before .pre .0 .0) _ _ _ (c .before .before .before .before .before .before .before .before .before .before .before .before .before .before .before .before .before .before .before .before .before .before .before .loop .inv .0) .1)
 
 same-length-4 : tie.Need-same-length-4 Inv-loop μ-loop
 same-length-4 c = omega (arith, c .before .before .before .before .before .before .before .before .before .before .before .before .before .before .before .before .before .before .before .before .before .before .before .loop .inv .3, c .before .before .before .before .before .before .before .before .before .held .given)
@@ -91,11 +91,11 @@ returns-2 c =
     let a = c .before .before .before .before .before .before .before .before .before .before .before .before .before .before .before .before .before .before .before .before .before .before .before .before .before .before .before .before .before .before .pre .0 in
     let i = c .before .before .before .before .before .before .before .before .before .before .before .before .before .before .before .before .before .before .before .before .before .before .before .loop .inv in
     let n = next-found _ _ _ _ (a .1) _ (c .before .before .before .before .before .before .before .before .before .before .before .before .before .before .before .before .before .before .next .ensures) (c .before .before .before .before .before .before .before .before .before .before .before .before .before .before .before .before .slot .given .1) in
-    let t = subst (StepIs _ _ _ _ _ _ _) (c .before .before .n .given .1) (step-as _ _ _ _ _ _ (a .0) _ _ _ (i .0) _ _ _ n _ refl _ _ _ (c .before .before .before .before .before .before .before .before .before .before .before .before .before .before .arriving-at .ensures) _ (c .before .before .before .before .before .before .before .before .before .before .step .ensures .0)) in
-    (stops _ _ _ _ _ _ (a .0) _ _ _ (i .0) _ _ _ n _ refl _ _ _ _ (c .before .before .before .before .before .before .before .before .before .before .before .before .before .before .before .before .before .before .before .before .before .if1 .taken) t, c .before .before .before .before .before .before .before .before .before .before .step .ensures .1)
+    let t = subst (StepIs _ _ _ _ _ _ _) (c .before .before .n .given .1) (step-as _ (a .4) _ _ _ _ _ _ (a .0) _ _ _ (i .0) _ _ _ n _ refl _ _ _ (c .before .before .before .before .before .before .before .before .before .before .before .before .before .before .arriving-at .ensures) _ (c .before .before .before .before .before .before .before .before .before .before .step .ensures .0)) in
+    (stops _ (a .4) _ _ _ _ _ _ (a .0) _ _ _ (i .0) _ _ _ n _ refl _ _ _ _ (c .before .before .before .before .before .before .before .before .before .before .before .before .before .before .before .before .before .before .before .before .before .if1 .taken) t, c .before .before .before .before .before .before .before .before .before .before .step .ensures .1)
 
 waits-requires : tie.Need-waits-requires Inv-loop μ-loop
-waits-requires c κs = table-order _ _ _ _ _ _ (c .before .before .before .before .before .before .before .before .before .before .before .pre .0 .0) _ _ _ (c .before .before .before .before .loop .inv .0)
+waits-requires c κs = table-order _ (c .before .before .before .before .before .before .before .before .before .before .before .pre .0 .4) _ _ _ _ _ _ (c .before .before .before .before .before .before .before .before .before .before .before .pre .0 .0) _ _ _ (c .before .before .before .before .loop .inv .0)
 
 same-length-7 : tie.Need-same-length-7 Inv-loop μ-loop
 same-length-7 c = c .before .before .before .before .before .before .loop .inv .3
@@ -110,7 +110,7 @@ returns-3 : tie.Need-returns-3 Inv-loop μ-loop
 returns-3 c =
     let a = c .before .before .before .before .before .before .before .before .before .before .before .before .before .pre .0 in
     let i = c .before .before .before .before .before .before .loop .inv in
-    (some-wait _ _ _ _ _ _ (a .0) _ _ _ (i .0) _ (a .1) _ (c .before .waits .ensures) _ (omega (arith, i .1, c .before .before .before .before .if1 .left)) (c .if2 .taken), i .2)
+    (some-wait _ (a .4) _ _ _ _ _ _ (a .0) _ _ _ (i .0) _ (a .1) _ (c .before .waits .ensures) _ (omega (arith, i .1, c .before .before .before .before .if1 .left)) (c .if2 .taken), i .2)
 
 same-length-10 : tie.Need-same-length-10 Inv-loop μ-loop
 same-length-10 c = c .before .before .before .before .before .before .loop .inv .3
@@ -125,7 +125,7 @@ returns-4 : tie.Need-returns-4 Inv-loop μ-loop
 returns-4 c =
     let a = c .before .before .before .before .before .before .before .before .before .before .before .before .before .pre .0 in
     let i = c .before .before .before .before .before .before .loop .inv in
-    (none-wait _ _ _ _ _ _ (a .0) _ _ _ (i .0) _ (a .1) _ (c .before .waits .ensures) _ (i .1) (c .if2 .left), i .2)
+    (none-wait _ (a .4) _ _ _ _ _ _ (a .0) _ _ _ (i .0) _ (a .1) _ (c .before .waits .ensures) _ (i .1) (c .if2 .left), i .2)
 
 pub steps-spec : {M : Type 1} → statement M
 steps-spec =
@@ -147,7 +147,7 @@ steps-spec =
     loop-less
     loop-again
     (λ c. search needs)
-    add-t32
+    add-t33
     same-length-4
     same-length-5
     same-length-6
