@@ -108,9 +108,9 @@ static siltbrow_answer run(const Query *q, const Room *room)
 {
     uint8_t bytes[SILTBROW_ANSWER_SIZE];
     (void)siltbrow_run(vertices.bytes, vertices.len, walks.bytes, walks.len, hops.bytes, hops.len,
-                       q->record, q->offset, q->arrival, q->duration, q->speed, SILTBROW_NO_LIMIT,
-                       room->held, room->held_len, room->settled, room->settled_len, bytes,
-                       sizeof bytes);
+                       SILTBROW_HOP_SIZE, q->record, q->offset, q->arrival, q->duration, q->speed,
+                       SILTBROW_NO_LIMIT, room->held, room->held_len, room->settled,
+                       room->settled_len, bytes, sizeof bytes);
     return siltbrow_read_answer(bytes);
 }
 
@@ -119,9 +119,9 @@ static siltbrow_parts_answer cover(const Query *q, const Room *room)
 {
     uint8_t bytes[SILTBROW_PARTS_ANSWER_SIZE];
     (void)siltbrow_parts(vertices.bytes, vertices.len, walks.bytes, walks.len, hops.bytes, hops.len,
-                         q->record, q->offset, q->arrival, q->duration, q->speed, room->settled,
-                         SILTBROW_LIST_BYTES(q->answer.settled), room->parts, room->parts_len,
-                         bytes, sizeof bytes);
+                         SILTBROW_HOP_SIZE, q->record, q->offset, q->arrival, q->duration, q->speed,
+                         room->settled, SILTBROW_LIST_BYTES(q->answer.settled), room->parts,
+                         room->parts_len, bytes, sizeof bytes);
     return siltbrow_read_parts(bytes);
 }
 

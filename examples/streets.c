@@ -46,8 +46,9 @@ static siltbrow_answer run(uint32_t offset)
     uint8_t bytes[SILTBROW_ANSWER_SIZE];
     /* It returns 1 only where the answer has another size. */
     (void)siltbrow_run(vertices, sizeof vertices, walks, sizeof walks, hops, sizeof hops,
-                       RECORD_ASKED, offset, ARRIVAL, DURATION, SPEED, SILTBROW_NO_LIMIT, held,
-                       sizeof held, settled, sizeof settled, bytes, sizeof bytes);
+                       SILTBROW_HOP_SIZE, RECORD_ASKED, offset, ARRIVAL, DURATION, SPEED,
+                       SILTBROW_NO_LIMIT, held, sizeof held, settled, sizeof settled, bytes,
+                       sizeof bytes);
     return siltbrow_read_answer(bytes);
 }
 
@@ -57,8 +58,9 @@ static siltbrow_parts_answer cover(uint32_t offset, uint32_t count)
 {
     uint8_t bytes[SILTBROW_PARTS_ANSWER_SIZE];
     (void)siltbrow_parts(vertices, sizeof vertices, walks, sizeof walks, hops, sizeof hops,
-                         RECORD_ASKED, offset, ARRIVAL, DURATION, SPEED, settled,
-                         SILTBROW_LIST_BYTES(count), parts, sizeof parts, bytes, sizeof bytes);
+                         SILTBROW_HOP_SIZE, RECORD_ASKED, offset, ARRIVAL, DURATION, SPEED,
+                         settled, SILTBROW_LIST_BYTES(count), parts, sizeof parts, bytes,
+                         sizeof bytes);
     return siltbrow_read_parts(bytes);
 }
 

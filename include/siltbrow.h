@@ -18,6 +18,12 @@
  *                     departing records (2 bytes), zero (2 bytes)
  *   walk,   16 bytes: from, to, length in decimetres, twin or FFFFFFFF
  *   hop,    16 bytes: from, to, departure, arrival
+ *       or  20 bytes: the same and the trip, 0 for unknown
+ *
+ * Every call that takes the three tables takes the size of a hop record behind
+ * them: hop_size, 16 or 20, the same for the whole table. A caller that knows
+ * no trips passes 16 (SILTBROW_HOP_SIZE), and its tables stay as they are. A
+ * trip says which vehicle a ride belongs to; no answer depends on it.
  *
  * siltbrow_check judges the three tables, which it only reads, and returns
  * refusal * 2^32 + place: 0 where nothing is refused, otherwise the lowest
@@ -25,7 +31,8 @@
  *
  *   refusal 1: a length is no whole number of records, or a count is outside
  *              its limits: 1 to 65,536 vertices, up to 262,144 walks, up to
- *              262,144 hops (place: 0 vertex, 1 walk, 2 hop table)
+ *              262,144 hops (place: 0 vertex, 1 walk, 2 hop table); and where
+ *              hop_size is not 16 or 20, also over an empty hop table (2)
  *   refusal 2: a walk's end is no vertex, its ends are equal, its length is
  *              not 1 to 100,000, or its twin is not the same road the other
  *              way that names it back (place: the walk record)
@@ -37,7 +44,7 @@
  *   refusal 6: a vertex's first walk, first hop, departing count or zero is
  *              wrong (the vertex)
  *
- *   uint64_t answer = siltbrow_check(v, v_len, w, w_len, h, h_len);
+ *   uint64_t answer = siltbrow_check(v, v_len, w, w_len, h, h_len, 16);
  *   uint32_t refusal = (uint32_t)(answer >> 32), place = (uint32_t)answer;
  *
  * siltbrow_run answers one query over the three tables, which it only reads.
@@ -166,8 +173,21 @@
  *
  * The lowest number is given, then the lowest place.
  *
- * Until it returns, a call uses its buffers and its answer alone: they overlap
- * neither one another nor what the call reads.
+ * siltbrow_hops_forward moves a hop table from records of 16 bytes to records
+ * of 20, with trip 0 in each. siltbrow_hops_backward moves one from 20 bytes to
+ * 16, and does so exactly if every trip is 0, so that nothing is lost. Forward
+ * then backward gives the same bytes. What the records say is not judged. Both
+ * read the source, fill the target, and return refusal * 2^32 + place.
+ *
+ *   refusal 1:  the source is no whole number of records, or has more than
+ *               262,144 (place: 2); the target is not exactly as many records
+ *               long as the source (6)
+ *   refusal 11: backward alone: a trip is not 0 (the first such record)
+ *
+ * They are judged in this order. A refused move changes no byte of the target.
+ *
+ * Until it returns, a call uses its buffers, its target and its answer alone:
+ * they overlap neither one another nor what the call reads.
  *
  * What a call costs:
  *
@@ -182,6 +202,7 @@
  * - One held record for each vertex keeps the search fast on any tables. With
  *   less room tables can be made on which a run takes over a second.
  * - A frame of 65,536 entries takes about a millisecond.
+ * - A move takes about as long as a copy of the bytes.
  * - A call uses less than 8 KB of stack, 4,096 bytes of them for its arrays.
  * - The library is code for x86-64 Linux. It needs memset and nothing else.
  *   siltbrow_frame compares floats: call it with denormal numbers as they are,
@@ -197,13 +218,17 @@
 /* The second number moves where a call changes, the third where only the
  * inside does; the first becomes 1 when all calls are there.
  *
+ * 0.4: siltbrow_check, siltbrow_run and siltbrow_parts take hop_size behind the
+ *      hops: a caller whose hops have 16 bytes adds SILTBROW_HOP_SIZE there,
+ *      and gets what it got. siltbrow_hops_forward and siltbrow_hops_backward
+ *      are new, and with them refusal 11.
  * 0.3: siltbrow_run has lost its part buffer, its part count is always 0 and
  *      refusal 10 is gone from it; siltbrow_parts makes the parts. A page that
  *      shows streets calls it with the records that the run has settled.
  * 0.2: siltbrow_frame is new. */
-#define SILTBROW_VERSION "0.3.0"
+#define SILTBROW_VERSION "0.4.0"
 #define SILTBROW_VERSION_MAJOR 0
-#define SILTBROW_VERSION_MINOR 3
+#define SILTBROW_VERSION_MINOR 4
 #define SILTBROW_VERSION_PATCH 0
 
 #ifdef __cplusplus
@@ -212,11 +237,11 @@ extern "C" {
 
 uint64_t siltbrow_check(const uint8_t *vertices, size_t vertices_len,
                         const uint8_t *walks, size_t walks_len,
-                        const uint8_t *hops, size_t hops_len);
+                        const uint8_t *hops, size_t hops_len, uint32_t hop_size);
 
 uint32_t siltbrow_run(const uint8_t *vertices, size_t vertices_len,
                       const uint8_t *walks, size_t walks_len,
-                      const uint8_t *hops, size_t hops_len,
+                      const uint8_t *hops, size_t hops_len, uint32_t hop_size,
                       uint32_t record, uint32_t offset, int32_t arrival,
                       uint32_t duration, uint32_t speed, uint32_t limit,
                       uint8_t *held, size_t held_len,
@@ -225,7 +250,7 @@ uint32_t siltbrow_run(const uint8_t *vertices, size_t vertices_len,
 
 uint32_t siltbrow_parts(const uint8_t *vertices, size_t vertices_len,
                         const uint8_t *walks, size_t walks_len,
-                        const uint8_t *hops, size_t hops_len,
+                        const uint8_t *hops, size_t hops_len, uint32_t hop_size,
                         uint32_t record, uint32_t offset, int32_t arrival,
                         uint32_t duration, uint32_t speed,
                         const uint8_t *list, size_t list_len,
@@ -237,11 +262,18 @@ uint32_t siltbrow_frame(const uint8_t *vertices, size_t vertices_len,
                         const uint8_t *coordinates, size_t coordinates_len,
                         uint8_t *answer, size_t answer_len);
 
+uint64_t siltbrow_hops_forward(const uint8_t *source, size_t source_len,
+                               uint8_t *target, size_t target_len);
+
+uint64_t siltbrow_hops_backward(const uint8_t *source, size_t source_len,
+                                uint8_t *target, size_t target_len);
+
 /* The bytes of each record, of a point of the coordinate table, of the answer
  * of a run or a frame, and of that of siltbrow_parts. */
 #define SILTBROW_VERTEX_SIZE 12u
 #define SILTBROW_WALK_SIZE 16u
 #define SILTBROW_HOP_SIZE 16u
+#define SILTBROW_HOP_WITH_TRIP_SIZE 20u
 #define SILTBROW_HELD_SIZE 16u
 #define SILTBROW_SETTLED_SIZE 8u
 #define SILTBROW_PART_SIZE 12u
@@ -266,7 +298,8 @@ uint32_t siltbrow_frame(const uint8_t *vertices, size_t vertices_len,
 #define SILTBROW_MAX_SPEED 100u
 
 /* The refusals: 1 to 6 of the check; 1 to 9 of a run; 1 to 7, 21 and 10 of
- * parts; 1, 21, 23 and 24 of a frame. */
+ * parts; 1, 21, 23 and 24 of a frame; 1 of a move, and 11 where it goes
+ * backward. */
 #define SILTBROW_ACCEPTED 0u
 #define SILTBROW_BAD_LENGTH 1u
 #define SILTBROW_BAD_WALK 2u
@@ -278,6 +311,7 @@ uint32_t siltbrow_frame(const uint8_t *vertices, size_t vertices_len,
 #define SILTBROW_HELD_ROOM 8u
 #define SILTBROW_SETTLED_ROOM 9u
 #define SILTBROW_PART_ROOM 10u
+#define SILTBROW_KNOWN_TRIP 11u
 #define SILTBROW_BAD_ENTRY 21u
 #define SILTBROW_BAD_POINT 23u
 #define SILTBROW_EMPTY_LIST 24u
@@ -285,6 +319,10 @@ uint32_t siltbrow_frame(const uint8_t *vertices, size_t vertices_len,
 /* The bytes of a list, from the settled count of a run: what siltbrow_parts and
  * siltbrow_frame are given of the settled buffer. */
 #define SILTBROW_LIST_BYTES(settled) ((size_t)(settled) * SILTBROW_SETTLED_SIZE)
+
+/* The bytes of the target of a move, from those of its source. */
+#define SILTBROW_FORWARD_BYTES(source_len) ((source_len) / SILTBROW_HOP_SIZE * SILTBROW_HOP_WITH_TRIP_SIZE)
+#define SILTBROW_BACKWARD_BYTES(source_len) ((source_len) / SILTBROW_HOP_WITH_TRIP_SIZE * SILTBROW_HOP_SIZE)
 
 /* Bytes that are always enough, from the bytes of a table: for buffers that
  * are arrays as well as for those that are allocated. */
@@ -393,7 +431,18 @@ static inline siltbrow_frame_answer siltbrow_read_frame(const uint8_t *bytes)
     return answer;
 }
 
-/* Refusal and place in what siltbrow_check returns. */
+/* The trip of a hop record of 20 bytes; 0 is unknown. */
+static inline uint32_t siltbrow_get_trip(const uint8_t *hop)
+{
+    return siltbrow_get(hop + SILTBROW_HOP_SIZE);
+}
+
+static inline void siltbrow_put_trip(uint8_t *hop, uint32_t trip)
+{
+    siltbrow_put(hop + SILTBROW_HOP_SIZE, trip);
+}
+
+/* Refusal and place in what siltbrow_check or a move returns. */
 static inline uint32_t siltbrow_check_refusal(uint64_t checked)
 {
     return (uint32_t)(checked >> 32);
@@ -409,7 +458,7 @@ static inline const char *siltbrow_refusal_text(uint32_t refusal)
 {
     switch (refusal) {
     case SILTBROW_ACCEPTED: return "nothing is refused";
-    case SILTBROW_BAD_LENGTH: return "a length is no whole number of records, or a table has too few or too many";
+    case SILTBROW_BAD_LENGTH: return "a length is no whole number of records, a table has too few or too many, or a hop's size is not 16 or 20";
     case SILTBROW_BAD_WALK: return "a walk's ends, length or twin are wrong";
     case SILTBROW_BAD_HOP: return "a hop's ends or times are wrong";
     case SILTBROW_WALK_ORDER: return "the walks do not ascend by \"to\"";
@@ -419,6 +468,7 @@ static inline const char *siltbrow_refusal_text(uint32_t refusal)
     case SILTBROW_HELD_ROOM: return "there is too little room for held records";
     case SILTBROW_SETTLED_ROOM: return "there is too little room for settled records";
     case SILTBROW_PART_ROOM: return "there is too little room for parts";
+    case SILTBROW_KNOWN_TRIP: return "a hop's trip is known, and 16 bytes have no place for it";
     case SILTBROW_BAD_ENTRY: return "an entry of the list names no vertex, one that an earlier entry has or, for parts, a distance above the duration";
     case SILTBROW_BAD_POINT: return "a coordinate is not finite";
     case SILTBROW_EMPTY_LIST: return "the list is empty";
@@ -430,11 +480,12 @@ static inline const char *siltbrow_refusal_text(uint32_t refusal)
 static inline const char *siltbrow_place_text(uint32_t refusal)
 {
     switch (refusal) {
-    case SILTBROW_BAD_LENGTH: return "slice: 0 vertices, 1 walks, 2 hops, 3 held, 4 settled or list, 5 parts, 6 coordinates";
+    case SILTBROW_BAD_LENGTH: return "slice: 0 vertices, 1 walks, 2 hops, 3 held, 4 settled or list, 5 parts, 6 coordinates or target";
     case SILTBROW_BAD_WALK:
     case SILTBROW_WALK_ORDER: return "walk record";
     case SILTBROW_BAD_HOP:
-    case SILTBROW_HOP_ORDER: return "hop record";
+    case SILTBROW_HOP_ORDER:
+    case SILTBROW_KNOWN_TRIP: return "hop record";
     case SILTBROW_BAD_VERTEX: return "vertex record";
     case SILTBROW_BAD_QUERY: return "field: 0 record, 1 offset, 2 arrival, 3 duration, 4 speed";
     case SILTBROW_HELD_ROOM:

@@ -28,15 +28,40 @@ static uint32_t get(const uint8_t *p)
     return (uint32_t)p[0] << 24 | (uint32_t)p[1] << 16 | (uint32_t)p[2] << 8 | p[3];
 }
 
-static void expect(const char *name, tables t, uint32_t refusal, uint32_t place)
+static void compare(const char *name, uint64_t answer, uint32_t refusal, uint32_t place)
 {
-    uint64_t answer = siltbrow_check(t.v, t.v_len, t.w, t.w_len, t.h, t.h_len);
     if (answer == ((uint64_t)refusal << 32 | place)) {
         passed++;
         return;
     }
     failed++;
     printf("%s: expected %u %u, got %u %u\n", name, refusal, place, (uint32_t)(answer >> 32), (uint32_t)answer);
+}
+
+/* The same hops with some trip behind each. Bytes behind the last whole hop stay there, and make no whole one of 20. */
+static uint64_t with_trips(tables t)
+{
+    size_t hops = t.h_len / 16, rest = t.h_len % 16, i;
+    uint8_t *wide = malloc(20 * hops + rest + 1);
+    uint64_t answer;
+    if (!wide)
+        exit(2);
+    for (i = 0; i < hops; i++) {
+        memcpy(wide + 20 * i, t.h + 16 * i, 16);
+        put(wide + 20 * i + 16, 0x9E3779B9u * (uint32_t)(i + 1));
+    }
+    for (i = 0; i < rest; i++)
+        wide[20 * hops + i] = t.h[16 * hops + i];
+    answer = siltbrow_check(t.v, t.v_len, t.w, t.w_len, wide, 20 * hops + rest, SILTBROW_HOP_WITH_TRIP_SIZE);
+    free(wide);
+    return answer;
+}
+
+/* In both sizes of a hop. */
+static void expect(const char *name, tables t, uint32_t refusal, uint32_t place)
+{
+    compare(name, siltbrow_check(t.v, t.v_len, t.w, t.w_len, t.h, t.h_len, SILTBROW_HOP_SIZE), refusal, place);
+    compare(name, with_trips(t), refusal, place);
 }
 
 /* ---- tables */
@@ -88,6 +113,21 @@ static tables base(void)
     record(t.w, 5, 3, 4, 900, 4);
     record(t.h, 0, 3, 1, 35760, 35880);
     return t;
+}
+
+/* Any other size of a hop is refused, whatever the hop table is, and after the other two tables. */
+static void sizes(void)
+{
+    static const uint32_t wrong[] = {0, 1, 4, 8, 12, 15, 17, 19, 21, 24, 32, 40, 272, 276, 65552, 0x80000000, 0x80000010, 0xFFFFFFF0, NONE};
+    tables t = base();
+    size_t i;
+    for (i = 0; i < sizeof wrong / sizeof *wrong; i++) {
+        compare("a size", siltbrow_check(t.v, t.v_len, t.w, t.w_len, t.h, t.h_len, wrong[i]), 1, 2);
+        compare("a size over no hop", siltbrow_check(t.v, t.v_len, t.w, t.w_len, NULL, 0, wrong[i]), 1, 2);
+        compare("a size after vertices", siltbrow_check(t.v, t.v_len - 1, t.w, t.w_len, t.h, t.h_len, wrong[i]), 1, 0);
+        compare("a size after walks", siltbrow_check(t.v, t.v_len, t.w, t.w_len - 1, t.h, t.h_len, wrong[i]), 1, 1);
+    }
+    release(t);
 }
 
 /* Firsts, departing counts and zeros that are right for the records. */
@@ -469,6 +509,7 @@ static void random_tables(void)
 int main(void)
 {
     lengths();
+    sizes();
     records();
     order();
     vertices();

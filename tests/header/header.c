@@ -53,9 +53,10 @@ static siltbrow_answer ask(uint32_t record, uint32_t offset, int32_t arrival, ui
                            uint32_t speed, size_t held_len, size_t settled_len)
 {
     uint8_t bytes[SILTBROW_ANSWER_SIZE];
-    (void)siltbrow_run(vertices, sizeof vertices, walks, sizeof walks, hops, sizeof hops, record,
-                       offset, arrival, duration, speed, SILTBROW_NO_LIMIT, held, held_len, settled,
-                       settled_len, bytes, sizeof bytes);
+    (void)siltbrow_run(vertices, sizeof vertices, walks, sizeof walks, hops, sizeof hops,
+                       SILTBROW_HOP_SIZE, record, offset, arrival, duration, speed,
+                       SILTBROW_NO_LIMIT, held, held_len, settled, settled_len, bytes,
+                       sizeof bytes);
     return siltbrow_read_answer(bytes);
 }
 
@@ -68,9 +69,10 @@ static siltbrow_answer ask_fully(uint32_t duration, uint32_t speed)
 static siltbrow_parts_answer cover(uint32_t record, uint32_t offset, size_t list_len, size_t parts_len)
 {
     uint8_t bytes[SILTBROW_PARTS_ANSWER_SIZE];
-    (void)siltbrow_parts(vertices, sizeof vertices, walks, sizeof walks, hops, sizeof hops, record,
-                         offset, SILTBROW_MAX_TIME, SILTBROW_MAX_DURATION, SILTBROW_MAX_SPEED,
-                         settled, list_len, parts, parts_len, bytes, sizeof bytes);
+    (void)siltbrow_parts(vertices, sizeof vertices, walks, sizeof walks, hops, sizeof hops,
+                         SILTBROW_HOP_SIZE, record, offset, SILTBROW_MAX_TIME,
+                         SILTBROW_MAX_DURATION, SILTBROW_MAX_SPEED, settled, list_len, parts,
+                         parts_len, bytes, sizeof bytes);
     return siltbrow_read_parts(bytes);
 }
 
@@ -82,7 +84,7 @@ static void refused(siltbrow_answer answer, uint32_t refusal, uint32_t place, co
 /* The check of the three tables as they stand, some of them cut. */
 static void checked(size_t v, size_t w, size_t h, uint32_t refusal, uint32_t place, const char *what)
 {
-    uint64_t answer = siltbrow_check(vertices, v, walks, w, hops, h);
+    uint64_t answer = siltbrow_check(vertices, v, walks, w, hops, h, SILTBROW_HOP_SIZE);
     count(siltbrow_check_refusal(answer) == refusal && siltbrow_check_place(answer) == place, what);
 }
 
@@ -187,8 +189,8 @@ static void parts_test(void)
           "a place in the middle gives two parts more than there are walks");
     count(siltbrow_get(parts) == 0 && siltbrow_get(parts + 4) == 0 && siltbrow_get(parts + 8) == half, "the first part ends at the place");
     count(cover(0, half, 0, p).parts == 2 && siltbrow_get(parts + 2 * SILTBROW_PART_SIZE) == 0, "an empty list gives the parts of step 0, and zeros");
-    count(siltbrow_parts(vertices, sizeof vertices, walks, sizeof walks, hops, sizeof hops, 0, half, 0, 1, 1, settled, l,
-                         parts, p, NULL, 0) == 1, "an answer that is too short");
+    count(siltbrow_parts(vertices, sizeof vertices, walks, sizeof walks, hops, sizeof hops, SILTBROW_HOP_SIZE, 0, half, 0, 1, 1,
+                         settled, l, parts, p, NULL, 0) == 1, "an answer that is too short");
     uncovered(2, l, p, SILTBROW_BAD_QUERY, 0, "no such walk");
     uncovered(0, l - 1, p, SILTBROW_BAD_LENGTH, 4, "a cut entry");
     uncovered(0, l, p - 1, SILTBROW_BAD_LENGTH, 5, "a cut part");
@@ -207,11 +209,42 @@ static void parts_test(void)
 static void count_test(void)
 {
     static uint8_t many[(SILTBROW_MAX_VERTICES + 1) * SILTBROW_VERTEX_SIZE];
-    uint64_t most = siltbrow_check(many, sizeof many - SILTBROW_VERTEX_SIZE, NULL, 0, NULL, 0);
-    uint64_t more = siltbrow_check(many, sizeof many, NULL, 0, NULL, 0);
+    uint64_t most = siltbrow_check(many, sizeof many - SILTBROW_VERTEX_SIZE, NULL, 0, NULL, 0, SILTBROW_HOP_SIZE);
+    uint64_t more = siltbrow_check(many, sizeof many, NULL, 0, NULL, 0, SILTBROW_HOP_SIZE);
     count(most == 0, "as many vertices as there may be");
     count(siltbrow_check_refusal(more) == SILTBROW_BAD_LENGTH, "one vertex more");
     count(SILTBROW_MAX_WALKS == 4 * SILTBROW_MAX_VERTICES && SILTBROW_MAX_HOPS == SILTBROW_MAX_WALKS, "walks and hops");
+}
+
+static void moved(uint64_t answer, uint32_t refusal, uint32_t place, const char *what)
+{
+    count(siltbrow_check_refusal(answer) == refusal && siltbrow_check_place(answer) == place, what);
+}
+
+/* The hops to 20 bytes and back, and the same answers over both. */
+static void move_test(void)
+{
+    uint8_t wide[SILTBROW_FORWARD_BYTES(sizeof hops)], back[sizeof hops];
+    size_t v = sizeof vertices, w = sizeof walks, h = sizeof hops, x = sizeof wide;
+    memset(wide, 7, x);
+    moved(siltbrow_hops_forward(hops, h - 1, wide, x), SILTBROW_BAD_LENGTH, 2, "a cut hop is not moved");
+    moved(siltbrow_hops_forward(hops, h, wide, x - 1), SILTBROW_BAD_LENGTH, 6, "a target that is too short");
+    count(wide[0] == 7 && wide[x - 1] == 7, "a refused move changes nothing");
+    moved(siltbrow_hops_forward(hops, h, wide, x), SILTBROW_ACCEPTED, 0, "forward");
+    count(siltbrow_get_trip(wide) == 0 && siltbrow_get_trip(wide + SILTBROW_HOP_WITH_TRIP_SIZE) == 0, "forward sets the trips to 0");
+    count(SILTBROW_BACKWARD_BYTES(sizeof wide) == sizeof hops, "the bytes of the way back");
+    moved(siltbrow_hops_backward(wide, x, back, h), SILTBROW_ACCEPTED, 0, "backward");
+    count(memcmp(back, hops, h) == 0, "forward then backward gives the same bytes");
+    siltbrow_put_trip(wide + SILTBROW_HOP_WITH_TRIP_SIZE, 1001);
+    count(siltbrow_get_trip(wide + SILTBROW_HOP_WITH_TRIP_SIZE) == 1001, "a trip comes back from its bytes");
+    memset(back, 7, h);
+    moved(siltbrow_hops_backward(wide, x, back, h - 1), SILTBROW_BAD_LENGTH, 6, "the target is judged before the trips");
+    moved(siltbrow_hops_backward(wide, x, back, h), SILTBROW_KNOWN_TRIP, 1, "a trip that is known");
+    count(back[0] == 7 && back[h - 1] == 7, "what is known is not lost");
+    moved(siltbrow_hops_forward(NULL, 0, NULL, 0), SILTBROW_ACCEPTED, 0, "no hop");
+    moved(siltbrow_check(vertices, v, walks, w, wide, x, SILTBROW_HOP_WITH_TRIP_SIZE), SILTBROW_ACCEPTED, 0, "hops with trips");
+    moved(siltbrow_check(vertices, v, walks, w, wide, x, SILTBROW_HOP_SIZE), SILTBROW_BAD_LENGTH, 2, "another size than they have");
+    moved(siltbrow_check(vertices, v, walks, w, NULL, 0, 0), SILTBROW_BAD_LENGTH, 2, "no size");
 }
 
 /* The same bits: == takes -0.0 for 0.0. */
@@ -260,7 +293,7 @@ static void frame_test(void)
 
 static void text_test(void)
 {
-    static const uint32_t refusals[] = {0, 1, 2, 3, 4, 5, 6, 7, 8, 9, 10, SILTBROW_BAD_ENTRY, SILTBROW_BAD_POINT, SILTBROW_EMPTY_LIST, 99};
+    static const uint32_t refusals[] = {0, 1, 2, 3, 4, 5, 6, 7, 8, 9, 10, SILTBROW_KNOWN_TRIP, SILTBROW_BAD_ENTRY, SILTBROW_BAD_POINT, SILTBROW_EMPTY_LIST, 99};
     char version[32];
     for (size_t a = 0; a < sizeof refusals / sizeof *refusals; a++)
         for (size_t b = 0; b < a; b++)
@@ -279,6 +312,7 @@ int main(void)
     query_test();
     parts_test();
     count_test();
+    move_test();
     frame_test();
     text_test();
     printf("%u passed, %u failed\n", passed, failed);

@@ -48,9 +48,9 @@ static void *run(void *unused)
 {
     uint8_t here = 0;
     top = &here;
-    (void)siltbrow_run(vertices, sizeof vertices, walks, sizeof walks, NULL, 0, WALKS / 2, 10, 36000,
-                       SILTBROW_MAX_DURATION, 14, limit, held, held_len, settled, sizeof settled,
-                       answer, sizeof answer);
+    (void)siltbrow_run(vertices, sizeof vertices, walks, sizeof walks, NULL, 0,
+                       SILTBROW_HOP_SIZE, WALKS / 2, 10, 36000, SILTBROW_MAX_DURATION, 14, limit,
+                       held, held_len, settled, sizeof settled, answer, sizeof answer);
     return unused;
 }
 
@@ -59,8 +59,9 @@ static void *cover(void *unused)
 {
     uint8_t here = 0;
     top = &here;
-    (void)siltbrow_parts(vertices, sizeof vertices, walks, sizeof walks, NULL, 0, WALKS / 2, 10, 36000,
-                         SILTBROW_MAX_DURATION, 14, settled, list_len, parts, sizeof parts, answer,
+    (void)siltbrow_parts(vertices, sizeof vertices, walks, sizeof walks, NULL, 0,
+                         SILTBROW_HOP_SIZE, WALKS / 2, 10, 36000, SILTBROW_MAX_DURATION, 14,
+                         settled, list_len, parts, sizeof parts, answer,
                          SILTBROW_PARTS_ANSWER_SIZE);
     return unused;
 }
@@ -69,7 +70,7 @@ static void *check(void *unused)
 {
     uint8_t here = 0;
     top = &here;
-    if (siltbrow_check(vertices, sizeof vertices, walks, sizeof walks, NULL, 0) != 0)
+    if (siltbrow_check(vertices, sizeof vertices, walks, sizeof walks, NULL, 0, SILTBROW_HOP_SIZE) != 0)
         exit(2);
     return unused;
 }
