@@ -16,13 +16,13 @@
 
 #include "siltbrow.h"
 
-enum { END = 0, CHECK = 1, RUN = 2, PARTS_ALONE = 3, PAIR = 4 };
+enum { END = 0, CHECK = 1, RUN = 2, PARTS_ALONE = 3, PAIR = 4, FORWARD = 5, BACKWARD = 6 };
 
 /* An odd length, so that no slice begins at an even address by design: the
  * library may not count on more than bytes. */
 enum { GUARD = 61 };
 
-enum { VERTICES, WALKS, HOPS, HELD, SETTLED, ANSWER, LIST, PARTS, PARTS_ANSWER, SLICES };
+enum { VERTICES, WALKS, HOPS, HELD, SETTLED, ANSWER, LIST, PARTS, PARTS_ANSWER, TARGET, SLICES };
 
 /* How long a record of a settled list is, and where the run's answer has the
  * refusal and the settled count. */
@@ -198,39 +198,39 @@ static void close_slices(Slice *slices)
     write_number(bits, 2);
 }
 
-static uint64_t check(const Slice *s)
+static uint64_t check(const Slice *s, uint32_t hop_size)
 {
     return siltbrow_check(s[VERTICES].bytes, s[VERTICES].len, s[WALKS].bytes, s[WALKS].len,
-                          s[HOPS].bytes, s[HOPS].len);
+                          s[HOPS].bytes, s[HOPS].len, hop_size);
 }
 
-static uint32_t run(const Slice *s, Query q, uint32_t limit)
+static uint32_t run(const Slice *s, uint32_t hop_size, Query q, uint32_t limit)
 {
     return siltbrow_run(s[VERTICES].bytes, s[VERTICES].len, s[WALKS].bytes, s[WALKS].len,
-                        s[HOPS].bytes, s[HOPS].len, q.record, q.offset, q.arrival, q.duration,
-                        q.speed, limit, s[HELD].bytes, s[HELD].len, s[SETTLED].bytes,
+                        s[HOPS].bytes, s[HOPS].len, hop_size, q.record, q.offset, q.arrival,
+                        q.duration, q.speed, limit, s[HELD].bytes, s[HELD].len, s[SETTLED].bytes,
                         s[SETTLED].len, s[ANSWER].bytes, s[ANSWER].len);
 }
 
-static uint32_t parts(const Slice *s, Query q, const uint8_t *list, size_t list_len)
+static uint32_t parts(const Slice *s, uint32_t hop_size, Query q, const uint8_t *list, size_t list_len)
 {
     return siltbrow_parts(s[VERTICES].bytes, s[VERTICES].len, s[WALKS].bytes, s[WALKS].len,
-                          s[HOPS].bytes, s[HOPS].len, q.record, q.offset, q.arrival, q.duration,
-                          q.speed, list, list_len, s[PARTS].bytes, s[PARTS].len,
+                          s[HOPS].bytes, s[HOPS].len, hop_size, q.record, q.offset, q.arrival,
+                          q.duration, q.speed, list, list_len, s[PARTS].bytes, s[PARTS].len,
                           s[PARTS_ANSWER].bytes, s[PARTS_ANSWER].len);
 }
 
 /* The run, and where it is accepted the parts of its own list: as many bytes of
  * its settled buffer as it tells, where they stand. */
-static uint64_t pair(const Slice *s, Query q, uint32_t limit)
+static uint64_t pair(const Slice *s, uint32_t hop_size, Query q, uint32_t limit)
 {
-    uint64_t value = (uint64_t)run(s, q, limit) << 32;
+    uint64_t value = (uint64_t)run(s, hop_size, q, limit) << 32;
     if (value != 0 || s[ANSWER].len != ANSWER_SIZE || number_at(s[ANSWER].bytes + REFUSAL_AT) != 0)
         return value;
     size_t list_len = SETTLED_SIZE * (size_t)number_at(s[ANSWER].bytes + COUNT_AT);
     if (list_len > s[SETTLED].len)
         return value;
-    return value | parts(s, q, s[SETTLED].bytes, list_len);
+    return value | parts(s, hop_size, q, s[SETTLED].bytes, list_len);
 }
 
 static Query read_query(void)
@@ -245,6 +245,21 @@ static Query read_query(void)
     return q;
 }
 
+/* A move from the hops that are read to the target. */
+static void do_move(int kind, int null)
+{
+    Slice s[SLICES] = {{NULL, NULL, NULL, 0, 0, NULL}};
+    s[HOPS] = read_slice(null, HOPS);
+    s[TARGET] = read_slice(null, TARGET);
+    uint64_t (*move)(const uint8_t *, size_t, uint8_t *, size_t) =
+        kind == FORWARD ? siltbrow_hops_forward : siltbrow_hops_backward;
+    uint64_t value = move(s[HOPS].bytes, s[HOPS].len, s[TARGET].bytes, s[TARGET].len);
+    write_number((uint64_t)kind, 1);
+    write_number(value, 8);
+    write_slice(&s[TARGET]);
+    close_slices(s);
+}
+
 static void do_case(int kind, int null)
 {
     Slice s[SLICES] = {{NULL, NULL, NULL, 0, 0, NULL}};
@@ -254,6 +269,7 @@ static void do_case(int kind, int null)
     uint64_t value;
     for (int i = VERTICES; i <= HOPS; i++)
         s[i] = read_slice(null, i);
+    uint32_t hop_size = read_number();
     if (kind != CHECK)
         q = read_query();
     if (runs) {
@@ -266,10 +282,10 @@ static void do_case(int kind, int null)
     for (int i = PARTS; makes_parts && i <= PARTS_ANSWER; i++)
         s[i] = read_slice(null, i);
     switch (kind) {
-    case CHECK: value = check(s); break;
-    case RUN: value = run(s, q, limit); break;
-    case PARTS_ALONE: value = parts(s, q, s[LIST].bytes, s[LIST].len); break;
-    case PAIR: value = pair(s, q, limit); break;
+    case CHECK: value = check(s, hop_size); break;
+    case RUN: value = run(s, hop_size, q, limit); break;
+    case PARTS_ALONE: value = parts(s, hop_size, q, s[LIST].bytes, s[LIST].len); break;
+    case PAIR: value = pair(s, hop_size, q, limit); break;
     default: fail("no such kind of case");
     }
     write_number((uint64_t)kind, 1);
@@ -290,7 +306,10 @@ int main(int words, char **word)
         if (head[0] == END)
             break;
         read_bytes(head + 1, 1);
-        do_case(head[0], head[1]);
+        if (head[0] == FORWARD || head[0] == BACKWARD)
+            do_move(head[0], head[1]);
+        else
+            do_case(head[0], head[1]);
         /* If the library breaks off, all cases before that are answered. */
         flush();
     }

@@ -4,7 +4,7 @@
 
 use outside::mutant::{Mutant, Sound};
 use outside::outcome::{Fast, Program};
-use outside::records::{Lent, Query, Tables};
+use outside::records::{Lent, Query, Tables, Way};
 
 /// An empty slice may come as NULL, which no Rust slice can begin at.
 ///
@@ -79,11 +79,13 @@ pub unsafe extern "C" fn siltbrow_check(
     walks_len: usize,
     hops: *const u8,
     hops_len: usize,
+    hop_size: u32,
 ) -> u64 {
     let tables = Tables {
         vertices: slice(vertices, vertices_len),
         walks: slice(walks, walks_len),
         hops: slice(hops, hops_len),
+        hop_size,
     };
     let returned = by(|fast| fast.check(tables), |fast| fast.check(tables));
     stray(
@@ -108,6 +110,7 @@ pub unsafe extern "C" fn siltbrow_run(
     walks_len: usize,
     hops: *const u8,
     hops_len: usize,
+    hop_size: u32,
     record: u32,
     offset: u32,
     arrival: i32,
@@ -125,6 +128,7 @@ pub unsafe extern "C" fn siltbrow_run(
         vertices: slice(vertices, vertices_len),
         walks: slice(walks, walks_len),
         hops: slice(hops, hops_len),
+        hop_size,
     };
     let query = Query {
         record,
@@ -167,6 +171,7 @@ pub unsafe extern "C" fn siltbrow_parts(
     walks_len: usize,
     hops: *const u8,
     hops_len: usize,
+    hop_size: u32,
     record: u32,
     offset: u32,
     arrival: i32,
@@ -183,6 +188,7 @@ pub unsafe extern "C" fn siltbrow_parts(
         vertices: slice(vertices, vertices_len),
         walks: slice(walks, walks_len),
         hops: slice(hops, hops_len),
+        hop_size,
     };
     let query = Query {
         record,
@@ -210,4 +216,54 @@ pub unsafe extern "C" fn siltbrow_parts(
         ],
     );
     returned
+}
+
+/// # Safety
+/// Each pointer begins as many bytes as the length behind it says, and those
+/// of the target overlap nothing else.
+unsafe fn moved(way: Way, name: &str, [source, target]: [Named; 2]) -> u64 {
+    let from = slice(source.1, source.2);
+    let to = || slice_mut(target.1, target.2);
+    let returned = by(
+        |fast| fast.move_hops(way, from, to()),
+        |fast| fast.move_hops(way, from, to()),
+    );
+    stray(name, &[source, target]);
+    returned
+}
+
+/// # Safety
+/// Each pointer begins as many bytes as the length behind it says, and those
+/// of the target overlap nothing else.
+#[no_mangle]
+pub unsafe extern "C" fn siltbrow_hops_forward(
+    source: *const u8,
+    source_len: usize,
+    target: *mut u8,
+    target_len: usize,
+) -> u64 {
+    let source = ("source", source.cast_mut(), source_len);
+    moved(
+        Way::Forward,
+        "forward",
+        [source, ("target", target, target_len)],
+    )
+}
+
+/// # Safety
+/// Each pointer begins as many bytes as the length behind it says, and those
+/// of the target overlap nothing else.
+#[no_mangle]
+pub unsafe extern "C" fn siltbrow_hops_backward(
+    source: *const u8,
+    source_len: usize,
+    target: *mut u8,
+    target_len: usize,
+) -> u64 {
+    let source = ("source", source.cast_mut(), source_len);
+    moved(
+        Way::Backward,
+        "backward",
+        [source, ("target", target, target_len)],
+    )
 }

@@ -16,3 +16,4 @@ pub mod records;
 pub mod rng;
 pub mod show;
 pub mod slow;
+pub mod trips;

@@ -347,7 +347,7 @@ fn parts_behind(case: &Case, after: &Outcome) -> bool {
     let asked = match case.call {
         Call::Parts => true,
         Call::Pair => Answer::read(&after.answer).refusal == 0,
-        Call::Check | Call::Run => false,
+        Call::Check | Call::Run | Call::Move(_) => false,
     };
     if !asked {
         return case.parts == after.parts && case.parts_answer == after.parts_answer;

@@ -2,7 +2,7 @@
 
 use crate::outcome::{Call, Case};
 use crate::records::{
-    Hop, Query, Settled, Vertex, Walk, ANSWER, HELD, NONE, PART, PARTS_ANSWER, SETTLED,
+    Hop, Query, Settled, Vertex, Walk, ANSWER, HELD, HOP, NONE, PART, PARTS_ANSWER, SETTLED,
 };
 use crate::rng::Rng;
 
@@ -133,6 +133,7 @@ impl Network {
             vertices: self.vertices.iter().flat_map(|v| v.bytes()).collect(),
             walks: self.walks.iter().flat_map(|w| w.bytes()).collect(),
             hops: self.hops.iter().flat_map(|h| h.bytes()).collect(),
+            hop_size: HOP as u32,
             query: Query {
                 record: 0,
                 offset: 0,
@@ -147,6 +148,7 @@ impl Network {
             parts: Vec::new(),
             answer: Vec::new(),
             parts_answer: Vec::new(),
+            target: Vec::new(),
         }
     }
 }

@@ -2,7 +2,7 @@
 
 use crate::fast;
 use crate::mutant::Fault;
-use crate::records::{Answer, Lent, PartsAnswer, Query, Tables, ANSWER, SETTLED};
+use crate::records::{Answer, Lent, PartsAnswer, Query, Tables, Way, ANSWER, SETTLED};
 use crate::slow;
 
 #[derive(Clone, Copy, Debug, PartialEq, Eq)]
@@ -12,12 +12,24 @@ pub enum Call {
     Parts,
     /// A run and, where it is accepted, the parts of its own list.
     Pair,
+    /// The hop table is the source.
+    Move(Way),
 }
 
 impl Call {
     /// Whether the call has a run in it.
     pub fn runs(self) -> bool {
         matches!(self, Call::Run | Call::Pair)
+    }
+
+    /// Whether the three tables are lent.
+    pub fn takes_tables(self) -> bool {
+        !matches!(self, Call::Move(_))
+    }
+
+    /// Whether the value returned tells refusal and place.
+    pub fn returns_refusal(self) -> bool {
+        matches!(self, Call::Check | Call::Move(_))
     }
 
     /// Whether parts can be asked for.
@@ -40,6 +52,8 @@ pub trait Program {
         parts: &mut [u8],
         answer: &mut [u8],
     ) -> u32;
+
+    fn move_hops(&self, way: Way, source: &[u8], target: &mut [u8]) -> u64;
 
     /// The run, then the parts of the list that it wrote: as many bytes as its
     /// settled count tells, not the zeros behind them. Where the run writes no
@@ -91,6 +105,10 @@ impl<F: Fault> Program for Fast<F> {
     ) -> u32 {
         fast::call_parts(tables, query, list, parts, answer, self.0)
     }
+
+    fn move_hops(&self, way: Way, source: &[u8], target: &mut [u8]) -> u64 {
+        fast::call_move(way, source, target, self.0)
+    }
 }
 
 /// The program that takes every answer from the definitions.
@@ -115,6 +133,10 @@ impl Program for Slow {
     ) -> u32 {
         slow::call_parts(tables, query, list, parts, answer)
     }
+
+    fn move_hops(&self, way: Way, source: &[u8], target: &mut [u8]) -> u64 {
+        slow::call_move(way, source, target)
+    }
 }
 
 /// One call of the library: all its arguments, the buffers as they are lent.
@@ -125,7 +147,9 @@ pub struct Case {
     pub null: bool,
     pub vertices: Vec<u8>,
     pub walks: Vec<u8>,
+    /// Of a move the source.
     pub hops: Vec<u8>,
+    pub hop_size: u32,
     pub query: Query,
     pub limit: u32,
     pub held: Vec<u8>,
@@ -136,6 +160,8 @@ pub struct Case {
     pub answer: Vec<u8>,
     /// The answer slice of the parts operation.
     pub parts_answer: Vec<u8>,
+    /// What a move writes to.
+    pub target: Vec<u8>,
 }
 
 /// What came back, with every byte of the slices that may be written.
@@ -149,6 +175,7 @@ pub struct Outcome {
     pub parts: Vec<u8>,
     pub answer: Vec<u8>,
     pub parts_answer: Vec<u8>,
+    pub target: Vec<u8>,
 }
 
 impl Case {
@@ -157,6 +184,7 @@ impl Case {
             vertices: &self.vertices,
             walks: &self.walks,
             hops: &self.hops,
+            hop_size: self.hop_size,
         }
     }
 
@@ -184,6 +212,7 @@ impl Case {
             parts: self.parts.clone(),
             answer: self.answer.clone(),
             parts_answer: self.parts_answer.clone(),
+            target: self.target.clone(),
         }
     }
 
@@ -208,6 +237,7 @@ impl Case {
                 let [run, parts] = program.pair(self, after).map(u64::from);
                 run << 32 | parts
             }
+            Call::Move(way) => program.move_hops(way, &self.hops, &mut after.target),
         }
     }
 
@@ -223,7 +253,7 @@ impl Case {
             (three.refusal, three.place)
         };
         match self.call {
-            Call::Check => ((after.returned >> 32) as u32, after.returned as u32),
+            Call::Check | Call::Move(_) => ((after.returned >> 32) as u32, after.returned as u32),
             Call::Run => run(),
             Call::Parts => parts(),
             Call::Pair if run().0 != 0 => run(),

@@ -4,7 +4,7 @@
 use crate::fast;
 use crate::mutant::Sound;
 use crate::outcome::{Call, Case, Fast, Outcome, Program};
-use crate::records::{Answer, Lent, PartsAnswer, Query, Tables, ANSWER, PARTS_ANSWER};
+use crate::records::{Answer, Lent, PartsAnswer, Query, Tables, Way, ANSWER, PARTS_ANSWER};
 use crate::slow;
 
 /// What the one run leaves in the three buffers.
@@ -94,6 +94,10 @@ impl Program for OneRun {
         answer: &mut [u8],
     ) -> u32 {
         Fast(Sound).parts(tables, query, list, parts, answer)
+    }
+
+    fn move_hops(&self, way: Way, source: &[u8], target: &mut [u8]) -> u64 {
+        Fast(Sound).move_hops(way, source, target)
     }
 
     /// For accepted runs with room for all parts.

@@ -6,6 +6,8 @@ pub const NONE: u32 = u32::MAX;
 pub const VERTEX: usize = 12;
 pub const WALK: usize = 16;
 pub const HOP: usize = 16;
+/// A hop with its trip behind it.
+pub const TRIP_HOP: usize = 20;
 pub const HELD: usize = 16;
 pub const SETTLED: usize = 8;
 pub const PART: usize = 12;
@@ -89,10 +91,17 @@ pub struct Hop {
     pub arrival: i32,
 }
 
+/// The trip of a record of 20 bytes; 0 is unknown.
+pub fn trip(table: &[u8], index: usize) -> u32 {
+    word(table, index * TRIP_HOP + HOP)
+}
+
 impl Hop {
+    /// From a table whose records have this size. What stands behind the 16
+    /// bytes, the trip, is nothing to a journey.
     #[inline]
-    pub fn read(table: &[u8], index: usize) -> Self {
-        let bytes = &table[index * HOP..][..HOP];
+    pub fn read(table: &[u8], size: usize, index: usize) -> Self {
+        let bytes = &table[index * size..][..HOP];
         Hop {
             from: word(bytes, 0),
             to: word(bytes, 4),
@@ -186,12 +195,23 @@ pub struct Query {
     pub speed: u32,
 }
 
-/// The three tables as they are lent.
+/// The three tables as they are lent, and the size of a hop record as it is
+/// named.
 #[derive(Clone, Copy, Debug)]
 pub struct Tables<'a> {
     pub vertices: &'a [u8],
     pub walks: &'a [u8],
     pub hops: &'a [u8],
+    pub hop_size: u32,
+}
+
+/// Which way a hop table is moved.
+#[derive(Clone, Copy, Debug, PartialEq, Eq)]
+pub enum Way {
+    /// From 16 bytes to 20.
+    Forward,
+    /// From 20 bytes to 16.
+    Backward,
 }
 
 /// The two buffers lent to a run.

@@ -4,8 +4,8 @@ use std::fmt::Write;
 
 use crate::outcome::{Call, Case, Outcome};
 use crate::records::{
-    Answer, Held, Hop, Part, PartsAnswer, Settled, Vertex, Walk, ANSWER, HELD, HOP, NONE, PART,
-    PARTS_ANSWER, SETTLED, VERTEX, WALK,
+    trip, Answer, Held, Hop, Part, PartsAnswer, Settled, Vertex, Walk, Way, ANSWER, HELD, HOP,
+    NONE, PART, PARTS_ANSWER, SETTLED, TRIP_HOP, VERTEX, WALK,
 };
 
 /// More records than this are only counted.
@@ -53,17 +53,36 @@ fn hop_line(h: Hop) -> String {
     format!("hop {} {} {} {}", h.from, h.to, h.departure, h.arrival)
 }
 
+/// Hops of either size; those of another are read as 16 bytes.
+fn hops(text: &mut String, bytes: &[u8], size: u32) {
+    match size as usize {
+        TRIP_HOP => table(text, bytes, TRIP_HOP, |i| {
+            let line = hop_line(Hop::read(bytes, TRIP_HOP, i));
+            format!("{line} # trip {}", trip(bytes, i))
+        }),
+        _ => table(text, bytes, HOP, |i| hop_line(Hop::read(bytes, HOP, i))),
+    }
+    if size as usize != HOP {
+        let _ = writeln!(text, "# hop size {size}");
+    }
+}
+
 pub fn case(case: &Case) -> String {
     let mut text = String::new();
+    if let Call::Move(way) = case.call {
+        let size = if way == Way::Forward { HOP } else { TRIP_HOP };
+        hops(&mut text, &case.hops, size as u32);
+        let lent = case.target.len();
+        let _ = writeln!(text, "# moved {way:?}, bytes lent: target {lent}");
+        return text;
+    }
     table(&mut text, &case.vertices, VERTEX, |i| {
         vertex_line(Vertex::read(&case.vertices, i))
     });
     table(&mut text, &case.walks, WALK, |i| {
         walk_line(Walk::read(&case.walks, i))
     });
-    table(&mut text, &case.hops, HOP, |i| {
-        hop_line(Hop::read(&case.hops, i))
-    });
+    hops(&mut text, &case.hops, case.hop_size);
     if case.call == Call::Check {
         text += "# the check alone\n";
         return text;
@@ -104,9 +123,13 @@ pub fn case(case: &Case) -> String {
 
 /// The outcome of a call; of a refusal or a wrong call only what was changed.
 pub fn outcome(case: &Case, after: &Outcome) -> String {
-    if case.call == Call::Check {
+    if case.call.returns_refusal() {
         let (number, place) = (after.returned >> 32, after.returned & 0xffff_ffff);
-        return format!("  check {number} {place}\n");
+        let mut text = format!("  {:?} {number} {place}\n", case.call);
+        if !case.call.takes_tables() {
+            let _ = writeln!(text, "  target: {}", hex(&after.target));
+        }
+        return text;
     }
     let mut text = format!("  returned {:x}\n", after.returned);
     let changed = |name: &str, before: &[u8], now: &[u8], list: String| match now {

@@ -1,7 +1,7 @@
 //! From names to numbers: the three tables of a town, and the way back.
 
 use outside::network::{Network, Plan};
-use outside::records::{Query, Tables as Lent};
+use outside::records::{Query, Tables as Lent, HOP};
 
 use crate::town::{Ask, Place, Street, Town};
 
@@ -37,6 +37,7 @@ impl Bytes {
             vertices: &self.vertices,
             walks: &self.walks,
             hops: &self.hops,
+            hop_size: HOP as u32,
         }
     }
 }

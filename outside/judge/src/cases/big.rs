@@ -1,6 +1,7 @@
 //! Cases at the limits of the tables, with the refusal known beforehand.
 
 use super::big_lists as lists;
+use super::big_trips as trips;
 use crate::network::{full_scene, Network, Plan, Scene};
 use crate::outcome::Case;
 use crate::records::{Query, Vertex, NONE};
@@ -159,6 +160,26 @@ pub const ALL: &[Big] = &[
     ),
     big("a whole settled buffer", lists::whole_buffer, 21, 1_001),
     big("300,000 equal entries", || lists::equal(300_000), 21, 1),
+    big(
+        "full size with trips",
+        || trips::with_trips(|scene| scene.pair_case(NONE)),
+        0,
+        0,
+    ),
+    big(
+        "full size with trips, check",
+        || trips::with_trips(|scene| scene.network.check_case()),
+        0,
+        0,
+    ),
+    big("262,145 hops with trips", trips::one_more, 1, 2),
+    big("last hop with a trip", trips::last_hop, 3, 262_143),
+    big("262,144 hops forward", || trips::forward(262_144), 0, 0),
+    big("262,145 hops forward", || trips::forward(262_145), 1, 2),
+    big("a target one short", trips::forward_short, 1, 6),
+    big("262,144 hops backward", || trips::backward(262_144), 0, 0),
+    big("262,145 hops backward", || trips::backward(262_145), 1, 2),
+    big("the last trip is known", trips::last_trip, 11, 262_143),
 ];
 
 pub fn full() -> Scene {

@@ -2,13 +2,13 @@
 //! rooms and jobs are changed without a plan. Some are mended afterwards, so
 //! that what was changed comes as far as the search.
 
-use super::{jobs, small};
+use super::{jobs, small, trips};
 use crate::mutant::Sound;
 use crate::network::{Network, Scene};
 use crate::outcome::{Call, Case};
 use crate::records::{
-    word, Answer, Hop, Walk, ANSWER, HELD, HOP, JOB, NONE, PART, PARTS_ANSWER, SETTLED, VERTEX,
-    WALK,
+    word, Answer, Hop, Walk, Way, ANSWER, HELD, HOP, JOB, NONE, PART, PARTS_ANSWER, SETTLED,
+    TRIP_HOP, VERTEX, WALK,
 };
 use crate::rng::Rng;
 
@@ -36,16 +36,50 @@ pub fn case(seed: u64, index: u64) -> Case {
     if case.call == Call::Parts {
         list(&mut case, &scene, rng);
     }
+    if rng.chance(8) {
+        return moved(&case.hops, rng);
+    }
+    if rng.chance(50) {
+        trips::any_trips(&mut case, rng);
+    }
     for _ in 0..rng.pick(&[0, 0, 0, 1, 1, 2, 3, 9]) {
         any_table(&mut case, rng);
     }
     if rng.chance(30) {
         mend(&mut case);
+        if rng.chance(50) {
+            trips::any_trips(&mut case, rng);
+        }
+    }
+    if rng.chance(2) {
+        case.hop_size = any_number(rng, 20);
     }
     if rng.chance(25) {
         query(&mut case, rng);
     }
     rooms(&mut case, rng);
+    case.null = rng.chance(50);
+    case
+}
+
+/// A move of damaged hops into a target of any length.
+fn moved(hops: &[u8], rng: &mut Rng) -> Case {
+    let mut source = trips::move_case(Way::Forward, hops.to_vec(), 0);
+    let (way, size) = match rng.chance(50) {
+        true => (Way::Forward, HOP),
+        false => {
+            trips::widen(&mut source, || 0);
+            (Way::Backward, TRIP_HOP)
+        }
+    };
+    for _ in 0..rng.pick(&[0, 0, 1, 1, 2, 3]) {
+        damage(&mut source.hops, size, rng);
+    }
+    let mut case = trips::fitting(way, source.hops);
+    if rng.chance(15) {
+        relength(&mut case.target, HOP + TRIP_HOP - size, rng);
+    }
+    case.target = rng.bytes(case.target.len());
     case.null = rng.chance(50);
     case
 }
@@ -95,7 +129,7 @@ fn any_table(case: &mut Case, rng: &mut Rng) {
     match rng.below(5) {
         0 => damage(&mut case.vertices, VERTEX, rng),
         1 | 2 => damage(&mut case.walks, WALK, rng),
-        _ => damage(&mut case.hops, HOP, rng),
+        _ => damage(&mut case.hops, case.hop_size as usize, rng),
     }
 }
 
@@ -159,8 +193,9 @@ fn mend(case: &mut Case) {
             network.walks.push(Walk { twin: NONE, ..walk });
         }
     }
-    for i in 0..case.hops.len() / HOP {
-        let hop = Hop::read(&case.hops, i);
+    let size = case.hop_size as usize;
+    for i in 0..case.hops.len() / size {
+        let hop = Hop::read(&case.hops, size, i);
         if inside(hop.from) && inside(hop.to) && hop.from != hop.to {
             network.hops.push(hop);
         }

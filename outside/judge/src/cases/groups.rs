@@ -3,11 +3,11 @@
 use std::collections::BTreeSet;
 
 use super::damage::{any, several, sweep};
-use super::{lists, small};
+use super::{lists, small, trips};
 use crate::mutant::Sound;
 use crate::network::Scene;
 use crate::outcome::{Call, Case};
-use crate::records::{word, Answer, PartsAnswer, HELD, PART, SETTLED};
+use crate::records::{word, Answer, PartsAnswer, HELD, HOP, PART, SETTLED};
 use crate::rng::Rng;
 
 /// The cases of one group; the kind of group follows from its number.
@@ -24,30 +24,38 @@ pub fn group(seed: u64, index: u64) -> Vec<Case> {
     cases.into_iter().map(|case| dress(case, rng)).collect()
 }
 
-/// Twelve groups about the run and its pair, then twelve about lists.
+/// Twelve groups about the run and its pair, twelve about lists, one about the
+/// size of a hop and one about the moves.
 fn varied(index: u64, scene: &Scene, rng: &mut Rng) -> Vec<Case> {
-    match index % 24 {
+    match index % 26 {
         0..=3 => limits(scene, rng),
         4..=6 => rooms(scene, rng),
         7 => every_room(scene),
         8 => each_place(scene, rng),
         9 => sweep(&one_of_all(scene, rng), rng),
         10 => several_faults(scene, rng),
-        11 if index % 48 == 11 => lengths(scene, rng),
+        11 if index % 52 == 11 => lengths(scene, rng),
         11 => queries(scene, rng),
+        24 => trips::sizes(scene, rng),
+        25 => trips::moves(scene, rng),
         turn => lists::varied(turn - 12, scene, rng),
     }
 }
 
-/// Garbage in whatever is lent, and sometimes NULL for what is empty.
+/// Garbage in whatever is lent, and sometimes trips behind the hops, and NULL
+/// for what is empty.
 fn dress(mut case: Case, rng: &mut Rng) -> Case {
     case.null = rng.chance(50);
+    if case.call.takes_tables() && case.hop_size == HOP as u32 && rng.chance(40) {
+        trips::any_trips(&mut case, rng);
+    }
     let lent = [
         &mut case.held,
         &mut case.settled,
         &mut case.parts,
         &mut case.answer,
         &mut case.parts_answer,
+        &mut case.target,
     ];
     for buffer in lent {
         match rng.below(4) {
@@ -60,7 +68,7 @@ fn dress(mut case: Case, rng: &mut Rng) -> Case {
 }
 
 /// A check, a run, or parts over the same tables.
-fn one_of_all(scene: &Scene, rng: &mut Rng) -> Case {
+pub fn one_of_all(scene: &Scene, rng: &mut Rng) -> Case {
     match rng.below(10) {
         0..=2 => scene.network.check_case(),
         3..=5 => lists::some_case(scene, rng),
@@ -222,7 +230,7 @@ fn several_faults(scene: &Scene, rng: &mut Rng) -> Vec<Case> {
 }
 
 /// Makes one of the seven slices longer or shorter by some bytes.
-fn off_length(case: &mut Case, slice: usize, rng: &mut Rng) {
+pub fn off_length(case: &mut Case, slice: usize, rng: &mut Rng) {
     let slices = [
         &mut case.vertices,
         &mut case.walks,

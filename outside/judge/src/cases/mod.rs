@@ -3,12 +3,14 @@
 
 pub mod big;
 mod big_lists;
+mod big_trips;
 pub mod damage;
 pub mod fuzz;
 pub mod groups;
 pub mod jobs;
 pub mod lists;
 pub mod small;
+pub mod trips;
 
 use crate::outcome::Case;
 

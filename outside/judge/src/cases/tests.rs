@@ -8,7 +8,8 @@ use crate::mutant::{Mutant, Sound};
 use crate::outcome::{Call, Case, Outcome};
 use crate::pair;
 use crate::records::{
-    Answer, Held, Hop, Part, PartsAnswer, Settled, Walk, HOP, NONE, SETTLED, VERTEX,
+    trip, Answer, Held, Hop, Part, PartsAnswer, Settled, Walk, Way, HOP, NONE, SETTLED, TRIP_HOP,
+    VERTEX,
 };
 use crate::slow;
 
@@ -16,7 +17,7 @@ const CASES: usize = 40_000;
 
 /// The refusals (or 0) and places that the operations of a case answer.
 fn answers(case: &Case, after: &Outcome) -> Vec<(&'static str, (u32, u32))> {
-    if case.call != Call::Check && after.returned != 0 {
+    if !case.call.returns_refusal() && after.returned != 0 {
         return vec![];
     }
     let (refusal, accepted) = (case.refusal(after), (0, 0));
@@ -26,6 +27,8 @@ fn answers(case: &Case, after: &Outcome) -> Vec<(&'static str, (u32, u32))> {
         Call::Parts => vec![("parts", refusal)],
         Call::Pair if Answer::read(&after.answer).refusal != 0 => vec![("run", refusal)],
         Call::Pair => vec![("run", accepted), ("parts", refusal)],
+        Call::Move(Way::Forward) => vec![("forward", refusal)],
+        Call::Move(Way::Backward) => vec![("backward", refusal)],
     }
 }
 
@@ -66,6 +69,14 @@ fn every_refusal_arises() {
         often("run", 9, step + 1, 10);
         often("parts", 10, step, 10);
         often("parts", 21, step, 20);
+    }
+    for way in ["forward", "backward"] {
+        often(way, 0, 0, 50);
+        often(way, 1, 2, 50);
+        often(way, 1, 6, 50);
+    }
+    for record in 0..7 {
+        often("backward", 11, record, 10);
     }
     often("run", 0, 0, CASES / 8);
     often("parts", 0, 0, CASES / 8);
@@ -116,7 +127,8 @@ fn features(case: &Case, outcome: &Outcome) -> Vec<&'static str> {
 /// or later by less than one second (1)?
 fn on_time(case: &Case, settled: &[Settled], late: i64) -> bool {
     let speed = i64::from(case.query.speed);
-    let hops = (0..case.hops.len() / HOP).map(|i| Hop::read(&case.hops, i));
+    let size = case.hop_size as usize;
+    let hops = (0..case.hops.len() / size).map(|i| Hop::read(&case.hops, size, i));
     hops.into_iter().any(|hop| {
         let far = settled.iter().find(|s| s.vertex == hop.to);
         far.is_some_and(|far| {
@@ -147,7 +159,7 @@ fn every_feature_arises() {
         }
     }
     assert_eq!(seen.len(), 12);
-    assert!(seen.values().all(|&count| count >= 100), "{seen:#?}");
+    assert!(seen.values().all(|&count| count >= 50), "{seen:#?}");
 }
 
 /// The features of a list that rules turn on, accepted or refused.
@@ -220,6 +232,74 @@ fn every_kind_of_list_arises() {
     assert!(seen.iter().all(often), "{seen:#?}");
 }
 
+/// What a case tries of the size of a hop, or of a move.
+fn trip_features(case: &Case, after: &Outcome) -> Vec<&'static str> {
+    let (refusal, size) = (case.refusal(after), case.hop_size as usize);
+    let good = refusal.0 == 0 && !case.hops.is_empty();
+    let mut names = vec![];
+    let mut add = |holds: bool, name| {
+        if holds {
+            names.push(name)
+        }
+    };
+    if let Call::Move(way) = case.call {
+        let other = |holds: bool| holds && refusal == (0, 0);
+        add(other(way == Way::Forward && good), "hops go forward");
+        add(other(way == Way::Backward && good), "hops go backward");
+        let equal = case.hops.len() == case.target.len();
+        add(refusal == (1, 6) && equal, "a target as long as the source");
+        add(
+            refusal.0 == 11 && refusal.1 as usize == case.hops.len() / TRIP_HOP - 1,
+            "the last record alone has a trip",
+        );
+        return names;
+    }
+    let wrong = size != HOP && size != TRIP_HOP;
+    let cut = case.held.len() % 16 != 0 || case.list.len() % 8 != 0;
+    add(good && size == HOP, "16 bytes");
+    add(good && size == TRIP_HOP, "20 bytes");
+    if good && size == TRIP_HOP {
+        let trips = (0..case.hops.len() / TRIP_HOP).map(|i| trip(&case.hops, i));
+        add(trips.clone().any(|t| t != 0), "a known trip");
+        add(trips.clone().any(|t| t == 0), "an unknown trip");
+        add(
+            trips.clone().any(|t| t > 0 && t < 172_800),
+            "a trip like a time",
+        );
+    }
+    add(wrong && refusal == (1, 2), "a wrong size");
+    add(wrong && refusal == (1, 0), "a wrong size after vertices");
+    add(wrong && refusal == (1, 1), "a wrong size after walks");
+    add(wrong && cut && refusal == (1, 2), "before a buffer");
+    add(wrong && case.hops.is_empty(), "a wrong size over no hop");
+    let mixed = |own: usize| size == own && case.hops.len() % own != 0 && refusal == (1, 2);
+    add(
+        mixed(HOP) && case.hops.len() % TRIP_HOP == 0,
+        "16 bytes named over 20",
+    );
+    add(
+        mixed(TRIP_HOP) && case.hops.len() % HOP == 0,
+        "20 bytes named over 16",
+    );
+    names
+}
+
+#[test]
+fn every_kind_of_trip_arises() {
+    let mut seen = BTreeMap::new();
+    for case in stream(1).take(CASES) {
+        let outcome = case.fast(Sound);
+        if case.call.returns_refusal() || outcome.returned == 0 {
+            tally(&mut seen, trip_features(&case, &outcome));
+        }
+    }
+    assert_eq!(seen.len(), 16, "{seen:#?}");
+    assert!(seen.values().all(|&count| count >= 5), "{seen:#?}");
+    for name in ["16 bytes", "20 bytes", "a known trip", "a trip like a time"] {
+        assert!(seen[name] >= 1_000, "{seen:#?}");
+    }
+}
+
 /// The two operations give the bytes of the one, at every limit.
 #[test]
 fn pairs_give_the_old_bytes() {
@@ -265,8 +345,11 @@ fn other_bytes_are_noticed() {
 #[test]
 fn exact_room_is_tried_at_every_limit() {
     let mut limits = 0;
-    // Every 80th group is a town.
-    for index in (7..2_400).step_by(24).filter(|index| index % 80 != 79) {
+    // Every 80th group is a town, and in some the vertices lie far apart.
+    for index in (7..2_600)
+        .step_by(26)
+        .filter(|index| index % 80 != 79 && index % 240 != 119)
+    {
         let cases = groups::group(1, index);
         let given = |case: &Case| (case.limit, case.refusal(&case.fast(Sound)).0);
         let given: Vec<(u32, u32)> = cases.iter().map(given).collect();
@@ -370,14 +453,14 @@ fn damaged_cases_come_everywhere() {
     for index in 0..6_000 {
         let case = fuzz::case(1, index);
         let outcome = case.fast(Sound);
-        match case.call != Call::Check && outcome.returned != 0 {
+        match !case.call.returns_refusal() && outcome.returned != 0 {
             true => strange += 1,
             false => seen[case.refusal(&outcome).0 as usize] += 1,
         }
     }
     assert!(strange >= 100, "{strange} answers of another length");
     assert!(seen[0] >= 800, "{} accepted", seen[0]);
-    for number in (0..=10).chain([21]) {
+    for number in (0..=11).chain([21]) {
         let count = seen[number];
         // Walks that are moved mostly lose their twins first, which is refusal 2.
         assert!(

@@ -11,6 +11,7 @@ use crate::marked::{self, Marked};
 use crate::mutant::Sound;
 use crate::outcome::{Call, Case, Outcome};
 use crate::pair;
+use crate::records::Way;
 use crate::show;
 
 /// Which cases are meant: those of a seed, the big ones, or the marked ones.
@@ -44,6 +45,8 @@ const CHECK: u8 = 1;
 const RUN: u8 = 2;
 const PARTS: u8 = 3;
 const PAIR: u8 = 4;
+const FORWARD: u8 = 5;
+const BACKWARD: u8 = 6;
 
 fn kind(call: Call) -> u8 {
     match call {
@@ -51,6 +54,8 @@ fn kind(call: Call) -> u8 {
         Call::Run => RUN,
         Call::Parts => PARTS,
         Call::Pair => PAIR,
+        Call::Move(Way::Forward) => FORWARD,
+        Call::Move(Way::Backward) => BACKWARD,
     }
 }
 
@@ -66,9 +71,14 @@ pub fn make(choice: Choice) -> Result<(), String> {
 
 pub fn write_case(out: &mut impl Write, case: &Case) -> std::io::Result<()> {
     out.write_all(&[kind(case.call), u8::from(case.null)])?;
+    if !case.call.takes_tables() {
+        write_slice(out, &case.hops)?;
+        return write_slice(out, &case.target);
+    }
     for table in [&case.vertices, &case.walks, &case.hops] {
         write_slice(out, table)?;
     }
+    out.write_all(&case.hop_size.to_be_bytes())?;
     if case.call == Call::Check {
         return Ok(());
     }
@@ -208,6 +218,7 @@ fn names(touched: u16) -> String {
         "list",
         "parts",
         "the parts' answer",
+        "target",
     ];
     let bits = slices.iter().enumerate();
     let set: Vec<&str> = bits
@@ -234,6 +245,9 @@ pub fn read_reply(input: &mut impl Read, case: &Case) -> std::io::Result<Reply> 
     if case.call.parts() {
         outcome.parts = read_slice(input)?;
         outcome.parts_answer = read_slice(input)?;
+    }
+    if !case.call.takes_tables() {
+        outcome.target = read_slice(input)?;
     }
     let touched = u16::from_be_bytes(read_bytes(input)?);
     Ok(Reply { outcome, touched })

@@ -4,11 +4,12 @@ use super::Tally;
 use crate::cases::{big, jobs, stream};
 use crate::fast;
 use crate::mutant::{Fault, Sound};
-use crate::outcome::{Case, Outcome};
+use crate::outcome::{Case, Outcome, Slow};
 use crate::pair;
 use crate::records::{Answer, Walk, ANSWER, WALK};
 use crate::show;
 use crate::slow;
+use crate::trips;
 
 pub fn run<F: Fault>(seed: u64, cases: usize, fault: F) -> Result<(), String> {
     let mut tally = Tally::new();
@@ -21,6 +22,13 @@ pub fn run<F: Fault>(seed: u64, cases: usize, fault: F) -> Result<(), String> {
         if let Some(same) = pair::gives_old_bytes(&case, &slow, case.small()) {
             tally.count(same, || {
                 format!("case {number}: not the old bytes\n{}", show::case(&case))
+            });
+        }
+        let unchanged = trips::change_nothing(&case, &slow, &Slow);
+        if let Some(same) = unchanged.or_else(|| trips::go_back(&case, &slow, &Slow)) {
+            tally.count(same, || {
+                let shown = show::case(&case);
+                format!("case {number}: trips matter, or the way back differs\n{shown}")
             });
         }
         if finished(&case, &slow) {

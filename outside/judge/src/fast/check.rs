@@ -1,9 +1,12 @@
 //! Refusals 1 to 7. Each number is judged over the whole of its table before
 //! the next one, since the lowest number wins before the lowest place.
 
+use std::ops::RangeInclusive;
+
+use super::hops;
 use crate::mutant::{Fault, Mutant, Sound};
 use crate::records::{
-    Hop, Lent, Query, Refusal, Tables, Vertex, Walk, HELD, HOP, NONE, PART, SETTLED, VERTEX, WALK,
+    word, Lent, Query, Refusal, Tables, Vertex, Walk, HELD, NONE, PART, SETTLED, VERTEX, WALK,
 };
 
 const MOST_VERTICES: usize = 65_536;
@@ -68,7 +71,12 @@ fn judge<F: Fault>(tables: Tables, query: Query, lent: &[Length], fault: F) -> O
             .or_else(|| buffers(tables, lent, fault))
             .or_else(|| asked(tables, query, fault));
     }
-    sizes(tables, fault)
+    let sizes = sizes(tables, fault);
+    if fault.is(Mutant::HopSizeLate) && !hops::is_size(tables.hop_size as usize, fault) {
+        let before = sizes.filter(|refusal| refusal.place < 2);
+        return before.or_else(|| buffers(tables, lent, fault)).or(sizes);
+    }
+    sizes
         .or_else(|| buffers(tables, lent, fault))
         .or_else(|| contents(tables, fault))
         .or_else(|| asked(tables, query, fault))
@@ -79,14 +87,20 @@ fn sizes<F: Fault>(tables: Tables, fault: F) -> Option<Refusal> {
     let vertices = MOST_VERTICES + usize::from(fault.is(Mutant::VertexCountLoose));
     let walks = MOST_RECORDS + usize::from(fault.is(Mutant::WalkCountLoose));
     let hops = MOST_RECORDS - usize::from(fault.is(Mutant::HopCountTight));
-    let rows = [
-        (tables.vertices.len(), VERTEX, fewest..=vertices),
-        (tables.walks.len(), WALK, 0..=walks),
-        (tables.hops.len(), HOP, 0..=hops),
+    let hop = tables.hop_size as usize;
+    let named = hops::is_size(hop, fault);
+    if fault.is(Mutant::HopSizeFirst) && !named {
+        return Some(Refusal::at(1, 2));
+    }
+    let whole = |len: usize, size: usize, counts: RangeInclusive<usize>| {
+        len % size == 0 && counts.contains(&(len / size))
+    };
+    let good = [
+        whole(tables.vertices.len(), VERTEX, fewest..=vertices),
+        whole(tables.walks.len(), WALK, 0..=walks),
+        named && whole(tables.hops.len(), hop, 0..=hops),
     ];
-    let bad = rows
-        .iter()
-        .position(|(len, size, counts)| len % size != 0 || !counts.contains(&(len / size)))?;
+    let bad = good.iter().position(|good| !good)?;
     if fault.is(Mutant::TableCut) && bad == 1 {
         return None;
     }
@@ -110,18 +124,21 @@ fn buffers<F: Fault>(tables: Tables, lent: &[Length], fault: F) -> Option<Refusa
 }
 
 fn contents<F: Fault>(tables: Tables, fault: F) -> Option<Refusal> {
-    let walks = || order(tables.walks, WALK, 4, fault);
+    let walk_to = |i: usize| word(tables.walks, i * WALK + 4);
+    let hop_to = |i: usize| hops::read(tables, i, fault).to;
+    let walks = || order(tables.walks.len() / WALK, walk_to, 4, fault);
+    let hops = || order(hops::count(tables, fault), hop_to, 5, fault);
     if fault.is(Mutant::OrderBeforeHops) {
         return bad_walk(tables, fault)
             .or_else(walks)
             .or_else(|| bad_hop(tables, fault))
-            .or_else(|| order(tables.hops, HOP, 5, fault))
+            .or_else(hops)
             .or_else(|| bad_vertex(tables, fault));
     }
     bad_walk(tables, fault)
         .or_else(|| bad_hop(tables, fault))
         .or_else(walks)
-        .or_else(|| order(tables.hops, HOP, 5, fault))
+        .or_else(hops)
         .or_else(|| bad_vertex(tables, fault))
 }
 
@@ -172,11 +189,11 @@ fn named_in_vain(walks: &[u8], index: usize, walk: Walk) -> bool {
 
 fn bad_hop<F: Fault>(tables: Tables, fault: F) -> Option<Refusal> {
     let vertices = (tables.vertices.len() / VERTEX) as u32;
-    let count = tables.hops.len() / HOP;
+    let count = hops::count(tables, fault);
     let last = LAST_TIME - i32::from(fault.is(Mutant::HopTimesTight));
     let first = FIRST_TIME + i32::from(fault.is(Mutant::HopFirstTight));
     let bad = (0..count).find(|&i| {
-        let hop = Hop::read(tables.hops, i);
+        let hop = hops::read(tables, i, fault);
         let still = hop.departure == hop.arrival && !fault.is(Mutant::HopStill);
         hop.from >= vertices
             || hop.to >= vertices
@@ -190,12 +207,16 @@ fn bad_hop<F: Fault>(tables: Tables, fault: F) -> Option<Refusal> {
     Some(Refusal::at(3, bad))
 }
 
-/// "to" stands at byte 4 of walks and hops alike.
-fn order<F: Fault>(table: &[u8], size: usize, number: u32, fault: F) -> Option<Refusal> {
-    let to = |i: usize| crate::records::word(table, i * size + 4);
+/// So many records, each with its "to".
+fn order<F: Fault>(
+    count: usize,
+    to: impl Fn(usize) -> u32,
+    number: u32,
+    fault: F,
+) -> Option<Refusal> {
     let strict = fault.is(Mutant::OrderStrict);
     let falls = |i: &usize| to(*i) < to(*i - 1) || (strict && to(*i) == to(*i - 1));
-    let bad = (1..table.len() / size).find(falls)?;
+    let bad = (1..count).find(falls)?;
     let earlier = usize::from(fault.is(Mutant::OrderEarlier));
     Some(Refusal::at(number, bad - earlier))
 }
@@ -203,7 +224,7 @@ fn order<F: Fault>(table: &[u8], size: usize, number: u32, fault: F) -> Option<R
 /// Both tables ascend by now, so one pass along them gives every first.
 fn bad_vertex<F: Fault>(tables: Tables, fault: F) -> Option<Refusal> {
     let count = tables.vertices.len() / VERTEX;
-    let (walks, hops) = (tables.walks.len() / WALK, tables.hops.len() / HOP);
+    let (walks, hops) = (tables.walks.len() / WALK, hops::count(tables, fault));
     let departing = departing(tables, count, fault);
     let (mut walk, mut hop) = (0, 0);
     let judged = count - usize::from(fault.is(Mutant::LastVertex));
@@ -211,7 +232,7 @@ fn bad_vertex<F: Fault>(tables: Tables, fault: F) -> Option<Refusal> {
         while walk < walks && (Walk::read(tables.walks, walk).to as usize) < v {
             walk += 1;
         }
-        while hop < hops && (Hop::read(tables.hops, hop).to as usize) < v {
+        while hop < hops && (hops::read(tables, hop, fault).to as usize) < v {
             hop += 1;
         }
         let vertex = Vertex::read(tables.vertices, v);
@@ -237,8 +258,8 @@ fn departing<F: Fault>(tables: Tables, count: usize, fault: F) -> Vec<u32> {
         departing[Walk::read(tables.walks, i).from as usize] += 1;
     }
     if !fault.is(Mutant::DepartingWalks) {
-        for i in 0..tables.hops.len() / HOP {
-            departing[Hop::read(tables.hops, i).from as usize] += 1;
+        for i in 0..hops::count(tables, fault) {
+            departing[hops::read(tables, i, fault).from as usize] += 1;
         }
     }
     if fault.is(Mutant::DepartingModulo) {

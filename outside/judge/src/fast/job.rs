@@ -110,6 +110,7 @@ pub fn print<F: Fault>(bytes: &[u8], fault: F) -> String {
         vertices: &job.vertices,
         walks: &job.walks,
         hops: &job.hops,
+        hop_size: HOP as u32,
     };
     // No vertex is held or settled twice, and a walk gives one part when its
     // far end is settled; step 0 gives two more at most.

@@ -1,8 +1,10 @@
 //! The rules with a binary heap and ordinary arrays: judge and speed baseline.
 
 mod check;
+mod hops;
 mod job;
 mod list;
+mod moves;
 mod parts;
 mod run;
 mod search;
@@ -13,11 +15,21 @@ pub use parts::parts;
 pub use run::{one_run, run};
 
 use crate::mutant::{Fault, Mutant};
-use crate::records::{Lent, Query, Tables, ANSWER, PARTS_ANSWER};
+use crate::records::{Lent, Query, Refusal, Tables, Way, ANSWER, PARTS_ANSWER};
 
 /// The check as C sees it.
 pub fn call_check<F: Fault>(tables: Tables, fault: F) -> u64 {
-    match check(tables, fault) {
+    in_one(check(hops::named(tables, fault), fault))
+}
+
+/// A move as C sees it.
+pub fn call_move<F: Fault>(way: Way, source: &[u8], target: &mut [u8], fault: F) -> u64 {
+    in_one(moves::moved(way, source, target, fault))
+}
+
+/// Refusal and place in one number.
+fn in_one(refused: Option<Refusal>) -> u64 {
+    match refused {
         None => 0,
         Some(refusal) => u64::from(refusal.number) << 32 | u64::from(refusal.place),
     }
@@ -38,6 +50,7 @@ pub fn call_run<F: Fault>(
     answer: &mut [u8],
     fault: F,
 ) -> u32 {
+    let tables = hops::named(tables, fault);
     if !answers(answer, ANSWER, fault) {
         if fault.is(Mutant::AnswerLate) {
             run(tables, query, limit, &mut lent, fault);
@@ -64,6 +77,7 @@ pub fn call_parts<F: Fault>(
     answer: &mut [u8],
     fault: F,
 ) -> u32 {
+    let tables = hops::named(tables, fault);
     if !answers(answer, PARTS_ANSWER, fault) {
         if fault.is(Mutant::PartsAnswerLate) {
             parts(tables, query, list, buffer, fault);

@@ -4,10 +4,11 @@ use std::cmp::Reverse;
 use std::collections::BinaryHeap;
 use std::ops::Range;
 
+use super::hops;
 use super::parts::Parts;
 use crate::mutant::{Fault, Mutant};
 use crate::records::{
-    Hop, Lent, Query, Settled, Tables, Vertex, Walk, HOP, NONE, SETTLED, VERTEX, WALK,
+    Hop, Lent, Query, Settled, Tables, Vertex, Walk, NONE, SETTLED, VERTEX, WALK,
 };
 
 /// What is known of a vertex; `is_held` tells whether it is held.
@@ -161,10 +162,10 @@ impl<'a, 'b, F: Fault> Search<'a, 'b, F> {
         let end = if next < self.entries.len() {
             first(next)
         } else {
-            self.tables.hops.len() / HOP
+            hops::count(self.tables, self.fault)
         };
         for record in first(vertex as usize)..end {
-            let hop = Hop::read(self.tables.hops, record);
+            let hop = hops::read(self.tables, record, self.fault);
             let offer = self.ride(hop, distance);
             if offer.is_some() || !self.fault.is(Mutant::MetByOffer) {
                 let counted = offer.is_some() || !self.fault.is(Mutant::LateRemains);

@@ -18,8 +18,11 @@ pub fn walks(tables: Tables) -> Vec<Walk> {
 }
 
 pub fn hops(tables: Tables) -> Vec<Hop> {
-    let count = tables.hops.len() / 16;
-    (0..count).map(|i| Hop::read(tables.hops, i)).collect()
+    let size = tables.hop_size as usize;
+    let count = tables.hops.len() / size;
+    (0..count)
+        .map(|i| Hop::read(tables.hops, size, i))
+        .collect()
 }
 
 /// The least place at which a statement holds, as a refusal of this number.
@@ -42,7 +45,7 @@ pub fn up_to_query(tables: Tables, query: Query, lent: &[Lent]) -> Option<Given>
         .or_else(|| asked(tables, query))
 }
 
-fn cut(length: usize, size: usize) -> bool {
+pub fn cut(length: usize, size: usize) -> bool {
     length / size * size != length
 }
 
@@ -51,7 +54,11 @@ fn lengths(tables: Tables, lent: &[Lent]) -> Option<Given> {
     least(1, 6, |place| match place {
         0 => cut(v, 12) || !(1..=65_536).contains(&(v / 12)),
         1 => cut(w, 16) || w / 16 > 262_144,
-        2 => cut(h, 16) || h / 16 > 262_144,
+        2 => match tables.hop_size {
+            16 => cut(h, 16) || h / 16 > 262_144,
+            20 => cut(h, 20) || h / 20 > 262_144,
+            _ => true,
+        },
         _ => lent
             .iter()
             .any(|&(own, length, size)| own == place && cut(length, size)),

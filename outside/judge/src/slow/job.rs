@@ -53,6 +53,7 @@ fn answered(vertices: &[u8], walks: &[u8], hops: &[u8], query: Query) -> String 
         vertices,
         walks,
         hops,
+        hop_size: 16,
     };
     let mut held = vec![0; vertices.len() / 12 * 16];
     let mut settled = vec![0; vertices.len() / 12 * 8];

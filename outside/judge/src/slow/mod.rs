@@ -5,6 +5,7 @@ mod check;
 mod job;
 mod journeys;
 mod model;
+mod moves;
 mod parts;
 mod points;
 mod run;
@@ -17,11 +18,16 @@ pub use parts::parts;
 pub use points::uncovered;
 pub use run::{one_run, run};
 
-use crate::records::{Lent, Query, Tables};
+use crate::records::{Lent, Query, Tables, Way};
 
 /// The check as C sees it.
 pub fn call_check(tables: Tables) -> u64 {
     check(tables).map_or(0, |(number, place)| number * (1 << 32) + place)
+}
+
+/// A move as C sees it.
+pub fn call_move(way: Way, source: &[u8], target: &mut [u8]) -> u64 {
+    moves::moved(way, source, target).map_or(0, |(number, place)| number * (1 << 32) + place)
 }
 
 /// The run as C sees it.
