@@ -7,6 +7,7 @@ pub mod figures;
 pub mod frames;
 pub mod hard;
 pub mod machine;
+pub mod moves;
 pub mod networks;
 pub mod page;
 pub mod picture;

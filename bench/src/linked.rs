@@ -2,7 +2,7 @@
 
 use bench::frames::Framer;
 use bench::program::Program;
-use outside::records::{Lent, Query, Tables};
+use outside::records::{Lent, Query, Tables, Way};
 
 extern "C" {
     fn siltbrow_check(
@@ -12,6 +12,7 @@ extern "C" {
         walks_len: usize,
         hops: *const u8,
         hops_len: usize,
+        hop_size: u32,
     ) -> u64;
 
     fn siltbrow_run(
@@ -21,6 +22,7 @@ extern "C" {
         walks_len: usize,
         hops: *const u8,
         hops_len: usize,
+        hop_size: u32,
         record: u32,
         offset: u32,
         arrival: i32,
@@ -42,6 +44,7 @@ extern "C" {
         walks_len: usize,
         hops: *const u8,
         hops_len: usize,
+        hop_size: u32,
         record: u32,
         offset: u32,
         arrival: i32,
@@ -65,6 +68,20 @@ extern "C" {
         answer: *mut u8,
         answer_len: usize,
     ) -> u32;
+
+    fn siltbrow_hops_forward(
+        source: *const u8,
+        source_len: usize,
+        target: *mut u8,
+        target_len: usize,
+    ) -> u64;
+
+    fn siltbrow_hops_backward(
+        source: *const u8,
+        source_len: usize,
+        target: *mut u8,
+        target_len: usize,
+    ) -> u64;
 }
 
 /// The library that this program is linked with.
@@ -82,6 +99,7 @@ impl Program for Linked {
                 w.len(),
                 h.as_ptr(),
                 h.len(),
+                tables.hop_size,
             )
         }
     }
@@ -98,6 +116,7 @@ impl Program for Linked {
                 w.len(),
                 h.as_ptr(),
                 h.len(),
+                tables.hop_size,
                 query.record,
                 query.offset,
                 query.arrival,
@@ -132,6 +151,7 @@ impl Program for Linked {
                 w.len(),
                 h.as_ptr(),
                 h.len(),
+                tables.hop_size,
                 query.record,
                 query.offset,
                 query.arrival,
@@ -143,6 +163,22 @@ impl Program for Linked {
                 parts.len(),
                 answer.as_mut_ptr(),
                 answer.len(),
+            )
+        }
+    }
+
+    fn move_hops(&self, way: Way, source: &[u8], target: &mut [u8]) -> u64 {
+        let call = match way {
+            Way::Forward => siltbrow_hops_forward,
+            Way::Backward => siltbrow_hops_backward,
+        };
+        // SAFETY: each pair is a whole slice; the one written to is borrowed alone.
+        unsafe {
+            call(
+                source.as_ptr(),
+                source.len(),
+                target.as_mut_ptr(),
+                target.len(),
             )
         }
     }

@@ -5,7 +5,7 @@ mod linked;
 use std::fs::{read_to_string, write};
 use std::process::ExitCode;
 
-use bench::{checks, figures, frames, page, speed};
+use bench::{checks, figures, frames, moves, page, speed};
 use linked::Linked;
 
 const USAGE: &str = "usage:
@@ -45,6 +45,7 @@ fn measure(rounds: usize, page: Option<&str>) -> Result<(), String> {
         speed::report(&Linked, CODE, rounds)?,
         checks::table(&Linked, rounds)?,
         frames::table(&Linked, rounds)?,
+        moves::table(&Linked, rounds)?,
     ]
     .join("\n");
     print!("{report}");

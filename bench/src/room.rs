@@ -24,6 +24,7 @@ pub fn filled(mut case: Case) -> Case {
         &mut case.parts,
         &mut case.answer,
         &mut case.parts_answer,
+        &mut case.target,
     ];
     for buffer in lent {
         buffer.fill(LENT);

@@ -2,6 +2,7 @@
 
 use std::time::Duration;
 
+use outside::cases::trips::widen;
 use outside::commands::bench::{city_scenes, growing_scenes, middle, own_list};
 use outside::network::Scene;
 use outside::outcome::{Case, Outcome};
@@ -128,6 +129,19 @@ struct Measured {
     both: Spent,
     /// Both beside Rust's one run, which writes the parts as it goes.
     one_run: Spent,
+    /// Check and run over the same hops with their trips.
+    check_trips: Spent,
+    run_trips: Spent,
+}
+
+/// The same hops in records of 20 bytes, each with a trip.
+fn with_trips(mut case: Case) -> Case {
+    let mut trip = 0;
+    widen(&mut case, || {
+        trip += 1;
+        trip
+    });
+    case
 }
 
 fn measure<P: Program>(library: &P, scene: &Scene, rounds: usize) -> Result<Measured, String> {
@@ -144,10 +158,12 @@ fn measure<P: Program>(library: &P, scene: &Scene, rounds: usize) -> Result<Meas
     let cases = [
         scene.network.check_case(),
         start,
-        run,
+        run.clone(),
         run_in(scene, room),
         filled(scene.parts_case(&list)),
         both.clone(),
+        with_trips(scene.network.check_case()),
+        with_trips(run),
     ];
     let (mut stands, mut one) = (cases.map(Stand::new), Stand::new(both));
     for round in 0..rounds {
@@ -157,7 +173,8 @@ fn measure<P: Program>(library: &P, scene: &Scene, rounds: usize) -> Result<Meas
         // The bytes of the two are those of the one run too.
         one.round(library, &OneRun, round % 2 == 0)?;
     }
-    let [check, start, run, tight, parts, both] = stands.map(|stand| Spent::of(&stand.times));
+    let [check, start, run, tight, parts, both, check_trips, run_trips] =
+        stands.map(|stand| Spent::of(&stand.times));
     Ok(Measured {
         answer,
         room,
@@ -168,6 +185,8 @@ fn measure<P: Program>(library: &P, scene: &Scene, rounds: usize) -> Result<Meas
         parts,
         both,
         one_run: Spent::of(&one.times),
+        check_trips,
+        run_trips,
     })
 }
 
@@ -191,6 +210,8 @@ fn city_table<P: Program>(library: &P, rounds: usize) -> Result<String, String> 
             ("parts", measured.parts),
             ("run + parts", measured.both),
             ("run + parts beside one run", measured.one_run),
+            ("check, hops of 20 bytes", measured.check_trips),
+            ("run, hops of 20 bytes", measured.run_trips),
         ];
         for (part, spent) in parts {
             let first = [format!("{name}, {settled} settled"), part.to_string()];
