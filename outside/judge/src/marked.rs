@@ -1,9 +1,10 @@
 //! The marked cases M1 to M10 and the base job: what RULES 15 and 16 say of each,
 //! as one table. `fast`, `slow` and the library are held against it. The cases
 //! are pairs: a run, and the parts of its own list. Behind them stand lists of
-//! all kinds, for the parts operation alone.
+//! all kinds, for the parts operation alone, and then hops with trips and moves.
 
 mod lists;
+mod trips;
 
 use crate::network::{Network, Scene};
 use crate::outcome::{Call, Case, Outcome};
@@ -34,21 +35,24 @@ enum Wanted {
     /// The parts of one walk record.
     PartsOn(u32, &'static [(u32, u32)]),
     Finished(u32),
-    /// The refusal and place of the check or of the run.
+    /// The refusal and place of the check, of the run, or of a move.
     Refusal(u32, u32),
+    /// The hops that a move leaves in its target, the trip behind each if
+    /// there is one.
+    Moved(&'static [[u8; 16]], Option<u32>),
     /// The refusal and place of the parts.
     PartsRefusal(u32, u32),
 }
 
-use Wanted::{Finished, Holds, Order, Parts, PartsOn, PartsRefusal, Refusal, Remaining};
+use Wanted::{Finished, Holds, Moved, Order, Parts, PartsOn, PartsRefusal, Refusal, Remaining};
 
 const fn marked(name: &'static str, make: fn() -> Case, wanted: &'static [Wanted]) -> Marked {
     Marked { name, make, wanted }
 }
 
-/// Every row: the marked cases, then the lists.
+/// Every row: the marked cases, then the lists, then trips and moves.
 pub fn all() -> impl Iterator<Item = &'static Marked> {
-    MARKED.iter().chain(lists::ALL)
+    MARKED.iter().chain(lists::ALL).chain(trips::ALL)
 }
 
 const MARKED: &[Marked] = &[
@@ -290,6 +294,7 @@ fn filled(mut case: Case) -> Case {
         &mut case.parts,
         &mut case.answer,
         &mut case.parts_answer,
+        &mut case.target,
     ];
     for buffer in lent {
         buffer.fill(9);
@@ -309,11 +314,13 @@ fn room(slots: [usize; 3]) -> Case {
 impl Marked {
     /// Whether this is an outcome that the rules give the case.
     pub fn fits(&self, case: &Case, after: &Outcome) -> bool {
-        if case.call == Call::Check {
-            return self
-                .wanted
-                .iter()
-                .all(|w| matches!(w, Refusal(n, p) if (*n, *p) == case.refusal(after)));
+        if case.call.returns_refusal() {
+            let kept = after.returned == 0 || case.target == after.target;
+            let told = |wanted: &Wanted| match wanted {
+                Refusal(number, place) => (*number, *place) == case.refusal(after),
+                _ => wanted.of(after),
+            };
+            return kept && self.wanted.iter().all(told);
         }
         let listed = after.returned == 0 && run_behind(case, after) && parts_behind(case, after);
         listed && self.wanted.iter().all(|w| w.of(after))
@@ -378,6 +385,7 @@ impl Wanted {
                 own.map(|p| (p.1, p.2)).eq(rows.iter().copied())
             }
             Finished(finished) => six().finished == *finished,
+            Moved(hops, trip) => after.returned == 0 && trips::written(&after.target, hops, *trip),
             Refusal(0, 0) => (six().refusal, six().place) == (0, 0),
             Refusal(number, place) => {
                 let alone = Answer {

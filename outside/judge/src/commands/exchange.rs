@@ -194,12 +194,13 @@ pub fn judge_one(name: &str, case: &Case, reply: &Reply, ask_slow: bool, tally: 
     });
 }
 
-/// RULES 16 decides here; what it leaves open is judged as in other cases.
+/// What the rules say decides here; what they leave open is judged as in other
+/// cases.
 fn judge_marked(marked: &Marked, case: &Case, reply: &Reply, tally: &mut Tally) {
     tally.count(marked.fits(case, &reply.outcome), || {
         let library = show::outcome(case, &reply.outcome);
         format!(
-            "{}: not what RULES 16 says\n{}library\n{library}",
+            "{}: not what the rules say\n{}library\n{library}",
             marked.name,
             show::case(case)
         )
