@@ -202,7 +202,6 @@
  * - One held record for each vertex keeps the search fast on any tables. With
  *   less room tables can be made on which a run takes over a second.
  * - A frame of 65,536 entries takes about a millisecond.
- * - A move takes about as long as a copy of the bytes.
  * - A call uses less than 8 KB of stack, 4,096 bytes of them for its arrays.
  * - The library is code for x86-64 Linux. It needs memset and nothing else.
  *   siltbrow_frame compares floats: call it with denormal numbers as they are,

@@ -17,6 +17,7 @@ static uint8_t held[SILTBROW_HELD_BYTES(sizeof vertices)];
 static uint8_t settled[SILTBROW_SETTLED_BYTES(sizeof vertices)];
 static uint8_t parts[SILTBROW_PART_BYTES(sizeof walks)];
 static uint8_t points[VERTICES * SILTBROW_POINT_SIZE];
+static uint8_t wide[SILTBROW_FORWARD_BYTES(sizeof walks)], narrow[SILTBROW_BACKWARD_BYTES(sizeof wide)];
 static uint8_t answer[SILTBROW_ANSWER_SIZE];
 
 static uint32_t limit;
@@ -84,6 +85,25 @@ static void *frame(void *unused)
     return unused;
 }
 
+/* The walks taken for hops, as a move judges no contents; and back. */
+static void *forward(void *unused)
+{
+    uint8_t here = 0;
+    top = &here;
+    if (siltbrow_hops_forward(walks, sizeof walks, wide, sizeof wide) != 0)
+        exit(2);
+    return unused;
+}
+
+static void *backward(void *unused)
+{
+    uint8_t here = 0;
+    top = &here;
+    if (siltbrow_hops_backward(wide, sizeof wide, narrow, sizeof narrow) != 0)
+        exit(2);
+    return unused;
+}
+
 /* The bytes below the caller's frame that a call has used. */
 static size_t used(void *(*call)(void *))
 {
@@ -127,9 +147,11 @@ int main(void)
         siltbrow_put(settled + 8 * v, v);
     size_t framing = used(frame);
     int framed = siltbrow_read_frame(answer).refusal == SILTBROW_ACCEPTED;
-    printf("a check uses %zu bytes of stack, a run at most %zu, parts at most %zu, a frame %zu\n", depth, most, covering, framing);
+    size_t moving = used(forward), back = used(backward);
+    printf("a check uses %zu bytes of stack, a run at most %zu, parts at most %zu, a frame %zu, the moves %zu and %zu\n", depth, most, covering,
+           framing, moving, back);
     int good = whole > 0 && framed && depth > 1000 && most > 1000 && covering > 1000 && framing > 1000 && depth < MOST && most < MOST
-               && covering < MOST && framing < MOST;
+               && covering < MOST && framing < MOST && moving < MOST && back < MOST && memcmp(narrow, walks, sizeof walks) == 0;
     printf("%d passed, %d failed\n", good, !good);
     return !good;
 }
