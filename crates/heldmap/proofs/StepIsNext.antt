@@ -10,18 +10,17 @@ use Rattle.journeys.specs.Bytes.{clocked}
 use Rattle.journeys.specs.Counting.{In}
 use Rattle.journeys.specs.Tables.{Tables, tablesOf}
 use Rattle.journeys.specs.Query.{Query, allowed, asked}
-use Rattle.journeys.specs.Journeys.{Distance}
-use Rattle.journeys.specs.Order.{Settled, settled, Order}
+use Rattle.journeys.specs.Order.{Settled, settled, IsOrder}
 use Rattle.journeys.specs.Network as network
 use Rattle.journeys.specs.Network.{Network, distanceIn, remaining}
 use Rattle.journeys.specs.Records as records
 use Rattle.journeys.proofs.Tests.{cond-true, cond-false, le-or-lt}
 use Rattle.journeys.proofs.Valid.{good-walk}
 use Rattle.journeys.specs.Valid.{Valid}
-use Rattle.journeys.proofs.Document.{ways, laws, loopless, strict, order-dist, allowed-low}
+use Rattle.journeys.proofs.Document.{ways, laws, loopless}
 use Rattle.journeys.proofs.Known.{upd, Next}
 use Rattle.journeys.proofs.Greedy.{State}
-use Rattle.journeys.proofs.Settling.{order-next, order-state}
+use Rattle.journeys.proofs.OrderLaws.{next-settled, order-state}
 use Rattle.journeys.proofs.Firsts.{distance-snoc}
 use Rattle.words.specs.declared.Seconds.{Seconds}
 use Rattle.worktable.specs.Map as map
@@ -41,7 +40,7 @@ bounded-is N Q ok =
     let g = good-walk N (ok .tables) (Q .walk) (ok .query .walk-low) in
     (λ u h. rw (ne-eqb (asked N Q .from) u (omega (arith, g .from-low)), ne-eqb (asked N Q .to) u (omega (arith, g .to-low))) (omega arith), laws N Q ok .from-low)
 
-module _ (size : ℕ) (wide : 16 ≤ size) (v w h : List ℕ) (Q : Query) (ok : Valid (tablesOf size v w h) Q) {l : List Settled} (O : Order (Distance (tablesOf size v w h) Q) (allowed Q) l) (bounded : Bounded (records.network (tablesOf size v w h) Q))
+module _ (size : ℕ) (wide : 16 ≤ size) (v w h : List ℕ) (Q : Query) (ok : Valid (tablesOf size v w h) Q) {l : List Settled} (O : IsOrder (tablesOf size v w h) Q l) (bounded : Bounded (records.network (tablesOf size v w h) Q))
     (k : ℕ) (made : k ≤ length l) (x d : ℕ) (F : Foremost (heldMap (records.network (tablesOf size v w h) Q) (distanceIn (take k l))) x d) (near : d ≤ allowed Q) where
   abbrev N : Tables
   N = tablesOf size v w h
@@ -53,7 +52,7 @@ module _ (size : ℕ) (wide : 16 ≤ size) (v w h : List ℕ) (Q : Query) (ok : 
   far = distanceIn (take k l)
 
   s : State G (ways N Q) (take k l)
-  s = order-state G (ways N Q) (laws N Q ok) (allowed Q) (allowed-low N Q ok) (strict N Q ok) (order-dist N Q ok O) k
+  s = order-state N Q ok O k
 
   X : Next G far x
   X = foremost-next G far bounded x d F .0
@@ -67,7 +66,7 @@ module _ (size : ℕ) (wide : 16 ≤ size) (v w h : List ℕ) (Q : Query) (ok : 
   -- The foremost entry is the next vertex of the order.
   pub one-further : (k < length l) × (take (suc k) l ≡ take k l ++ settled x d ∷ [])
   one-further =
-      let o = order-next G (ways N Q) (laws N Q ok) (allowed Q) (allowed-low N Q ok) (strict N Q ok) (order-dist N Q ok O) k made x X near′ in
+      let o = next-settled N Q ok O k made x X near′ in
       (o .0, o .1 ∙ ap (λ (z : ℕ). take k l ++ settled x z ∷ []) at)
 
   abbrev mid : ℕ → Map

@@ -1,35 +1,17 @@
 -- Ascending lists: one with given members is the only one, and of two that hold what comes before theirs the shorter begins the longer. Assumes nothing.
 use mathlib.Core.Path.{_≡_, refl, sym, ap, _∙_}
-use mathlib.Core.Logic.{_⊎_, inl, inr}
+use mathlib.Core.Logic.{inl, inr}
 use mathlib.Core.List.{List, [], _∷_, _++_, append-nil}
 use Prim.Native.Nat.{ℕ, _≤_, _<_}
 use native.Mathlib.Decide.{decLt}
 use native.Mathlib.Omega.{arith}
 use lib.ListN.{length, length-append}
 use Rattle.journeys.specs.Counting.{In}
-use Rattle.journeys.proofs.Counting.{in-snoc, in-left, in-right}
 
 -- ascending by a figure
 abbrev pub Asc : {A : Type 0} → (A → ℕ) → List A → Type 0
 Asc {A} k [] = Unit {0}
 Asc {A} k (x ∷ xs) = ((y : A) → In y xs → k x < k y) × Asc k xs
-
-pub asc-snoc : {A : Type 0} (k : A → ℕ) (xs : List A) (a : A) → Asc k xs → ((y : A) → In y xs → k y < k a) → Asc k (xs ++ a ∷ [])
-asc-snoc k [] a h l = (λ y i. absurd i, tt)
-asc-snoc {A} k (x ∷ xs) a h l = (λ y i. go y (in-snoc xs a y i), asc-snoc k xs a (h .1) (λ y i. l y (inr i)))
-  where
-    go : (y : A) → In y xs ⊎ (y ≡ a) → k x < k y
-    go y (inl i) = h .0 y i
-    go y (inr e) = rw e (l x (inl refl))
-
-pub asc-left : {A : Type 0} (k : A → ℕ) (xs ys : List A) → Asc k (xs ++ ys) → Asc k xs
-asc-left k [] ys h = tt
-asc-left k (x ∷ xs) ys h = (λ y i. h .0 y (in-left xs ys y i), asc-left k xs ys (h .1))
-
-pub asc-cross : {A : Type 0} (k : A → ℕ) (xs ys : List A) → Asc k (xs ++ ys) → (x y : A) → In x xs → In y ys → k x < k y
-asc-cross k [] ys h x y i j = absurd i
-asc-cross k (a ∷ xs) ys h x y (inl e) j = rw e (h .0 y (in-right xs ys y j))
-asc-cross k (a ∷ xs) ys h x y (inr i) j = asc-cross k xs ys (h .1) x y i j
 
 pub prefix : {A : Type 0} (k : A → ℕ) (xs ys : List A) → Asc k xs → Asc k ys → length xs ≤ length ys
     → ((x y : A) → In x xs → In y ys → k x ≡ k y → x ≡ y)

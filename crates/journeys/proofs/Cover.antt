@@ -11,8 +11,7 @@ use Rattle.journeys.specs.Order.{Settled, settled}
 use Rattle.journeys.specs.Network.{Network}
 use Rattle.journeys.proofs.Tests.{le-or-lt}
 use Rattle.journeys.proofs.Ways.{Ways, Arrives, Dist, Laws}
-use Rattle.journeys.proofs.Firsts.{First, Whole}
-use Rattle.journeys.proofs.Greedy.{dist-exists}
+use Rattle.journeys.proofs.Greedy.{Whole, dist-exists}
 
 -- A road of `len` leads to `end`, where one waits `lag` ticks. The query place is at the offset `near` of it (0 where it lies elsewhere),
 -- and `more` ticks are still to wait there.
@@ -45,12 +44,12 @@ module _ (G : Network) (W : Ways) where
   Covers D S r x = (a : ℕ) × (z : ℕ) × Piece D S r a z × (a ≤ x) × (x ≤ z)
 
   -- Who starts in a part is in time.
-  pub covers-from : (D : ℕ) (S : List Settled) → First G W D S → (r : Road) (x : ℕ) → Covers D S r x → FromPlace r x D
+  pub covers-from : (D : ℕ) (S : List Settled) → ((v d : ℕ) → In (settled v d) S → Dist G W v d) → (r : Road) (x : ℕ) → Covers D S r x → FromPlace r x D
   covers-from D S F r x c = go (c .2) (c .3) (c .4)
     where
       go : {a z : ℕ} → Piece D S r a z → a ≤ x → x ≤ z → FromPlace r x D
       go (first m q) h k = straight k (omega arith)
-      go (later d s m q) h k = onward d (F .dist (r .end) d s .0) (omega arith)
+      go (later d s m q) h k = onward d (F (r .end) d s .0) (omega arith)
 
   -- And every place inside the road from which one is in time lies in a part.
   pub from-covers : Laws G W → (D : ℕ) → 0 < D → D < none → (S : List Settled) → Whole G W D S → (r : Road) → Sound r → (x : ℕ) → 0 < x → x < r .len

@@ -17,7 +17,9 @@ use Rattle.journeys.specs.Records.{network}
 use Rattle.journeys.specs.Parts.{Part, part, near, firstPart, firstParts, partAt, partsAt, partList, Covered}
 use Rattle.journeys.proofs.Tests.{cond-true, cond-false, Test, same, other, test, le-or-lt}
 use Rattle.journeys.proofs.Counting.{in-left, in-right, in-append, in-flat, flat-in, in-joined, joined-in}
-use Rattle.journeys.proofs.Firsts.{order-first}
+use Rattle.journeys.proofs.Ways.{Dist}
+use Rattle.journeys.proofs.Greedy.{Whole}
+use Rattle.journeys.proofs.Settling as settling
 use Rattle.journeys.proofs.Cover.{Road, Sound, FromPlace, Piece, first, later, covers-from, from-covers}
 use Rattle.journeys.proofs.Valid.{good-walk, paired, allowed-some}
 use Rattle.journeys.specs.Valid.{Valid}
@@ -233,15 +235,21 @@ module _ (N : Tables) (Q : Query) (ok : Valid N Q) where
 
   -- A whole-decimetre place inside a record lies in a listed part exactly if a journey starts there within D.
   module _ {l : List Settled} (O : IsOrder N Q l) (i x : ℕ) (il : i < walkCount N) (x0 : 0 < x) (xl : x < walk N i .len) where
+    each : (y : Settled) → In y l → Dist (network N Q) (ways N Q) (y .vertex) (y .distance) × (y .distance ≤ allowed Q)
+    each = settling.order-each (network N Q) (ways N Q) (laws N Q ok) (allowed Q) (allowed-low N Q ok) (order-dist N Q ok O)
+
+    whole : Whole (network N Q) (ways N Q) (allowed Q) l
+    whole = settling.order-whole (network N Q) (ways N Q) (laws N Q ok) (allowed Q) (allowed-low N Q ok) (order-dist N Q ok O)
+
     pub covered-inside : Covered (partList N Q l) i x → Inside N Q i x (allowed Q)
     covered-inside c =
         place-inside i x (allowed Q) il x0
-        (covers-from (network N Q) (ways N Q) (allowed Q) l (order-first (network N Q) (ways N Q) (laws N Q ok) (order-dist N Q ok O)) (road N Q i) x
-        (c .start, c .end, listed-piece N Q l (λ y j. O .each (y .vertex) (y .distance) j .1) (thePart i (c .start) (c .end)) (c .listed), c .low, c .high))
+        (covers-from (network N Q) (ways N Q) (allowed Q) l (λ v d j. each (settled v d) j .0) (road N Q i) x
+        (c .start, c .end, listed-piece N Q l (λ y j. each y j .1) (thePart i (c .start) (c .end)) (c .listed), c .low, c .high))
 
     pub inside-covered : Inside N Q i x (allowed Q) → Covered (partList N Q l) i x
     inside-covered j =
         let c =
-        from-covers (network N Q) (ways N Q) (laws N Q ok) (allowed Q) (allowed-some (ok .query)) (allowed-low N Q ok) l (order-dist N Q ok O .all) (road N Q i) (sound i il) x x0 xl
+        from-covers (network N Q) (ways N Q) (laws N Q ok) (allowed Q) (allowed-some (ok .query)) (allowed-low N Q ok) l whole (road N Q i) (sound i il) x x0 xl
         (inside-place i x (allowed Q) il j) in
         record { start = c .0; end = c .1; listed = piece-listed N Q l i il (few i il) (c .2); low = c .3; high = c .4 }

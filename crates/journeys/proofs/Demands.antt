@@ -26,7 +26,7 @@ use Rattle.journeys.proofs.Held.{dropped-stays, dropped-absent}
 use Rattle.journeys.proofs.Valid.{paired}
 use Rattle.journeys.specs.Valid.{Valid}
 use Rattle.journeys.proofs.Document.{ways, laws, journey-arrives, arrives-journey, dist-distance, allowed-low}
-use Rattle.journeys.proofs.OrderLaws.{order-state, order-grows}
+use Rattle.journeys.proofs.OrderLaws.{order-each, order-all, order-state, order-grows}
 use Rattle.journeys.proofs.Coverage.{covered-inside, inside-covered}
 
 -- ---- journeys and distances
@@ -56,15 +56,15 @@ module _ (N : Tables) (Q : Query) (ok : Valid N Q) where
     -- A vertex is listed exactly if a journey from it starts within the window and arrives by T.
     pub listed-exactly : (v : ℕ) → ((d : ℕ) × In (settled v d) l) ↔ ((d : ℕ) × (d ≤ allowed Q) × Journey N Q v d)
     listed-exactly v = (
-      λ x. let e = O .each v (x .0) (x .1) in (x .0, e .1, e .0 .starts),
+      λ x. let e = order-each N Q ok O v (x .0) (x .1) in (x .0, e .1, e .0 .starts),
       λ x.
           let y = distance-exists v (x .0) (omega (arith, allowed-low N Q ok)) (x .2) in
-          (y .0, O .all v (y .0) (y .1) (omega arith)),
+          (y .0, order-all N Q ok O v (y .0) (y .1) (omega arith)),
     )
 
     -- Its figure is T less the latest such start.
     pub figure-exactly : (v d : ℕ) → In (settled v d) l → Distance N Q v d
-    figure-exactly v d i = O .each v d i .0
+    figure-exactly v d i = order-each N Q ok O v d i .0
 
     -- A whole-decimetre place inside a walk record lies in a listed part exactly if a journey starts there within the window.
     pub place-exactly : (i x : ℕ) → i < walkCount N → 0 < x → x < walk N i .len → Covered (partList N Q l) i x ↔ ((d : ℕ) × (d ≤ allowed Q) × Inside N Q i x d)

@@ -2,6 +2,7 @@
 use mathlib.Core.Path.{_≡_, refl, sym, ap, subst, _∙_}
 use mathlib.Core.Logic.{_⊎_, inl, inr, ⊎-elim, _≢_}
 use mathlib.Core.Bool.{Bool, true, false, not, cond, _&&_, _||_}
+use mathlib.Core.List.{List}
 use Prim.Native.Nat.{ℕ, _+_, _-_, _≤_, _<_}
 use native.Mathlib.Nat.{mul-le-mul-right, mul-lt-mul-of-pos-right}
 use native.Mathlib.Omega.{arith}
@@ -11,10 +12,11 @@ use Rattle.journeys.specs.Counting.{none}
 use Rattle.journeys.specs.Tables.{Tables, walk, hop, vertexCount, walkCount, hopCount}
 use Rattle.journeys.specs.Query.{Query, before, asked, allowed}
 use Rattle.journeys.specs.Journeys.{Journey, from-end, to-end, at-to, by-walk, by-hop, Distance}
-use Rattle.journeys.specs.Order.{Order}
+use Rattle.journeys.specs.Order.{Settled, Order}
 use Rattle.journeys.specs.Records.{Record, walked, ridden, from, to, offer, recordCount, recordAt, seed, network}
 use Rattle.journeys.proofs.Tests.{split, and-both, and-true, or-cases, or-left, or-right, cond-true, cond-false, le-or-lt}
 use Rattle.journeys.proofs.Ways.{Ways, Arrives, ends, leads, Dist, Laws, Strict, Loopless, arrives-up}
+use Rattle.journeys.proofs.Firsts.{order-same}
 use Rattle.journeys.proofs.Valid.{good-walk, good-hop, allowed-high}
 use Rattle.journeys.specs.Valid.{Valid}
 
@@ -138,15 +140,23 @@ offer-lead Q (ridden h) d b l o = go (split (leb (h .arrival) (Q .arrival) && le
     go (inl t) = let p = and-both (leb (h .arrival) (Q .arrival)) _ t in (leb-true _ _ (p .0), leb-true _ _ (p .1), omega (arith, cond-true (before Q (h .departure)) none t))
     go (inr t) = absurd (omega (arith, cond-false (before Q (h .departure)) none t))
 
+-- every ride takes time; good tables may have rides that take none
+abbrev pub Timely : Tables → Type 0
+Timely N = (j : ℕ) → j < hopCount N → hop N j .departure < hop N j .arrival
+
 module _ (N : Tables) (Q : Query) (ok : Valid N Q) where
   record-from : (r : ℕ) {x : Record} → Numbered N r x → from x < vertexCount N
   record-from r (of-walk l) = good-walk N (ok .tables) r l .from-low
   record-from r (of-hop j l e) = good-hop N (ok .tables) j l .from-low
 
-  record-strict : (r d b : ℕ) {x : Record} → Numbered N r x → Lead Q x d b → d < b
-  record-strict r d b (of-walk l) o = omega (arith, good-walk N (ok .tables) r l .len-low)
-  record-strict r d b (of-hop j l e) o =
-      omega (arith, o .1, o .2, before-less Q (hop N j .departure) (hop N j .arrival) (ok .query .speed-low) (good-hop N (ok .tables) j l .rides) (o .0))
+  record-le : (r d b : ℕ) {x : Record} → Numbered N r x → Lead Q x d b → d ≤ b
+  record-le r d b (of-walk l) o = omega arith
+  record-le r d b (of-hop j l e) o = omega (arith, o .1, o .2, before-mono Q (hop N j .departure) (hop N j .arrival) (good-hop N (ok .tables) j l .rides))
+
+  record-strict : Timely N → (r d b : ℕ) {x : Record} → Numbered N r x → Lead Q x d b → d < b
+  record-strict timely r d b (of-walk l) o = omega (arith, good-walk N (ok .tables) r l .len-low)
+  record-strict timely r d b (of-hop j l e) o =
+      omega (arith, o .1, o .2, before-less Q (hop N j .departure) (hop N j .arrival) (ok .query .speed-low) (timely j l) (o .0))
 
   record-apart : (r : ℕ) {x : Record} → Numbered N r x → from x ≢ to x
   record-apart r (of-walk l) = good-walk N (ok .tables) r l .apart
@@ -168,13 +178,13 @@ module _ (N : Tables) (Q : Query) (ok : Valid N Q) where
         ends-up = end-up;
         leads-up = λ r d b b′ h o. lead-up Q (recordAt N r) d b b′ h o;
         leads-down = λ r d d′ b h o. lead-down Q (recordAt N r) d d′ b h o;
-        leads-le = λ r d b l o. omega (arith, record-strict r d b (numbered N r l) o);
+        leads-le = λ r d b l o. record-le r d b (numbered N r l) o;
         seed-is = λ v b vn l. (seed-le N Q v b, seed-end N Q v b l);
         offer-is = λ r d b rl l. (offer-le Q (recordAt N r) d b, offer-lead Q (recordAt N r) d b l);
       }
 
-  pub strict : Strict (network N Q) (ways N Q)
-  strict r d b l o = record-strict r d b (numbered N r l) o
+  pub strict : Timely N → Strict (network N Q) (ways N Q)
+  strict timely r d b l o = record-strict timely r d b (numbered N r l) o
 
   pub loopless : Loopless (network N Q)
   loopless r l e = record-apart r (numbered N r l) e
@@ -217,13 +227,11 @@ module _ (N : Tables) (Q : Query) (ok : Valid N Q) where
   pub dist-distance : {v d : ℕ} → Dist (network N Q) (ways N Q) v d → Distance N Q v d
   dist-distance x = record { starts = arrives-journey (x .0); latest = λ b j. x .1 b (journey-arrives j) }
 
-  pub order-dist : {D : ℕ} {l : _} → Order (Distance N Q) D l → Order (Dist (network N Q) (ways N Q)) D l
-  order-dist O =
-      record { ascending = O .ascending; each = λ v d i. (distance-dist (O .each v d i .0), O .each v d i .1); all = λ v d x h. O .all v d (dist-distance x) h }
+  pub order-dist : {D : ℕ} {l : List Settled} → Order (network N Q) (Distance N Q) D l → Order (network N Q) (Dist (network N Q) (ways N Q)) D l
+  order-dist = order-same (network N Q) (λ v d. distance-dist) (λ v d. dist-distance)
 
-  pub dist-order : {D : ℕ} {l : _} → Order (Dist (network N Q) (ways N Q)) D l → Order (Distance N Q) D l
-  dist-order O =
-      record { ascending = O .ascending; each = λ v d i. (dist-distance (O .each v d i .0), O .each v d i .1); all = λ v d x h. O .all v d (distance-dist x) h }
+  pub dist-order : {D : ℕ} {l : List Settled} → Order (network N Q) (Dist (network N Q) (ways N Q)) D l → Order (network N Q) (Distance N Q) D l
+  dist-order = order-same (network N Q) (λ v d. dist-distance) (λ v d. distance-dist)
 
   pub allowed-low : allowed Q < none
   allowed-low = omega (arith, allowed-high (ok .query))

@@ -1,21 +1,19 @@
--- The order of settling over any network: what S is after k steps, that there is one such list, and that the whole order is one. Assumes nothing.
-use mathlib.Core.Path.{_≡_, refl, sym, _∙_}
-use mathlib.Core.Logic.{_⊎_, inl, inr, ⊎-elim, _≢_}
+-- The order of settling as a list: the distances that a beginning of it gives, that it is one, and that it grows with the time. What stands here holds for
+-- any network and any distances. Assumes nothing.
+use mathlib.Core.Path.{_≡_, refl, sym, ap, subst, _∙_}
+use mathlib.Core.Logic.{inl, inr, _≢_}
 use mathlib.Core.Bool.{Bool, cond}
-use mathlib.Core.List.{List, [], _∷_, _++_}
-use Prim.Native.Nat.{ℕ, _≤_, _<_}
+use mathlib.Core.List.{List, [], _∷_, _++_, append-nil, append-assoc}
+use Prim.Native.Nat.{ℕ, zero, suc, _≤_, _<_}
 use native.Mathlib.Omega.{arith}
 use lib.Dec.{eqb}
-use lib.ListN.{length, take, drop, take-append-drop, length-take}
-use lib.Seq.{length-take-le, take-all}
+use lib.ListN.{length, take, drop, length-append}
 use Rattle.journeys.specs.Counting.{none, In}
-use Rattle.journeys.specs.Order.{Settled, settled, Earlier, Ascending, Order}
+use Rattle.journeys.specs.Order.{Settled, settled, Earlier, Eligible, Chosen, Follows, Order}
 use Rattle.journeys.specs.Network.{Network, distanceIn}
-use Rattle.journeys.proofs.Tests.{Test, same, other, test, le-or-lt}
-use Rattle.journeys.proofs.Counting.{in-left, in-append}
-use Rattle.journeys.proofs.Ways.{Ways, Dist, Laws, dist-one, arrives-low}
-use Rattle.journeys.proofs.Place.{key, place, key-same, earlier-place, place-earlier}
-use Rattle.journeys.proofs.Ascending.{Asc, asc-left, asc-cross, prefix, prefix-all, sub-length}
+use Rattle.journeys.proofs.Tests.{Test, same, other, test}
+use Rattle.journeys.proofs.Counting.{in-left}
+use Rattle.journeys.proofs.Ascending.{prefix-all}
 
 -- ---- the distance that a list gives
 pub distance-in : (S : List Settled) (v : ℕ) → distanceIn S v < none → In (settled v (distanceIn S v)) S
@@ -49,125 +47,81 @@ distance-grows (x ∷ S) zs v h = go (λ q. distance-grows S zs v q) (test v (x 
     go ih (same e) h = refl
     go ih (other q) h = ih h
 
-module _ (G : Network) (W : Ways) where
-  -- S is the first vertices in the order of settling, with their distances; none above D is among them
-  pub record First (D : ℕ) (S : List Settled) : Type 0 where
-    pub dist : (v d : ℕ) → In (settled v d) S → Dist G W v d
-    pub low : (v d : ℕ) → In (settled v d) S → d ≤ D
-    pub asc : Asc (place (G .vertices)) S
-    pub before : (u d v d′ : ℕ) → Dist G W u d → In (settled v d′) S → key (G .vertices) d u < key (G .vertices) d′ v → In (settled u d) S
+-- Of two entries that are not earlier than each other, both are one.
+same-place : (x y : Settled) → ¬ Earlier x y → ¬ Earlier y x → x ≡ y
+same-place x y p q =
+    let a : ¬ (x .distance < y .distance) = λ l. p (inl l) in
+    let b : ¬ (y .distance < x .distance) = λ l. q (inl l) in
+    let e : x .distance ≡ y .distance = omega arith in
+    let c : ¬ (x .vertex < y .vertex) = λ l. p (inr (e, l)) in
+    let d : ¬ (y .vertex < x .vertex) = λ l. q (inr (sym e, l)) in
+    let f : x .vertex ≡ y .vertex = omega arith in
+    λ t. record { vertex = f t; distance = e t }
 
-  -- all within D
-  abbrev pub Whole : ℕ → List Settled → Type 0
-  Whole D S = (u d : ℕ) → Dist G W u d → d ≤ D → In (settled u d) S
+module _ (G : Network) (distance : ℕ → ℕ → Type 0) where
+  -- within D one may follow that may within D′, if it is no farther than another that may within D
+  near : {D D′ : ℕ} {S : List Settled} {x y : Settled} → Eligible G distance D S x → Eligible G distance D′ S y → y .distance ≤ x .distance → Eligible G distance D S y
+  near c c′ h = record { unsettled = c′ .unsettled; is = c′ .is; low = omega (arith, c .low); offered = c′ .offered }
 
-  -- after k steps
-  pub record After (D k : ℕ) (S : List Settled) : Type 0 where
-    pub first : First D S
-    pub most : length S ≤ k
-    pub all : (length S ≡ k) ⊎ Whole D S
+  longer : {D D′ : ℕ} {S : List Settled} {x : Settled} → D ≤ D′ → Eligible G distance D S x → Eligible G distance D′ S x
+  longer h c = record { unsettled = c .unsettled; is = c .is; low = omega (arith, c .low); offered = c .offered }
 
-module _ (G : Network) (W : Ways) (L : Laws G W) where
-  pub in-dist : {D : ℕ} {S : List Settled} → First G W D S → (x : Settled) → In x S → Dist G W (x .vertex) (x .distance)
-  in-dist F x i = F .dist (x .vertex) (x .distance) i
-
-  in-low : {D : ℕ} {S : List Settled} → First G W D S → (x : Settled) → In x S → x .vertex < G .vertices
-  in-low F x i = arrives-low G W L (in-dist F x i .0)
-
-  pub first-grows : {D D′ : ℕ} {S S′ : List Settled} → First G W D S → First G W D′ S′ → length S ≤ length S′ → (zs : List Settled) × (S′ ≡ S ++ zs)
-  first-grows {D} {D′} {S} {S′} F F′ l =
-      prefix (place (G .vertices)) S S′ (F .asc) (F′ .asc) l inj
-      (λ x y i j h. F .before (y .vertex) (y .distance) (x .vertex) (x .distance) (in-dist F′ y j) i h)
-      (λ x y i j h. F′ .before (x .vertex) (x .distance) (y .vertex) (y .distance) (in-dist F x i) j h)
+  -- More time does not change the choice.
+  pub chosen-one : {D D′ : ℕ} {S : List Settled} {x y : Settled} → D ≤ D′ → Chosen G distance D S x → Chosen G distance D′ S y → x ≡ y
+  chosen-one {D} {D′} {S} {x} {y} h c c′ = same-place x y (c′ .first x (longer h (c .may))) (λ e. c .first y (near (c .may) (c′ .may) (no-farther e)) e)
     where
-      inj : (x y : Settled) → In x S → In y S′ → place (G .vertices) x ≡ place (G .vertices) y → x ≡ y
-      inj x y i j h =
-          let e : x .vertex ≡ y .vertex = key-same (G .vertices) (x .distance) (y .distance) (in-low F x i) (in-low F′ y j) h in
-          let f : x .distance ≡ y .distance = dist-one G W (y .vertex) (x .distance) (y .distance) (rw e at (in-dist F x i)) (in-dist F′ y j) in
-          λ t. record { vertex = e t; distance = f t }
+      no-farther : Earlier y x → y .distance ≤ x .distance
+      no-farther (inl l) = omega arith
+      no-farther (inr e) = omega arith
 
-  pub whole-most : {D D′ : ℕ} {S S′ : List Settled} → D′ ≤ D → First G W D S → Whole G W D S → First G W D′ S′ → length S′ ≤ length S
-  whole-most {D} {D′} {S} {S′} l F all F′ =
-      sub-length (place (G .vertices)) S S′ (F .asc) (F′ .asc) (λ x i. all (x .vertex) (x .distance) (in-dist F′ x i) (omega (arith, F′ .low (x .vertex) (x .distance) i)))
-
-  -- What is settled after k steps is determined.
-  pub after-one : {D k : ℕ} {S S′ : List Settled} → After G W D k S → After G W D k S′ → S ≡ S′
-  after-one {D} {k} {S} {S′} A A′ = let e = go (A .all) (A′ .all) in prefix-all S S′ (first-grows (A .first) (A′ .first) (omega arith)) (omega arith)
-    where
-      go : (length S ≡ k) ⊎ Whole G W D S → (length S′ ≡ k) ⊎ Whole G W D S′ → length S ≡ length S′
-      go (inl e) (inl e′) = omega arith
-      go (inl e) (inr w) = omega (arith, whole-most (let q : D ≤ D = omega arith in q) (A′ .first) w (A .first), A′ .most)
-      go (inr w) (inl e) = omega (arith, whole-most (let q : D ≤ D = omega arith in q) (A .first) w (A′ .first), A .most)
-      go (inr w) (inr w′) =
-          omega (arith, whole-most (let q : D ≤ D = omega arith in q) (A .first) w (A′ .first), whole-most (let q : D ≤ D = omega arith in q) (A′ .first) w′ (A .first))
-
-  -- Fewer steps are where more steps begin.
-  pub after-grows : {D k k′ : ℕ} {S S′ : List Settled} → k ≤ k′ → After G W D k S → After G W D k′ S′ → (zs : List Settled) × (S′ ≡ S ++ zs)
-  after-grows {D} {k} {k′} {S} {S′} h A A′ = first-grows (A .first) (A′ .first) (go (A′ .all))
-    where
-      go : (length S′ ≡ k′) ⊎ Whole G W D S′ → length S ≤ length S′
-      go (inl e) = omega (arith, A .most)
-      go (inr w) = whole-most (let q : D ≤ D = omega arith in q) (A′ .first) w (A .first)
-
-  first-prefix : (D : ℕ) (xs ys : List Settled) → First G W D (xs ++ ys) → First G W D xs
-  first-prefix D xs ys F =
-      record {
-        dist = λ v d i. F .dist v d (in-left xs ys (settled v d) i);
-        low = λ v d i. F .low v d (in-left xs ys (settled v d) i);
-        asc = asc-left (place (G .vertices)) xs ys (F .asc);
-        before = λ u d v d′ X i h. go u d v d′ i h (in-append xs ys (settled u d) (F .before u d v d′ X (in-left xs ys (settled v d′) i) h));
-      }
-    where
-      go : (u d v d′ : ℕ) → In (settled v d′) xs → key (G .vertices) d u < key (G .vertices) d′ v → In (settled u d) xs ⊎ In (settled u d) ys → In (settled u d) xs
-      go u d v d′ i h (inl j) = j
-      go u d v d′ i h (inr j) = absurd (omega (arith, asc-cross (place (G .vertices)) xs ys (F .asc) (settled v d′) (settled u d) i j))
-
-  -- ---- the whole order, as the definition has it
-  asc-order : (l : List Settled) → ((x : Settled) → In x l → x .vertex < G .vertices) → Ascending l → Asc (place (G .vertices)) l
-  asc-order [] low a = tt
-  asc-order (x ∷ l) low a = (λ y i. earlier-place (G .vertices) x y (low x (inl refl)) (a .0 y i), asc-order l (λ y i. low y (inr i)) (a .1))
-
-  order-asc : (l : List Settled) → ((x : Settled) → In x l → x .vertex < G .vertices) → Asc (place (G .vertices)) l → Ascending l
-  order-asc [] low a = tt
-  order-asc (x ∷ l) low a = (λ y i. place-earlier (G .vertices) x y (low y (inr i)) (a .0 y i), order-asc l (λ y i. low y (inr i)) (a .1))
-
-  module _ {D : ℕ} {l : List Settled} where
-    pub order-first : Order (Dist G W) D l → First G W D l
-    order-first O =
-        record {
-          dist = λ v d i. O .each v d i .0;
-          low = λ v d i. O .each v d i .1;
-          asc = asc-order l (λ x i. arrives-low G W L (O .each (x .vertex) (x .distance) i .0 .0)) (O .ascending);
-          before = λ u d v d′ X i h. O .all u d X (at-most u d v d′ X i h);
-        }
-      where
-        at-most : (u d v d′ : ℕ) → Dist G W u d → In (settled v d′) l → key (G .vertices) d u < key (G .vertices) d′ v → d ≤ D
-        at-most u d v d′ X i h = go (place-earlier (G .vertices) (settled u d) (settled v d′) (arrives-low G W L (O .each v d′ i .0 .0)) h)
-          where
-            go : Earlier (settled u d) (settled v d′) → d ≤ D
-            go (inl q) = omega (arith, O .each v d′ i .1)
-            go (inr q) = omega (arith, O .each v d′ i .1)
-
-    pub first-order : First G W D l → Whole G W D l → Order (Dist G W) D l
-    first-order F all =
-        record { ascending = order-asc l (λ x i. in-low F x i) (F .asc); each = λ v d i. (F .dist v d i, F .low v d i); all = all }
-
-    -- The first k of the order are what k steps settle.
-    pub order-after : Order (Dist G W) D l → (k : ℕ) → After G W D k (take k l)
-    order-after O k =
-        record {
-          first = first-prefix D (take k l) (drop k l) (rw (take-append-drop k l) (order-first O));
-          most = omega (arith, length-take k l);
-          all = ⊎-elim (λ (h : k ≤ length l). inl (length-take-le k l h)) (λ (h : length l < k). inr (rw (take-all k l (omega arith)) (O .all))) (le-or-lt k (length l));
-        }
-
-  -- There is one order at most.
-  pub order-one : {D : ℕ} {l l′ : List Settled} → Order (Dist G W) D l → Order (Dist G W) D l′ → l ≡ l′
-  order-one {D} {l} {l′} O O′ =
-      let a = whole-most (let q : D ≤ D = omega arith in q) (order-first O) (O .all) (order-first O′) in
-      let b = whole-most (let q : D ≤ D = omega arith in q) (order-first O′) (O′ .all) (order-first O) in
-      prefix-all l l′ (first-grows (order-first O) (order-first O′) b) a
+  follows-longer : {D D′ : ℕ} → D ≤ D′ → (S l l′ : List Settled) → Follows G distance D S l → Follows G distance D′ S l′ → (zs : List Settled) × (l′ ≡ l ++ zs)
+  follows-longer h S [] l′ f f′ = (l′, refl)
+  follows-longer h S (x ∷ l) [] f f′ = absurd (f′ x (longer h (f .0 .may)))
+  follows-longer {D} {D′} h S (x ∷ l) (y ∷ l′) f f′ =
+      let e = chosen-one h (f .0) (f′ .0) in
+      let t = follows-longer h (S ++ x ∷ []) l l′ (f .1) (subst (λ (z : Settled). Follows G distance D′ (S ++ z ∷ []) l′) (sym e) (f′ .1)) in
+      (t .0, cc (t .1, e))
 
   -- More time, same beginning: the order for a shorter duration begins the order for a longer one.
-  pub more-time : {D D′ : ℕ} {l l′ : List Settled} → D ≤ D′ → Order (Dist G W) D l → Order (Dist G W) D′ l′ → (zs : List Settled) × (l′ ≡ l ++ zs)
-  more-time {D} {D′} {l} {l′} h O O′ = first-grows (order-first O) (order-first O′) (whole-most h (order-first O′) (O′ .all) (order-first O))
+  pub more-time : {D D′ : ℕ} {l l′ : List Settled} → D ≤ D′ → Order G distance D l → Order G distance D′ l′ → (zs : List Settled) × (l′ ≡ l ++ zs)
+  more-time {D} {D′} {l} {l′} h O O′ = follows-longer h [] l l′ (O .steps) (O′ .steps)
+
+  -- There is one order at most.
+  pub order-one : {D : ℕ} {l l′ : List Settled} → Order G distance D l → Order G distance D l′ → l ≡ l′
+  order-one {D} {l} {l′} O O′ =
+      let a = more-time (let q : D ≤ D = omega arith in q) O O′ in
+      let b = more-time (let q : D ≤ D = omega arith in q) O′ O in
+      prefix-all l l′ a (omega (arith, simp length-append at (ap length (b .1))))
+
+  module _ (D : ℕ) where
+    -- After k steps the rest of the order follows.
+    pub follows-drop : (k : ℕ) (S l : List Settled) → Follows G distance D S l → Follows G distance D (S ++ take k l) (drop k l)
+    follows-drop zero S l f = rw (append-nil S) f
+    follows-drop (suc k) S [] f = rw (append-nil S) f
+    follows-drop (suc k) S (x ∷ l) f = rw (append-assoc S (x ∷ []) (take k l)) at (follows-drop k (S ++ x ∷ []) l (f .1))
+
+    -- What follows is not settled before, and has its distance.
+    pub follows-apart : (S l : List Settled) → Follows G distance D S l → (x : Settled) → In x l → (d : ℕ) → ¬ In (settled (x .vertex) d) S
+    follows-apart S [] f x i d j = i
+    follows-apart S (y ∷ l) f x (inl e) d j = f .0 .may .unsettled d (rw e at j)
+    follows-apart S (y ∷ l) f x (inr i) d j = follows-apart (S ++ y ∷ []) l (f .1) x i d (in-left S (y ∷ []) (settled (x .vertex) d) j)
+
+    pub follows-each : (S l : List Settled) → Follows G distance D S l → (x : Settled) → In x l → distance (x .vertex) (x .distance) × (x .distance ≤ D)
+    follows-each S [] f x i = absurd i
+    follows-each S (y ∷ l) f x (inl e) = rw e (f .0 .may .is, omega (arith, f .0 .may .low))
+    follows-each S (y ∷ l) f x (inr i) = follows-each (S ++ y ∷ []) l (f .1) x i
+
+-- Two names of the same distances make the same order.
+module _ (G : Network) {distance distance′ : ℕ → ℕ → Type 0} (to : (v d : ℕ) → distance v d → distance′ v d) (back : (v d : ℕ) → distance′ v d → distance v d) where
+  there : {D : ℕ} {S : List Settled} {x : Settled} → Eligible G distance D S x → Eligible G distance′ D S x
+  there {D} {S} {x} c = record { unsettled = c .unsettled; is = to (x .vertex) (x .distance) (c .is); low = c .low; offered = c .offered }
+
+  here : {D : ℕ} {S : List Settled} {x : Settled} → Eligible G distance′ D S x → Eligible G distance D S x
+  here {D} {S} {x} c = record { unsettled = c .unsettled; is = back (x .vertex) (x .distance) (c .is); low = c .low; offered = c .offered }
+
+  follows-same : (D : ℕ) (S l : List Settled) → Follows G distance D S l → Follows G distance′ D S l
+  follows-same D S [] f = λ x c. f x (here c)
+  follows-same D S (x ∷ l) f = (record { may = there (f .0 .may); first = λ y c. f .0 .first y (here c) }, follows-same D (S ++ x ∷ []) l (f .1))
+
+  pub order-same : {D : ℕ} {l : List Settled} → Order G distance D l → Order G distance′ D l
+  order-same {D} {l} O = record { steps = follows-same D [] l (O .steps) }

@@ -2,7 +2,7 @@
 use mathlib.Core.Path.{_≡_, refl, subst}
 use mathlib.Core.Logic.{_⊎_, inl, inr, ⊎-elim}
 use mathlib.Core.Bool.{Bool, true, false, not, cond, _&&_, _||_}
-use mathlib.Core.List.{List, [], _∷_, flatMap}
+use mathlib.Core.List.{List, [], _∷_, _++_, flatMap}
 use Prim.Native.Nat.{ℕ, zero, suc, _+_, _-_, _*_, _≤_, _<_, min, max}
 use native.Mathlib.Nat.{mul-le-mul}
 use native.Mathlib.Omega.{arith}
@@ -14,15 +14,14 @@ use Rattle.journeys.specs.Counting.{none, count, joined, In, one}
 use Rattle.journeys.specs.Bytes.{midnight}
 use Rattle.journeys.specs.Tables.{Tables, walk, hop, walkCount}
 use Rattle.journeys.specs.Query.{Query, before, asked, allowed}
-use Rattle.journeys.specs.Journeys.{Distance}
-use Rattle.journeys.specs.Order.{Settled, settled, Earlier, Ascending}
+use Rattle.journeys.specs.Order.{Settled, settled, Follows}
 use Rattle.journeys.specs.Network.{Network, distanceIn, within, known, held, row, entry, heldList}
 use Rattle.journeys.specs.Records.{Record, offer, recordCount, recordAt, seed, network}
 use Rattle.journeys.specs.Parts.{Part, part, near, firstPart, firstParts, partAt, partsAt, partList}
 use Rattle.journeys.proofs.Tests.{Test, same, other, test, le-or-lt}
-use Rattle.journeys.proofs.Counting.{is-one, is-zero, count-most, count-join, in-append, in-left, flat-in, joined-in}
+use Rattle.journeys.proofs.Counting.{is-one, is-zero, count-most, count-join, in-append, in-left, in-right, flat-in, joined-in}
 use Rattle.journeys.proofs.Known.{By, known-by, known-seed, known-record}
-use Rattle.journeys.proofs.Firsts.{distance-in}
+use Rattle.journeys.proofs.Firsts.{distance-in, follows-apart}
 use Rattle.journeys.proofs.Valid.{good-walk, good-hop, paired, allowed-high}
 use Rattle.journeys.specs.Valid.{Valid}
 use Rattle.journeys.proofs.Document.{Numbered, of-walk, of-hop, numbered, ways}
@@ -196,28 +195,19 @@ module _ (N : Tables) (Q : Query) where
       twin false = part-most (asked N Q .twin) (near N Q (asked N Q .twin) - allowed Q) (near N Q (asked N Q .twin))
 
 -- The order, and each beginning of it, gives each vertex one distance.
-pub distinct : (N : Tables) (Q : Query) → allowed Q < none → (l : List Settled) → Ascending l → ((v d : ℕ) → In (settled v d) l → Distance N Q v d × (d ≤ allowed Q)) → (k : ℕ)
-    → Distinct (take k l)
-distinct N Q D [] a each k = rw take-nil tt
-distinct N Q D (x ∷ l) a each zero = tt
-distinct N Q D (x ∷ l) a each (suc k) = (
+pub distinct : (G : Network) (distance : ℕ → ℕ → Type 0) (D : ℕ) → D < none → (S l : List Settled) → Follows G distance D S l → (k : ℕ) → Distinct (take k l)
+distinct G distance D Di S [] f k = rw take-nil tt
+distinct G distance D Di S (x ∷ l) f zero = tt
+distinct G distance D Di S (x ∷ l) f (suc k) = (
   ⊎-elim (λ (h : none ≤ distanceIn (take k l) (x .vertex)). h)
       (λ (h : distanceIn (take k l) (x .vertex) < none). absurd (twice (distanceIn (take k l) (x .vertex)) (in-take k l _ (distance-in (take k l) (x .vertex) h))))
       (le-or-lt none (distanceIn (take k l) (x .vertex))),
-  omega (arith, each (x .vertex) (x .distance) (inl refl) .1),
-  distinct N Q D l (a .1) (λ v d i. each v d (inr i)) k,
+  omega (arith, f .0 .may .low),
+  distinct G distance D Di (S ++ x ∷ []) l (f .1) k,
 )
   where
     in-take : (k : ℕ) (l : List Settled) (y : Settled) → In y (take k l) → In y l
     in-take k l y i = subst (In y) (take-append-drop k l) (in-left (take k l) (drop k l) y i)
 
-    twice : (d : ℕ) → In (settled (x .vertex) d) l → ⊥
-    twice d i =
-        let p = each (x .vertex) (x .distance) (inl refl) .0 in
-        let q = each (x .vertex) d (inr i) .0 in
-        let e : x .distance ≡ d = omega (arith, p .latest d (q .starts), q .latest (x .distance) (p .starts)) in
-        go (a .0 (settled (x .vertex) d) i) e
-      where
-        go : Earlier x (settled (x .vertex) d) → x .distance ≡ d → ⊥
-        go (inl l) e = omega arith
-        go (inr l) e = omega (arith, l .1)
+    twice : (d : ℕ) → ¬ In (settled (x .vertex) d) l
+    twice d i = follows-apart G distance D (S ++ x ∷ []) l (f .1) (settled (x .vertex) d) i (x .distance) (in-right S (x ∷ []) x (inl refl))

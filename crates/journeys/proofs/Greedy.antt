@@ -14,12 +14,11 @@ use Rattle.journeys.specs.Order.{Settled, settled}
 use Rattle.journeys.specs.Network.{Network, distanceIn, within, known}
 use Rattle.journeys.proofs.Tests.{Test, same, other, test, TestLe, fits, over, testLe, le-or-lt, last-or-below}
 use Rattle.journeys.proofs.Counting.{in-snoc, below-suc, is-one, is-zero, count-same, count-all, none-count}
-use Rattle.journeys.proofs.Ways.{Ways, Arrives, Dist, Laws, Strict, dist-one, arrives-up}
-use Rattle.journeys.proofs.Place.{key, top, place, key-top, top-key}
-use Rattle.journeys.proofs.Known.{upd, upd-same, upd-other, not-within, within-is, within-same, within-other, Right, Bound, Next, ended, next-dist, next-right, next-first}
+use Rattle.journeys.proofs.Ways.{Ways, Arrives, Dist, Laws, dist-one, arrives-up}
+use Rattle.journeys.proofs.Place.{key, top, key-top, top-key}
+use Rattle.journeys.proofs.Known.{upd, upd-same, upd-other, not-within, within-is, within-same, within-other, Right, Bound, Next, ended, next-right}
 use Rattle.journeys.proofs.Step.{known-step}
-use Rattle.journeys.proofs.Ascending.{Asc, asc-snoc}
-use Rattle.journeys.proofs.Firsts.{distance-in, distance-snoc, First, Whole}
+use Rattle.journeys.proofs.Firsts.{distance-in, distance-snoc}
 
 -- the least of f 0 .. f (k - 1) below t, and where it is
 unfoldable pub scan : (ℕ → ℕ) → ℕ → ℕ → ℕ × ℕ
@@ -79,10 +78,9 @@ module _ (G : Network) where
     pub counted : count (within (distanceIn S)) (G .vertices) ≡ length S
     pub kept : (v : ℕ) → distanceIn S v < none → known G (distanceIn S) v ≤ distanceIn S v
 
-  -- and where they are made in the order of the distances: ascending, and all others behind
-  pub record Sorted (W : Ways) (S : List Settled) : Type 0 where
-    pub asc : Asc (place (G .vertices)) S
-    pub behind : (x : Settled) → In x S → (u d : ℕ) → Arrives G W u d → none ≤ distanceIn S u → place (G .vertices) x < key (G .vertices) d u
+  -- all within D is in S
+  abbrev pub Whole : Ways → ℕ → List Settled → Type 0
+  Whole W D S = (u d : ℕ) → Dist G W u d → d ≤ D → In (settled u d) S
 
 module _ (G : Network) (W : Ways) where
   pub empty : State G W []
@@ -96,26 +94,8 @@ module _ (G : Network) (W : Ways) where
         kept = λ v h. absurd (omega arith);
       }
 
-  pub empty-sorted : Sorted G W []
-  empty-sorted = record { asc = tt; behind = λ x i. absurd i }
-
-  pub state-dist : {S : List Settled} → State G W S → (v d : ℕ) → In (settled v d) S → Dist G W v d
-  state-dist {S} s v d i =
-      let e : distanceIn S v ≡ d = s .member (settled v d) i in
-      rw e at (s .right v (omega (arith, s .small (settled v d) i)))
-
   pub state-in : {S : List Settled} → State G W S → (u d : ℕ) → Dist G W u d → distanceIn S u < none → In (settled u d) S
   state-in {S} s u d X h = rw (dist-one G W u (distanceIn S u) d (s .right u h) X) at (distance-in S u h)
-
-  pub state-first : {S : List Settled} (D : ℕ) → State G W S → Sorted G W S → ((x : Settled) → In x S → x .distance ≤ D) → First G W D S
-  state-first {S} D s o w =
-      record {
-        dist = state-dist s;
-        low = λ v d i. w (settled v d) i;
-        asc = o .asc;
-        before = λ u d v d′ X i k. state-in s u d X
-            (⊎-elim (λ (q : none ≤ distanceIn S u). absurd (let z : ⊥ = omega (arith, o .behind (settled v d′) i u d (X .0) q) in z)) (λ (q : distanceIn S u < none). q) (le-or-lt none (distanceIn S u)));
-      }
 
 module _ (G : Network) (W : Ways) (L : Laws G W) where
   module _ {S : List Settled} (s : State G W S) (v : ℕ) (X : Next G (distanceIn S) v) where
@@ -152,22 +132,6 @@ module _ (G : Network) (W : Ways) (L : Laws G W) where
         kept u (same e) h = rw e (omega (arith, known-step G (distanceIn S) v b (X .out) (X .some) v))
         kept u (other q) h = omega (arith, known-step G (distanceIn S) v b (X .out) (X .some) u, s .kept u h)
 
-    pub next-sorted : Strict G W → Sorted G W S → Sorted G W (S ++ settled v (known G (distanceIn S) v) ∷ [])
-    next-sorted st o =
-        record {
-          asc = asc-snoc (place (G .vertices)) S (settled v b) (o .asc) (λ y i. o .behind y i v b (next-dist G W L (s .right) v X .0) (X .out));
-          behind = λ x i u d j h. behind x (in-snoc S (settled v b) x i) u d j (test u v) (rw (← snoc u) h);
-        }
-      where
-        b : ℕ
-        b = known G (distanceIn S) v
-
-        behind : (x : Settled) → In x S ⊎ (x ≡ settled v b) → (u d : ℕ) → Arrives G W u d → {t : Bool} → Test u v t → none ≤ cond t b (distanceIn S u)
-            → place (G .vertices) x < key (G .vertices) d u
-        behind x i u d j (same e) h = absurd (omega (arith, X .some))
-        behind x (inl i) u d j (other q) h = o .behind x i u d j h
-        behind x (inr e) u d j (other q) h = rw e (next-first G W L (s .right) v X st u d j h q)
-
   module _ (D : ℕ) (Di : D < none) where
     candidate-out : (far : ℕ → ℕ) (u : ℕ) → none ≤ far u → candidate G far u ≡ known G far u
     unfolding candidate
@@ -185,7 +149,6 @@ module _ (G : Network) (W : Ways) (L : Laws G W) where
         go (fits q) h = q
         go (over q) h = absurd (omega arith)
 
-    -- The scan finds the next vertex, or that nothing within D is known.
     is-next : (far : ℕ → ℕ) (r : ℕ × ℕ) → Scanned (λ u. key (G .vertices) (candidate G far u) u) (top (G .vertices) D) (G .vertices) r → r .0 < top (G .vertices) D
         → Next G far (r .1) × (known G far (r .1) ≤ D)
     is-next far r R h = go (R .at)
@@ -211,6 +174,19 @@ module _ (G : Network) (W : Ways) (L : Laws G W) where
         ⊎-elim (λ (q : known G far u ≤ D). absurd (let z : ⊥ = omega (arith, key-top (G .vertices) u (known G far u) D un q, rw (candidate-out far u uo) at (R .least u un)) in z))
         (λ (q : D < known G far u). q)
         (le-or-lt (known G far u) D)
+
+    -- The next vertex within D, or that there is none.
+    pub found : (far : ℕ → ℕ) → ((v : ℕ) × Next G far v × (known G far v ≤ D)) ⊎ Bound G far (suc D)
+    found far = go (scan f (top (G .vertices) D) (G .vertices)) (scanned f (top (G .vertices) D) (G .vertices))
+      where
+        f : ℕ → ℕ
+        f u = key (G .vertices) (candidate G far u) u
+
+        go : (r : ℕ × ℕ) → Scanned f (top (G .vertices) D) (G .vertices) r → ((v : ℕ) × Next G far v × (known G far v ≤ D)) ⊎ Bound G far (suc D)
+        go r R =
+            ⊎-elim (λ (q : top (G .vertices) D ≤ r .0). inr (none-left far r R q))
+            (λ (q : r .0 < top (G .vertices) D). let x = is-next far r R q in inl (r .1, x .0, x .1))
+            (le-or-lt (top (G .vertices) D) (r .0))
 
     -- Whatever each step keeps holds of the run, which makes its k steps or ends where nothing within D is known.
     pub record Ran (P : List Settled → Type 0) (t : ℕ) (S : List Settled) : Type 0 where

@@ -164,7 +164,7 @@ module _ (G : Network) (W : Ways) (L : Laws G W) where
 
   -- The step: what is known of the next vertex is its distance.
   module _ {far : ℕ → ℕ} (C : Right G W far) (v : ℕ) (X : Next G far v) where
-    next-low : Bound G far (known G far v)
+    pub next-low : Bound G far (known G far v)
     next-low u un h = key-le (G .vertices) {v = u} v un (X .least u un h)
 
     pub next-dist : Dist G W v (known G far v)

@@ -18,6 +18,7 @@ pub mod Cover
 pub mod Coverage
 pub mod Fits
 pub mod OrderLaws
+pub mod ByDistance
 pub mod Demands
 pub mod Determined
 pub mod PartAnswers
@@ -25,6 +26,6 @@ pub mod Cases
 pub mod Marked
 pub mod Limits
 pub mod PartLimits
+pub mod Moments
 pub mod Clock
-pub mod ByStep
 pub mod Judged

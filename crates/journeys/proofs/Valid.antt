@@ -119,7 +119,7 @@ pub record GoodHop (N : Tables) (j : ℕ) : Type 0 where
   pub to-low : hop N j .to < vertexCount N
   pub apart : hop N j .from ≢ hop N j .to
   pub departure-low : midnight - 86400 ≤ hop N j .departure
-  pub rides : hop N j .departure < hop N j .arrival
+  pub rides : hop N j .departure ≤ hop N j .arrival
   pub arrival-high : hop N j .arrival ≤ midnight + 172800
 
 pub ends-good : (n from to : ℕ) → endsOk n from to ≡ true → (from < n) × (to < n) × (from ≢ to)
@@ -153,7 +153,7 @@ module _ (N : Tables) where
   unfolding hopOk
   hop-says j ok =
       let a = and-both (endsOk (vertexCount N) (hop N j .from) (hop N j .to)) _ ok in
-      let b = and-both (leb (midnight - 86400) (hop N j .departure) && ltb (hop N j .departure) (hop N j .arrival)) _ (a .1) in
+      let b = and-both (leb (midnight - 86400) (hop N j .departure) && _) _ (a .1) in
       let c = and-both (leb (midnight - 86400) (hop N j .departure)) _ (b .0) in
       let e = ends-good (vertexCount N) (hop N j .from) (hop N j .to) (a .0) in
       record {
@@ -161,7 +161,7 @@ module _ (N : Tables) where
         to-low = e .1;
         apart = e .2;
         departure-low = leb-true _ _ (c .0);
-        rides = ltb-true _ _ (c .1);
+        rides = leb-true _ _ (c .1);
         arrival-high = leb-true _ _ (b .1);
       }
 

@@ -3,6 +3,7 @@ pub mod Bytes
 pub mod Tables
 pub mod Query
 pub mod Journeys
+pub mod Settled
 pub mod Order
 pub mod Network
 pub mod Records
@@ -17,3 +18,4 @@ pub mod Clock
 pub mod Marked
 pub mod Limits
 pub mod PartLimits
+pub mod Moments

@@ -147,8 +147,7 @@ hopLimits =
     ∷ tried (hopField base 0 2 (minus 86401)) (bad 3 0)
     ∷ tried (hopField base 0 3 172800) good
     ∷ tried (hopField base 0 3 172801) (bad 3 0)
-    ∷ tried (hopField base 0 2 35879) good
-    ∷ tried (hopField base 0 2 35880) (bad 3 0)
+    ∷ tried (hopField base 0 2 35880) good
     ∷ tried (hopField base 0 2 35881) (bad 3 0)
     -- with a trip the fields stand where they stood
     ∷ tried (hopField (trips 7) 0 3 172801) (bad 3 0)
@@ -206,8 +205,8 @@ firstReasons =
     ∷ tried (buffers (hopBytesOf base (take 15 (base .hops))) 79 40) (bad 1 2)
     ∷ tried (buffers base 79 39) (bad 1 3)
     ∷ tried (buffers (walkField base 0 2 0) 80 39) (bad 1 4)
-    ∷ tried (hopField (walkField oneWay 5 2 0) 0 2 35880) (bad 2 5)
-    ∷ tried (hopField (walkField oneWay 5 1 2) 0 2 35880) (bad 3 0)
+    ∷ tried (hopField (walkField oneWay 5 2 0) 0 2 35881) (bad 2 5)
+    ∷ tried (hopField (walkField oneWay 5 1 2) 0 2 35881) (bad 3 0)
     ∷ tried (walkField (walkField (walkField (twoHops 0) 4 3 none) 5 3 none) 5 1 2) (bad 4 5)
     ∷ tried (vertexField (twoHops 0) 0 0 1) (bad 5 1)
     ∷ when (vertexField base 4 2 0) (querying 6 0 midnight 0 0) none verdict (bad 6 4)

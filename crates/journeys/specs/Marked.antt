@@ -130,6 +130,7 @@ marked =
     ∷ when oneWay (ask 5 900 300) 0 heldOf (3 ∷ 900 ∷ 0 ∷ 2 ∷ 4 ∷ 0 ∷ 0 ∷ 1 ∷ [])
     ∷ when oneWay (ask 5 899 300) 0 heldOf (3 ∷ 899 ∷ 0 ∷ 2 ∷ [])
     ∷ when oneWay (ask 5 901 300) none numbers (refused 7 1)
-    -- M10: a ride of no time
-    ∷ when (hopAt 35880 35880) baseQuery none numbers (refused 3 0)
+    -- M10: a ride of no time is accepted
+    ∷ when (hopAt 35880 35880) baseQuery none numbers (0 ∷ 0 ∷ 5 ∷ 0 ∷ 1 ∷ [])
+    ∷ when (hopAt 35880 35880) baseQuery none settledOf (1 ∷ 500 ∷ 3 ∷ 1200 ∷ 0 ∷ 1500 ∷ 4 ∷ 2100 ∷ 2 ∷ 3000 ∷ [])
     ∷ []

@@ -5,7 +5,7 @@ use mathlib.Core.List.{List, [], _∷_}
 use Prim.Native.Nat.{ℕ, min, _<_}
 use lib.Dec.{eqb, ltb}
 use Rattle.journeys.specs.Counting.{none, least, count, joined}
-use Rattle.journeys.specs.Order.{Settled}
+use Rattle.journeys.specs.Settled.{Settled}
 
 -- Vertices and records are numbered from 0. `seed v` is the distance that a query end gives v, `offer r d` the distance that record r offers its near end
 -- where its far end has the distance d; each may be none.

@@ -74,9 +74,9 @@ lengthOk len = leb 1 len && leb len 100000
 unfoldable pub pairOk : ℕ → Walk → Walk → Bool
 pairOk i w t = eqb (t .twin) i && eqb (t .from) (w .to) && eqb (t .to) (w .from) && eqb (t .len) (w .len)
 
--- 3: times from -86,400 to 172,800, the departure before the arrival
+-- 3: times from -86,400 to 172,800, the departure not after the arrival
 abbrev pub timesOk : ℕ → ℕ → Bool
-timesOk departure arrival = leb (midnight - 86400) departure && ltb departure arrival && leb arrival (midnight + 172800)
+timesOk departure arrival = leb (midnight - 86400) departure && leb departure arrival && leb arrival (midnight + 172800)
 
 -- 4, 5: "to" of a record not below that of the one before
 abbrev pub ascendsBy : (ℕ → ℕ) → ℕ → Bool

@@ -210,7 +210,7 @@ fn times_ok(departure: Seconds, arrival: Seconds) -> bool
     ensures { λ r. ⌜ r ≡ timesOk (clocked (departure .0)) (clocked (arrival .0)) ⌝ }
 {
     not_after(Seconds(-86400), departure)
-        & sooner(departure, arrival)
+        & not_after(departure, arrival)
         & not_after(arrival, Seconds(172800))
 }
 

@@ -11,10 +11,10 @@ use lib.ListN.{take}
 use Rattle.journeys.specs.Counting.{none, In}
 use Rattle.journeys.specs.Bytes.{be32}
 use Rattle.journeys.specs.Tables.{Tables, vertexCount}
-use Rattle.journeys.specs.Query.{Query, allowed}
+use Rattle.journeys.specs.Query.{Query}
 use Rattle.journeys.specs.Journeys.{Distance}
 use Rattle.journeys.specs.Order as order
-use Rattle.journeys.specs.Order.{Settled, Order}
+use Rattle.journeys.specs.Order.{Settled, IsOrder}
 use Rattle.journeys.specs.Network.{Network, Held, distanceIn, within, known, remaining, met, held, row, entry, heldList, Dropped}
 use Rattle.journeys.specs.Records.{network}
 use Rattle.journeys.specs.Answers.{heldBytes}
@@ -23,11 +23,11 @@ use Rattle.journeys.proofs.Counting.{joined-in}
 use Rattle.journeys.proofs.Known.{within-is, within-not}
 use Rattle.journeys.proofs.Firsts.{distance-in}
 use Rattle.journeys.proofs.Greedy.{State}
-use Rattle.journeys.proofs.Settling.{order-state, order-grows}
+use Rattle.journeys.proofs.OrderLaws.{order-each, order-state, order-grows}
 use Rattle.journeys.proofs.Held.{known-met, dropped-stays}
 use Rattle.journeys.specs.Valid.{Valid}
 use Rattle.journeys.proofs.Ways.{arrives-low}
-use Rattle.journeys.proofs.Document.{ways, laws, strict, journey-arrives, order-dist, allowed-low}
+use Rattle.journeys.proofs.Document.{ways, laws, journey-arrives}
 use Rattle.journeys.proofs.Demands.{held-exactly, held-means, known-settled}
 use Rattle.records.proofs.RecordBytes.{length-held, held-back}
 use Rattle.siltbrow.specs.Call.{Call, Completed, refusal, heldCount, read, Orders, steps, S}
@@ -64,18 +64,18 @@ listed-row G far x i = let y = joined-in (entry G far) (G .vertices) x i in go (
     go u h false z = absurd z
 
 -- ---- S after k steps of the order l
-module _ (N : Tables) (Q : Query) (ok : Valid N Q) (l : List Settled) (O : Order (Distance N Q) (allowed Q) l) (k : ℕ) where
+module _ (N : Tables) (Q : Query) (ok : Valid N Q) (l : List Settled) (O : IsOrder N Q l) (k : ℕ) where
   abbrev far′ : ℕ → ℕ
   far′ = distanceIn (take k l)
 
   state : State (network N Q) (ways N Q) (take k l)
-  state = order-state (network N Q) (ways N Q) (laws N Q ok) (allowed Q) (allowed-low N Q ok) (strict N Q ok) (order-dist N Q ok O) k
+  state = order-state N Q ok O k
 
   in-far : (v d : ℕ) → In (order.settled v d) (take k l) → far′ v < none
   in-far v d i = omega (arith, state .member (order.settled v d) i, state .small (order.settled v d) i)
 
   far-distance : (v : ℕ) → far′ v < none → Distance N Q v (far′ v)
-  far-distance v h = O .each v (far′ v) (in-order k l (order.settled v (far′ v)) (distance-in (take k l) v h)) .0
+  far-distance v h = order-each N Q ok O v (far′ v) (in-order k l (order.settled v (far′ v)) (distance-in (take k l) v h)) .0
 
   far-low : (v : ℕ) → far′ v < none → v < vertexCount N
   far-low v h = arrives-low (network N Q) (ways N Q) (laws N Q ok) (journey-arrives N Q ok (far-distance v h .starts))
@@ -89,7 +89,7 @@ module _ (N : Tables) (Q : Query) (ok : Valid N Q) (l : List Settled) (O : Order
   still-dropped : (k′ : ℕ) → k ≤ k′ → (v : ℕ) → Dropped (network N Q) far′ v → Dropped (network N Q) (distanceIn (take k′ l)) v
   still-dropped k′ h =
       dropped-stays (network N Q) far′ (distanceIn (take k′ l))
-      (λ u s. omega (arith, order-grows (network N Q) (ways N Q) (laws N Q ok) (allowed Q) (allowed-low N Q ok) (strict N Q ok) (order-dist N Q ok O) k k′ h u s))
+      (λ u s. omega (arith, order-grows N Q ok O k k′ h u s))
 
 module _ (c : Call) (E : Completed c) (accepted : refusal c ≡ 0) (l : List Settled) (O : Orders c l) where
   abbrev N : Tables
@@ -192,7 +192,7 @@ dropped-for-good c c₂ E E₂ a a₂ same asked more v listed gone =
     let l = theOrder c E a in
     let O = is-order c E a in
     let O₂ : Orders c₂ l =
-    subst (λ (q : Query). Order (Distance (read c₂) q) (allowed q) l) asked (subst (λ (n : Tables). Order (Distance n (c .query)) (allowed (c .query)) l) same O) in
+    subst (λ (q : Query). IsOrder (read c₂) q l) asked (subst (λ (n : Tables). IsOrder n (c .query) l) same O) in
     let d = still-dropped (read c) (c .query) (valid c E a) l O (steps c l) (steps c₂ l) (omega arith) v (dropped-exactly c E a l O v .1 (listed, gone)) in
     let d₂ : Dropped (network (read c₂) (c₂ .query)) (distanceIn (S c₂ l)) v =
     subst (λ (q : Query). Dropped (network (read c₂) q) (distanceIn (S c₂ l)) v) asked (subst (λ (n : Tables). Dropped (network n (c .query)) (distanceIn (S c₂ l)) v) same d) in

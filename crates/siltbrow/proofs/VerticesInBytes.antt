@@ -15,6 +15,7 @@ use Rattle.journeys.specs.Answers.{settledBytes}
 use Rattle.journeys.proofs.Counting.{in-left}
 use Rattle.journeys.proofs.Demands.{listed-exactly}
 use Rattle.records.proofs.RecordBytes.{length-settled, settled-back}
+use Rattle.journeys.proofs.OrderLaws.{order-each}
 use Rattle.siltbrow.specs.Call.{Call, Completed, refusal, settledCount, finished, read, Orders, steps, S}
 use Rattle.siltbrow.proofs.RecordsInBytes.{Stands, stands-front, record-listed, listed-record}
 use Rattle.siltbrow.proofs.Demands.{valid, theOrder, is-order, settled-are, finished-whole}
@@ -69,7 +70,7 @@ module _ (c : Call) (E : Completed c) (accepted : refusal c ≡ 0) where
       let O = is-order c E accepted in
       let v = be32 (c .settled) (8 * i) in
       let d = be32 (c .settled) (8 * i + 4) in
-      O .each v d (in-order (steps c l) l (order.settled v d) (settled-record l O v d .0 (i, h, refl, refl))) .0
+      order-each (read c) Q (valid c E accepted) O v d (in-order (steps c l) l (order.settled v d) (settled-record l O v d .0 (i, h, refl, refl))) .0
 
   -- In a finished run a counted record of the settled bytes names a vertex exactly if a journey from it starts within the allowed time and arrives by the set hour.
   pub vertex-listed : finished c ≡ 1 → (v : ℕ) → SettledNames c v ↔ ((d : ℕ) × (d ≤ allowed Q) × Journey (read c) Q v d)

@@ -5,9 +5,8 @@ use Prim.Native.Nat.{ℕ, min}
 use lib.ListN.{length, take}
 use Rattle.journeys.specs.Bytes.{be32}
 use Rattle.journeys.specs.Tables.{Tables}
-use Rattle.journeys.specs.Query.{Query, allowed}
-use Rattle.journeys.specs.Journeys.{Distance}
-use Rattle.journeys.specs.Order.{Settled, Order}
+use Rattle.journeys.specs.Query.{Query}
+use Rattle.journeys.specs.Order.{Settled, IsOrder}
 use Rattle.journeys.specs.Answers.{Lent, tables}
 use Rattle.siltbrow.specs.Ran.{Ran}
 
@@ -52,7 +51,7 @@ read c = tables (c .lent)
 
 -- l is the order of settling of its tables and query
 abbrev pub Orders : Call → List Settled → Type 0
-Orders c l = Order (Distance (read c) (c .query)) (allowed (c .query)) l
+Orders c l = IsOrder (read c) (c .query) l
 
 -- how many steps the run makes, and S after them
 abbrev pub steps : Call → List Settled → ℕ

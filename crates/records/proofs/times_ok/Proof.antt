@@ -4,7 +4,7 @@ use Rattle.records.proofs.times_ok.Statement.{statement}
 use Rattle.records.proofs.times_ok.Tie as tie
 
 returns : tie.Need-returns
-returns c = rw (c .before .before .not-after .ensures, c .before .sooner .ensures, c .not-after2 .ensures)
+returns c = rw (c .before .before .not-after .ensures, c .before .not-after2 .ensures, c .not-after3 .ensures)
 
 pub times-ok-spec : {M : Type 1} → statement M
 times-ok-spec =
