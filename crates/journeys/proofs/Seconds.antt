@@ -7,10 +7,10 @@ use Prim.Native.Nat.{ℕ, zero, suc, _+_, _-_, _≤_, _<_}
 use native.Mathlib.Omega.{arith}
 use lib.Dec.{leb, ltb}
 use lib.IntN.{ℤ, pos, negsuc, subℕ, _-ℤ_}
-use lib.Signed.{mag, leZ, ltZ}
+use lib.Signed.{mag, leZ}
 use mir.Syntax.{w32}
 use mir.Val.{toZ, sel}
-use borrow.Author.Tests.{leb-true, leb-false, ltb-true, ltb-false, le-leb, lt-leb, lt-ltb, le-ltb}
+use borrow.Author.Tests.{leb-true, leb-false, ltb-true, ltb-false, le-leb, lt-leb, le-ltb}
 use Rattle.journeys.specs.Bytes.{clock, clocked}
 use Rattle.journeys.proofs.Tests.{split}
 
@@ -22,12 +22,6 @@ clocked-le (pos a) (pos b) h k = same-leb a b (2147483648 + a) (2147483648 + b) 
 clocked-le (pos a) (negsuc b) h k = sym (lt-leb (2147483648 + a) (2147483647 - b) (omega arith))
 clocked-le (negsuc a) (pos b) h k = sym (le-leb (2147483647 - a) (2147483648 + b) (omega arith))
 clocked-le (negsuc a) (negsuc b) h k = same-leb b a (2147483647 - a) (2147483647 - b) (omega arith) (omega arith)
-
-pub clocked-lt : (a b : ℤ) → mag a < 2147483648 → mag b < 2147483648 → ltZ a b ≡ ltb (clocked a) (clocked b)
-clocked-lt (pos a) (pos b) h k = same-leb (suc a) b (suc (2147483648 + a)) (2147483648 + b) (omega arith) (omega arith)
-clocked-lt (pos a) (negsuc b) h k = sym (le-ltb (2147483648 + a) (2147483647 - b) (omega arith))
-clocked-lt (negsuc a) (pos b) h k = sym (lt-ltb (2147483647 - a) (2147483648 + b) (omega arith))
-clocked-lt (negsuc a) (negsuc b) h k = same-leb (suc b) a (suc (2147483647 - a)) (2147483647 - b) (omega arith) (omega arith)
 
 -- the bits of a signed second
 pub clocked-bits : (bits : ℕ) → bits < 4294967296 → clocked (toZ w32 bits) ≡ clock bits

@@ -9,7 +9,6 @@ use words::half_at;
 use words::not_after;
 use words::put_word;
 use words::seconds_of;
-use words::sooner;
 use words::word_at;
 ghost use mathlib.Core.Path.{_≡_};
 ghost use mathlib.Core.Bool.{true};

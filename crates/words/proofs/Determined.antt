@@ -13,7 +13,6 @@ use Rattle.words.proofs.zero.Reads as zero
 use Rattle.words.proofs.half_at.Reads as half-at
 use Rattle.words.proofs.seconds_of.Reads as seconds-of
 use Rattle.words.proofs.not_after.Reads as not-after
-use Rattle.words.proofs.sooner.Reads as sooner
 use Rattle.words.proofs.since.Reads as since
 use Rattle.words.proofs.ticks_of.Reads as ticks-of
 use Rattle.words.proofs.ticks_before.Reads as ticks-before
@@ -44,9 +43,6 @@ one-seconds-of κs a z z′ e e′ p q = p ∙ sym q
 
 pub one-not-after : (κs : _) (a : _) (z z′ : _) (e e′ : _) → not-after.Post κs a z e → not-after.Post κs a z′ e′ → z ≡ z′
 one-not-after κs a z z′ e e′ p q = p ∙ sym q
-
-pub one-sooner : (κs : _) (a : _) (z z′ : _) (e e′ : _) → sooner.Post κs a z e → sooner.Post κs a z′ e′ → z ≡ z′
-one-sooner κs a z z′ e e′ p q = p ∙ sym q
 
 pub one-since : (κs : _) (a : _) (z z′ : _) (e e′ : _) → since.Post κs a z e → since.Post κs a z′ e′ → z ≡ z′
 one-since κs a z z′ e e′ p q = ap (λ (x : ℤ). record { 0 = x }) (p ∙ sym q)

@@ -6,7 +6,7 @@ use Prim.Native.Nat.{ℕ, zero, suc, _+_, _-_, _%_, _≤_, _<_}
 use native.Mathlib.Omega.{arith}
 use lib.Dec.{leb, ltb, le→leb}
 use lib.IntN.{ℤ, pos, negsuc, subℕ, _-ℤ_}
-use lib.Signed.{mag, leZ, ltZ, _≤ℤ_}
+use lib.Signed.{mag, leZ, _≤ℤ_}
 use mir.Syntax.{w32}
 use mir.Val.{SFits, toZ, ofZ}
 use mir.ValLaws.{toZ-ofZ, toZ-pos}
@@ -14,7 +14,7 @@ use borrow.Author.Tests.{lt-ltb, le-ltb, ltb-true, ltb-false}
 use Rattle.journeys.specs.Bytes.{clock, midnight, clocked}
 use Rattle.journeys.specs.Query.{Query, before}
 use Rattle.journeys.proofs.Tests.{split}
-use Rattle.journeys.proofs.Seconds.{clocked-le, clocked-lt, clocked-less}
+use Rattle.journeys.proofs.Seconds.{clocked-le, clocked-less}
 use Rattle.words.specs.Quantities.{DayTime, ticksBefore}
 
 -- `clock` and signed seconds are each other's reading
@@ -47,16 +47,13 @@ less n h = rw (toZ-pos w32 n h) (minus-one-less n)
 pub less-fits : (n : ℕ) → n < 2147483648 → SFits w32 (negsuc 0 -ℤ toZ w32 n)
 less-fits n h = rw (less n h) (record { sfits = h })
 
--- a number of the machine, and the comparisons of two
+-- a number of the machine, and the comparison of two
 abbrev pub held : ℤ → ℤ
 held z = toZ w32 (ofZ w32 z)
 
 module _ (a b : ℤ) (fa : mag a < 2147483648) (fb : mag b < 2147483648) where
   pub le-clocked : leZ (held a) (held b) ≡ leb (clocked a) (clocked b)
   le-clocked = rw (toZ-ofZ w32 a (record { sfits = fa }), toZ-ofZ w32 b (record { sfits = fb })) (clocked-le a b fa fb)
-
-  pub lt-clocked : ltZ (held a) (held b) ≡ ltb (clocked a) (clocked b)
-  lt-clocked = rw (toZ-ofZ w32 a (record { sfits = fa }), toZ-ofZ w32 b (record { sfits = fb })) (clocked-lt a b fa fb)
 
 -- a difference
 mag-sub-by : (a b : ℕ) (t : Bool) → ltb a b ≡ t → mag (cond t (negsuc (b - suc a)) (pos (a - b))) ≤ a + b

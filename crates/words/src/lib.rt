@@ -3,7 +3,7 @@
 // Rests on: the definitions of `journeys` alone.
 ghost use mathlib.Core.Path.{_≡_};
 ghost use Prim.Native.Nat.{_+_, _*_, _≤_, min};
-ghost use lib.Dec.{leb, ltb};
+ghost use lib.Dec.{leb};
 ghost use lib.IntN.{pos, natAbs, _-ℤ_};
 ghost use lib.ListN.{length, replicate};
 ghost use lib.Signed.{_≤ℤ_};
@@ -128,12 +128,6 @@ pub fn not_after(a: Seconds, b: Seconds) -> bool
     ensures { λ r. ⌜ r ≡ leb (clocked (a .0)) (clocked (b .0)) ⌝ }
 {
     a.0 <= b.0
-}
-
-pub fn sooner(a: Seconds, b: Seconds) -> bool
-    ensures { λ r. ⌜ r ≡ ltb (clocked (a .0)) (clocked (b .0)) ⌝ }
-{
-    a.0 < b.0
 }
 
 // The seconds from one time to another, below zero where the other is sooner.
