@@ -1,9 +1,11 @@
 //! The marked cases M1 to M10 and the base job: what RULES 15 and 16 say of each,
 //! as one table. `fast`, `slow` and the library are held against it. The cases
 //! are pairs: a run, and the parts of its own list. Behind them stand lists of
-//! all kinds, for the parts operation alone, and then hops with trips and moves.
+//! all kinds, for the parts operation alone, then hops with trips and moves, and
+//! rides of no minutes.
 
 mod lists;
+mod moments;
 mod trips;
 
 use crate::network::{Network, Scene};
@@ -50,9 +52,10 @@ const fn marked(name: &'static str, make: fn() -> Case, wanted: &'static [Wanted
     Marked { name, make, wanted }
 }
 
-/// Every row: the marked cases, then the lists, then trips and moves.
+/// Every row: the marked cases, the lists, trips and moves, rides of no minutes.
 pub fn all() -> impl Iterator<Item = &'static Marked> {
-    MARKED.iter().chain(lists::ALL).chain(trips::ALL)
+    let rows = MARKED.iter().chain(lists::ALL).chain(trips::ALL);
+    rows.chain(moments::ALL)
 }
 
 const MARKED: &[Marked] = &[
@@ -127,12 +130,7 @@ const MARKED: &[Marked] = &[
         &[Wanted::Held(&[(3, 899, 0, 2)])],
     ),
     marked("M9, offset 901", || lent(one_way(901), 0), &[Refusal(7, 1)]),
-    marked("M10", || lent(ride(35_880, 35_880), NONE), &[Refusal(3, 0)]),
-    marked(
-        "M10, check",
-        || ride(35_880, 35_880).network.check_case(),
-        &[Refusal(3, 0)],
-    ),
+    marked("M10", || lent(ride(35_880, 35_880), NONE), moments::M10),
     marked("base job, run alone", || alone(base(), NONE), BASE_RUN),
     marked(
         "base job, parts alone",
@@ -158,11 +156,6 @@ const MARKED: &[Marked] = &[
         "M9, parts alone, offset 901",
         || listed(one_way(901), &[], 8),
         &[PartsRefusal(7, 1)],
-    ),
-    marked(
-        "M10, parts alone",
-        || listed(ride(35_880, 35_880), BASE_SETTLED, 8),
-        &[PartsRefusal(3, 0)],
     ),
 ];
 

@@ -80,6 +80,12 @@ pub const ALL: &[Big] = &[
     big("200,000 held slots", wide_room, 0, 0),
     big("a line of 65,536 vertices", || line(65_536), 0, 0),
     big("262,144 walks into one vertex", funnel, 0, 0),
+    big(
+        "65,536 vertices at one moment",
+        || moment().pair_case(NONE),
+        0,
+        0,
+    ),
     big("65,536 entries", || lists::listed(|list| list), 0, 0),
     big(
         "65,536 entries, backwards",
@@ -225,6 +231,29 @@ fn broken(fault: fn(&mut Network)) -> Case {
     scene.run_case(NONE)
 }
 
+/// Every vertex has distance 0 by rides at T: the lower half to 32,767, which
+/// rides to 65,535 as the upper half does. The place is 65,535.
+pub fn moment() -> Scene {
+    let mut plan = Plan {
+        vertices: 65_536,
+        ..Plan::default()
+    };
+    plan.one_way(0, 65_535, 10);
+    for v in 0..65_535 {
+        let to = if v < 32_767 { 32_767 } else { 65_535 };
+        plan.hop(v, to, 36_000, 36_000);
+    }
+    let query = Query {
+        record: 0,
+        offset: 10,
+        arrival: 36_000,
+        duration: 60,
+        speed: 10,
+    };
+    let network = plan.build();
+    Scene { network, query }
+}
+
 fn last_walk(network: &mut Network) {
     // Its twin goes its own way, or that lower record would be at fault.
     let twin = network.walks[262_143].twin;
@@ -236,7 +265,7 @@ fn last_walk(network: &mut Network) {
 }
 
 fn last_hop(network: &mut Network) {
-    network.hops[262_143].departure = network.hops[262_143].arrival;
+    network.hops[262_143].departure = network.hops[262_143].arrival + 1;
     network.vertices[0].zero = 1;
 }
 

@@ -29,11 +29,11 @@ pub fn one_more() -> Case {
     tripped(scene.run_case(u32::MAX))
 }
 
-/// The last hop arrives when it departs.
+/// The last hop arrives before it departs.
 pub fn last_hop() -> Case {
     let mut scene = full();
     let last = &mut scene.network.hops[262_143];
-    last.departure = last.arrival;
+    last.departure = last.arrival + 1;
     tripped(scene.network.check_case())
 }
 

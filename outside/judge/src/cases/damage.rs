@@ -23,8 +23,8 @@ pub enum Harm {
     HopFrom,
     HopTo,
     HopEnds,
-    HopStill,
     HopBack,
+    HopSwapped,
     HopEarly,
     HopLate,
     HopOrder,
@@ -53,8 +53,8 @@ const HARMS: [&[Harm]; 5] = [
         Harm::HopFrom,
         Harm::HopTo,
         Harm::HopEnds,
-        Harm::HopStill,
         Harm::HopBack,
+        Harm::HopSwapped,
         Harm::HopEarly,
         Harm::HopLate,
     ],
@@ -80,8 +80,8 @@ impl Harm {
             Harm::HopFrom
             | Harm::HopTo
             | Harm::HopEnds
-            | Harm::HopStill
             | Harm::HopBack
+            | Harm::HopSwapped
             | Harm::HopEarly
             | Harm::HopLate
             | Harm::HopOrder => network.hops.len(),
@@ -162,8 +162,8 @@ impl Harm {
             Harm::HopFrom => hop.from = vertices,
             Harm::HopTo => hop.to = vertices,
             Harm::HopEnds => hop.from = hop.to,
-            Harm::HopStill => hop.departure = hop.arrival,
-            Harm::HopBack => std::mem::swap(&mut hop.departure, &mut hop.arrival),
+            Harm::HopBack => hop.departure = hop.arrival + 1,
+            Harm::HopSwapped => std::mem::swap(&mut hop.departure, &mut hop.arrival),
             Harm::HopEarly => hop.departure = -86_401,
             _ => hop.arrival = 172_801,
         }

@@ -4,7 +4,7 @@ use std::collections::BTreeSet;
 
 use crate::mutant::Sound;
 use crate::network::{Plan, Scene};
-use crate::records::{Answer, Query, Settled};
+use crate::records::{Answer, Hop, Query, Settled};
 use crate::rng::Rng;
 
 const FIRST_TIME: i64 = -86_400;
@@ -33,6 +33,9 @@ pub fn scene(rng: &mut Rng) -> Scene {
     place(&mut scene, rng);
     if rng.chance(50) {
         hop_in_time(&mut scene, rng);
+    }
+    if rng.chance(40) {
+        rides_at_once(&mut scene, rng);
     }
     if rng.chance(35) {
         window_at_distance(&mut scene, rng);
@@ -201,8 +204,8 @@ fn add_hops(plan: &mut Plan, arrival: i32, rng: &mut Rng) {
     for _ in 0..hops {
         let (from, to) = ends(plan.vertices, rng);
         let around = match rng.below(12) {
-            0 => rng.range(FIRST_TIME + 1, LAST_TIME),
-            1 => rng.pick(&[FIRST_TIME + 1, LAST_TIME]),
+            0 => rng.range(FIRST_TIME, LAST_TIME),
+            1 => rng.pick(&[FIRST_TIME, LAST_TIME]),
             _ => i64::from(arrival) + rng.range(-22, 2),
         };
         let (departure, arrival) = times(around, rng);
@@ -210,11 +213,12 @@ fn add_hops(plan: &mut Plan, arrival: i32, rng: &mut Rng) {
     }
 }
 
-/// A departure before this arrival, both brought inside the limits.
+/// A departure not after this arrival, both brought inside the limits.
 fn times(arrival: i64, rng: &mut Rng) -> (i32, i32) {
-    let arrival = arrival.clamp(FIRST_TIME + 1, LAST_TIME);
+    let arrival = arrival.clamp(FIRST_TIME, LAST_TIME);
     let ride = match rng.below(20) {
         0 => 200_000,
+        1 => 0,
         _ => rng.range(1, 7),
     };
     ((arrival - ride).max(FIRST_TIME) as i32, arrival as i32)
@@ -254,6 +258,48 @@ fn window_at_distance(scene: &mut Scene, rng: &mut Rng) {
     let distance = i64::from(rng.pick(&list).distance);
     let seconds = distance / i64::from(scene.query.speed) + rng.pick(&[0, 0, 0, 1, -1]);
     scene.query.duration = seconds.clamp(1, 86_400) as u32;
+}
+
+/// Adds rides of no minutes, many at one moment: the last one at which a
+/// vertex still reaches the place, mostly. Most lead on to that vertex, in
+/// chains; the others, and rides back, make circles, also of vertices that
+/// reach the place in no other way.
+fn rides_at_once(scene: &mut Scene, rng: &mut Rng) {
+    let list = distances(scene);
+    let vertices = scene.network.vertices.len();
+    if list.is_empty() || vertices < 2 {
+        return;
+    }
+    for _ in 0..rng.range(1, 2) {
+        let far = rng.pick(&list);
+        let walked = far.distance.div_ceil(scene.query.speed);
+        let moment = scene.query.arrival - walked as i32 - i32::from(rng.chance(10));
+        let second = moment.max(FIRST_TIME as i32);
+        let mut leading = vec![far.vertex];
+        for _ in 0..rng.range(1, vertices as i64 + 2) {
+            let (from, mut to) = ends(vertices, rng);
+            let on = rng.pick(&leading) as usize;
+            if rng.chance(70) && on != from {
+                leading.push(from as u32);
+                to = on;
+            }
+            ride_at(scene, from, to, second);
+            if rng.chance(20) {
+                ride_at(scene, to, from, second);
+            }
+        }
+    }
+    scene.network.hops.sort_by_key(|hop| hop.to);
+    scene.network.count(vertices);
+}
+
+fn ride_at(scene: &mut Scene, from: usize, to: usize, second: i32) {
+    scene.network.hops.push(Hop {
+        from: from as u32,
+        to: to as u32,
+        departure: second,
+        arrival: second,
+    });
 }
 
 /// Makes a hop arrive at the last moment, or one second beside it.

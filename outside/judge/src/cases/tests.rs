@@ -8,8 +8,8 @@ use crate::mutant::{Mutant, Sound};
 use crate::outcome::{Call, Case, Outcome};
 use crate::pair;
 use crate::records::{
-    trip, Answer, Held, Hop, Part, PartsAnswer, Settled, Walk, Way, HOP, NONE, SETTLED, TRIP_HOP,
-    VERTEX,
+    trip, Answer, Held, Hop, Part, PartsAnswer, Settled, Walk, Way, HELD, HOP, NONE, SETTLED,
+    TRIP_HOP, VERTEX, WALK,
 };
 use crate::slow;
 
@@ -120,7 +120,66 @@ fn features(case: &Case, outcome: &Outcome) -> Vec<&'static str> {
         (case.query.arrival as u32) < case.query.duration,
         "before midnight",
     );
+    list.extend(moment_features(case, &settled, six.finished));
     list
+}
+
+/// What a pair tries of rides of no minutes.
+fn moment_features(case: &Case, settled: &[Settled], finished: u32) -> Vec<&'static str> {
+    let size = case.hop_size as usize;
+    let hops = (0..case.hops.len() / size).map(|i| Hop::read(&case.hops, size, i));
+    let still: Vec<Hop> = hops.filter(|h| h.departure == h.arrival).collect();
+    let ticks = |hop: &Hop| (case.query.arrival - hop.arrival) as u32 * case.query.speed;
+    let own = |v: u32| settled.iter().find(|s| s.vertex == v).map(|s| s.distance);
+    let ridden =
+        |hop: &&Hop| hop.arrival <= case.query.arrival && own(hop.from) == Some(ticks(hop));
+    let back = |hop: &&Hop| {
+        let there = (hop.to, hop.from, hop.arrival);
+        still.iter().any(|h| (h.from, h.to, h.arrival) == there)
+    };
+    let walks = (0..case.walks.len() / WALK).map(|i| Walk::read(&case.walks, i));
+    let walks: Vec<Walk> = walks.collect();
+    let walked = |hop: &&Hop| {
+        let same = |w: &Walk| own(w.to).map(|d| d + w.length) == Some(ticks(hop));
+        walks.iter().any(|w| w.from == hop.from && same(w))
+    };
+    let falls = |w: &[Settled]| w[0].distance == w[1].distance && w[0].vertex > w[1].vertex;
+    // The next step settles a smaller number at the same distance.
+    let cut = || {
+        let vertices = case.vertices.len() / VERTEX;
+        let next = Case {
+            call: Call::Run,
+            limit: settled.len() as u32 + 1,
+            held: vec![0; vertices * HELD],
+            settled: vec![0; vertices * SETTLED],
+            ..case.clone()
+        };
+        let next = Settled::read(&next.fast(Sound).settled, settled.len());
+        settled.last().is_some_and(|&last| falls(&[last, next]))
+    };
+    let lost =
+        |hop: &&Hop| hop.arrival <= case.query.arrival && back(hop) && own(hop.from).is_none();
+    let mut names = vec![];
+    let mut add = |holds: bool, name| {
+        if holds {
+            names.push(name)
+        }
+    };
+    add(settled.windows(2).any(falls), "a smaller number turns up");
+    add(
+        still.iter().any(|h| ridden(&h) && back(&h)),
+        "a circle at one second",
+    );
+    add(
+        still.iter().any(|h| lost(&h)),
+        "a circle that leads nowhere",
+    );
+    add(
+        still.iter().any(|h| ridden(&h) && walked(&h)),
+        "a tie of walk and ride",
+    );
+    add(finished == 0 && cut(), "a limit inside such a tie");
+    names
 }
 
 /// Is there a hop to a settled vertex that arrives exactly when it must (0),
@@ -158,7 +217,7 @@ fn every_feature_arises() {
             tally(&mut seen, features(&case, &outcome));
         }
     }
-    assert_eq!(seen.len(), 12);
+    assert_eq!(seen.len(), 17, "{seen:#?}");
     assert!(seen.values().all(|&count| count >= 50), "{seen:#?}");
 }
 
@@ -334,9 +393,7 @@ fn other_bytes_are_noticed() {
             let outcome = case.fast(mutant);
             pair::gives_old_bytes(&case, &outcome, case.small()) == Some(false)
         });
-        // A run's own list ascends by distance, so that taking it by distance
-        // changes nothing.
-        assert_eq!(told, mutant != Mutant::ListByDistance, "{mutant:?}");
+        assert!(told, "{mutant:?}");
     }
 }
 
@@ -431,6 +488,19 @@ fn big_cases_give_what_they_are_built_for() {
         let outcome = case.fast(Sound);
         assert!(big.fits(case.refusal(&outcome)), "{}", big.name);
     }
+}
+
+/// Once 32,767 is settled all smaller numbers turn up, before the larger ones
+/// that were there.
+#[test]
+fn smaller_numbers_turn_up_at_one_moment() {
+    let outcome = big::moment().run_case(NONE).fast(Sound);
+    let order = (0..65_536).map(|i| Settled::read(&outcome.settled, i));
+    let wanted = [65_535, 32_767].into_iter().chain(0..32_767);
+    let wanted = wanted.chain(32_768..65_535);
+    assert!(order
+        .map(|s| (s.vertex, s.distance))
+        .eq(wanted.map(|v| (v, 0))));
 }
 
 #[test]

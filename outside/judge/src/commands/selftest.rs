@@ -83,11 +83,17 @@ fn finished(case: &Case, outcome: &Outcome) -> bool {
     whole && outcome.returned == 0 && Answer::read(&outcome.answer).finished == 1
 }
 
-/// Where distances or parts and the journeys themselves disagree. Points are
-/// looked at on short walks only, there are too many on long ones.
+/// Where distances, order or parts and their definitions disagree. Steps are
+/// looked at in small networks and points on short walks only, there are too
+/// many elsewhere.
 fn strayed(case: &Case) -> Option<String> {
     if let Some(vertex) = slow::mistimed(case.tables(), case.query) {
         return Some(format!("the journeys of vertex {vertex} disagree"));
+    }
+    if case.small() {
+        if let Some(step) = slow::misplaced(case.tables(), case.query) {
+            return Some(format!("step {step} settles another vertex"));
+        }
     }
     let length = |i| Walk::read(&case.walks, i).length;
     if (0..case.walks.len() / WALK).any(|i| length(i) > 200) {

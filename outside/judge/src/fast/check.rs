@@ -194,13 +194,13 @@ fn bad_hop<F: Fault>(tables: Tables, fault: F) -> Option<Refusal> {
     let first = FIRST_TIME + i32::from(fault.is(Mutant::HopFirstTight));
     let bad = (0..count).find(|&i| {
         let hop = hops::read(tables, i, fault);
-        let still = hop.departure == hop.arrival && !fault.is(Mutant::HopStill);
+        let still = hop.departure == hop.arrival && fault.is(Mutant::HopStill);
         hop.from >= vertices
             || hop.to >= vertices
             || hop.from == hop.to
             || hop.departure < first
             || hop.arrival > last
-            || hop.departure > hop.arrival
+            || (hop.departure > hop.arrival && !fault.is(Mutant::HopBack))
             || still
             || (fault.is(Mutant::HopUnsigned) && hop.departure < 0)
     })?;

@@ -125,7 +125,7 @@ pub fn entries<F: Fault>(tables: Tables, query: Query, list: &[u8], fault: F) ->
 }
 
 /// Only for mutants: what a run of this query settles.
-fn own_list(tables: Tables, query: Query) -> Vec<Settled> {
+pub fn own_list(tables: Tables, query: Query) -> Vec<Settled> {
     let vertices = tables.vertices.len() / VERTEX;
     let (mut held, mut settled) = (vec![0; vertices * HELD], vec![0; vertices * SETTLED]);
     let mut lent = Lent {

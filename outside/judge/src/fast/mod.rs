@@ -5,6 +5,7 @@ mod hops;
 mod job;
 mod list;
 mod moves;
+mod order;
 mod parts;
 mod run;
 mod search;

@@ -5,11 +5,15 @@ use std::collections::BinaryHeap;
 use std::ops::Range;
 
 use super::hops;
+use super::order;
 use super::parts::Parts;
 use crate::mutant::{Fault, Mutant};
 use crate::records::{
     Hop, Lent, Query, Settled, Tables, Vertex, Walk, NONE, SETTLED, VERTEX, WALK,
 };
+
+/// Only for a mutant: behind all others of its distance.
+const LATER: u32 = 1 << 31;
 
 /// What is known of a vertex; `is_held` tells whether it is held.
 #[derive(Clone, Copy)]
@@ -47,6 +51,10 @@ pub struct Search<'a, 'b, F> {
     pub held: usize,
     /// Entries dropped by the step under way; only a mutant looks at it.
     pub dropped: usize,
+    /// The vertex settled last; only a mutant looks at it.
+    last: Option<Settled>,
+    /// What the right version settles; only mutants with another order have it.
+    pub own: Vec<Settled>,
 }
 
 impl<'a, 'b, F: Fault> Search<'a, 'b, F> {
@@ -77,6 +85,8 @@ impl<'a, 'b, F: Fault> Search<'a, 'b, F> {
             settled: 0,
             held: 0,
             dropped: 0,
+            last: None,
+            own: order::own(tables, query, fault),
         }
     }
 
@@ -103,18 +113,31 @@ impl<'a, 'b, F: Fault> Search<'a, 'b, F> {
                 self.meet(vertex, Some(distance), false);
             }
         }
+        if self.fault.is(Mutant::CircleStarts) {
+            for (vertex, distance) in self.circles() {
+                self.meet(vertex, Some(distance), false);
+            }
+        }
         if let Some(parts) = &mut self.parts {
             parts.start();
         }
     }
 
-    /// The nearest unsettled vertex within the window. Old heap entries of a
+    /// The nearest unsettled vertex within the window, and of those at one
+    /// distance the smallest number that is known by now: a ride of no minutes
+    /// may bring a smaller one when its "to" is settled. Old heap entries of a
     /// vertex lie behind its best one, so a settled vertex is simply passed.
     pub fn nearest(&mut self) -> Option<u32> {
+        if let Some(next) = self.otherwise() {
+            return next;
+        }
         while let Some(&Reverse(key)) = self.heap.peek() {
             let mut vertex = key as u32;
             if self.fault.is(Mutant::TiesReversed) {
                 vertex = !vertex;
+            }
+            if self.fault.is(Mutant::TieByRounds) {
+                vertex &= !LATER;
             }
             if !self.entries[vertex as usize].settled {
                 return Some(vertex);
@@ -127,6 +150,7 @@ impl<'a, 'b, F: Fault> Search<'a, 'b, F> {
     /// One step: the vertex joins S, and every record into it is passed on.
     pub fn settle(&mut self, vertex: u32) {
         self.dropped = 0;
+        self.bring(vertex);
         let distance = self.entries[vertex as usize].known;
         self.entries[vertex as usize].settled = true;
         if !self.is_held(vertex) && !self.fault.is(Mutant::DropUnsettled) {
@@ -134,6 +158,7 @@ impl<'a, 'b, F: Fault> Search<'a, 'b, F> {
             self.dropped += 1;
         }
         let record = Settled { vertex, distance };
+        self.last = Some(record);
         let mut slots = self.lent.settled.chunks_exact_mut(SETTLED);
         if let Some(slot) = slots.nth(self.settled) {
             slot.copy_from_slice(&record.bytes());
@@ -176,6 +201,9 @@ impl<'a, 'b, F: Fault> Search<'a, 'b, F> {
 
     /// Seconds are compared in ticks: no distance is rounded.
     fn ride(&self, hop: Hop, distance: u32) -> Option<u32> {
+        if self.fault.is(Mutant::StillRide) && hop.departure == hop.arrival {
+            return None;
+        }
         let speed = i64::from(self.query.speed);
         let arrival = i64::from(self.query.arrival);
         let mut far = i64::from(distance);
@@ -198,7 +226,7 @@ impl<'a, 'b, F: Fault> Search<'a, 'b, F> {
     }
 
     /// A seed, or a record into S (`record`), reaches a vertex with an offer.
-    fn meet(&mut self, vertex: u32, offer: Option<u32>, record: bool) {
+    pub fn meet(&mut self, vertex: u32, offer: Option<u32>, record: bool) {
         let within = offer.is_some_and(|d| d <= self.window);
         if self.fault.is(Mutant::MetWithin) && record && !within {
             return;
@@ -232,7 +260,15 @@ impl<'a, 'b, F: Fault> Search<'a, 'b, F> {
 
     fn push(&mut self, vertex: u32, distance: u32) {
         let reversed = self.fault.is(Mutant::TiesReversed);
-        let low = if reversed { !vertex } else { vertex };
+        let mut low = if reversed { !vertex } else { vertex };
+        if let Some(last) = self.last.filter(|last| last.distance == distance) {
+            if self.fault.is(Mutant::TiePassed) && vertex < last.vertex {
+                return;
+            }
+            if self.fault.is(Mutant::TieByRounds) {
+                low |= LATER;
+            }
+        }
         let key = u64::from(distance) << 32 | u64::from(low);
         self.heap.push(Reverse(key));
     }

@@ -80,7 +80,7 @@ fn records(tables: Tables) -> Option<Given> {
         least(3, hops.len(), |i| {
             let hop = hops[i];
             let time = |t: i32| (-86_400..=172_800).contains(&t);
-            let times = time(hop.departure) && time(hop.arrival) && hop.departure < hop.arrival;
+            let times = time(hop.departure) && time(hop.arrival) && hop.departure <= hop.arrival;
             !known(hop.from) || !known(hop.to) || hop.from == hop.to || !times
         })
     })

@@ -13,9 +13,15 @@ pub fn mistimed(tables: Tables, query: Query) -> Option<usize> {
     let model = Model::new(tables, query);
     let mut able: Vec<Vec<bool>> = Vec::new();
     for before in 0..=SPAN {
-        let row = (0..model.vertices).map(|v| in_time(&model, &able, v, before));
-        let row = row.collect();
-        able.push(row);
+        // A ride of no minutes leads to a vertex at the same moment: nobody can
+        // at first, and each look adds those who can by the ones before.
+        let mut row = vec![false; model.vertices];
+        while able.get(before as usize) != Some(&row) {
+            able.truncate(before as usize);
+            able.push(row);
+            let look = (0..model.vertices).map(|v| in_time(&model, &able, v, before));
+            row = look.collect();
+        }
     }
     (0..model.vertices).find(|&v| {
         let least = able.iter().position(|row| row[v]);
@@ -25,7 +31,7 @@ pub fn mistimed(tables: Tables, query: Query) -> Option<usize> {
 }
 
 /// Can one who stands at `vertex` so many ticks before T be at the place by T?
-/// `able` has the answer for all later moments.
+/// `able` has the answer for all later moments, and so far for this one.
 fn in_time(model: &Model, able: &[Vec<bool>], vertex: usize, before: i64) -> bool {
     let later = |at: u32, ticks: i64| ticks >= 0 && able[ticks as usize][at as usize];
     let straight = model

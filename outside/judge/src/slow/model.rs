@@ -1,6 +1,8 @@
 //! Distances, order, and the sets of a step, as the text defines them.
 //! Ticks are 64-bit here, so that no sum can pass its type.
 
+use std::collections::BTreeSet;
+
 use super::check;
 use crate::records::{Held, Hop, Part, Query, Tables, Walk, NONE};
 
@@ -104,11 +106,51 @@ impl Model {
         }
     }
 
+    /// Step by step: of the unsettled vertices within D whose own distance a
+    /// seed or a record into S offers, the one at the smallest distance, then
+    /// with the smallest number. What is offered once is offered for good, so
+    /// that a step adds only what the records into the vertex just settled
+    /// offer; `order.rs` judges each step from scratch.
     fn ordered(&self) -> Vec<usize> {
-        let within = |v: &usize| self.distance[*v].is_some_and(|d| d <= self.window());
-        let mut order: Vec<usize> = (0..self.vertices).filter(within).collect();
-        order.sort_by_key(|&v| (self.distance[v], v));
+        let into = self.into();
+        let mut eligible = BTreeSet::new();
+        let mut inside = vec![false; self.vertices];
+        let mut order = Vec::new();
+        let own = |vertex: usize, offer: Option<i64>| {
+            let d = self.distance[vertex].filter(|&d| offer == Some(d) && d <= self.window())?;
+            Some((d, vertex))
+        };
+        let seeds = self.seeds().into_iter();
+        eligible.extend(seeds.filter_map(|(v, seed)| own(v, Some(seed))));
+        while let Some((far, vertex)) = eligible.pop_first() {
+            order.push(vertex);
+            inside[vertex] = true;
+            let offers = into[vertex].iter().map(|&record| self.offered(record, far));
+            let own = offers.filter_map(|(from, offer)| own(from, offer));
+            eligible.extend(own.filter(|&(_, from)| !inside[from]));
+        }
         order
+    }
+
+    /// The records into each vertex: walks by their number, hops behind them.
+    fn into(&self) -> Vec<Vec<usize>> {
+        let mut into = vec![Vec::new(); self.vertices];
+        let walks = self.walks.iter().map(|w| w.to);
+        let to = walks.chain(self.hops.iter().map(|h| h.to));
+        to.enumerate()
+            .for_each(|(record, to)| into[to as usize].push(record));
+        into
+    }
+
+    /// The "from" of a record so numbered, and what it is offered.
+    fn offered(&self, record: usize, far: i64) -> (usize, Option<i64>) {
+        match self.walks.get(record) {
+            Some(walk) => (walk.from as usize, Some(self.walk_offer(walk, far))),
+            None => {
+                let hop = &self.hops[record - self.walks.len()];
+                (hop.from as usize, self.hop_offer(hop, far))
+            }
+        }
     }
 
     /// Whether each vertex is among the first k.
@@ -147,7 +189,7 @@ impl Model {
     }
 
     /// Every record with its ends and what it offers if it leads into S.
-    fn offers<'a>(
+    pub fn offers<'a>(
         &'a self,
         inside: &'a [bool],
     ) -> impl Iterator<Item = (usize, usize, Option<i64>)> + 'a {
