@@ -36,9 +36,9 @@
  *   refusal 2: a walk's end is no vertex, its ends are equal, its length is
  *              not 1 to 100,000, or its twin is not the same road the other
  *              way that names it back (place: the walk record)
- *   refusal 3: a hop's end is no vertex, its ends are equal, or its times are
- *              not -86,400 to 172,800, departure before arrival
- *              (place: the hop record)
+ *   refusal 3: a hop's end is no vertex, its ends are equal, its times are
+ *              not -86,400 to 172,800, or it arrives before it departs; one
+ *              that arrives as it departs is good (place: the hop record)
  *   refusal 4: a walk's "to" is below that of the walk before (the record)
  *   refusal 5: a hop's "to" is below that of the hop before (the record)
  *   refusal 6: a vertex's first walk, first hop, departing count or zero is
@@ -48,8 +48,11 @@
  *   uint32_t refusal = (uint32_t)(answer >> 32), place = (uint32_t)answer;
  *
  * siltbrow_run answers one query over the three tables, which it only reads.
- * It searches backward from the query place and settles vertices in ascending
- * order of distance, then number: one a step.
+ * It searches backward from the query place and settles one vertex a step: of
+ * those whose distance the query place or a record into a settled vertex gives
+ * them, the one at the smallest distance, then with the smallest number. So
+ * distances never fall; and where rides take no time, a smaller number can
+ * follow a larger one at the same distance.
  *
  *   record:   the walk on which the query place lies
  *   offset:   where on it, in decimetres from its "from": 0 to its length
@@ -217,6 +220,9 @@
 /* The second number moves where a call changes, the third where only the
  * inside does; the first becomes 1 when all calls are there.
  *
+ * 0.5: a hop that arrives as it departs is no longer refused. Vertices at one
+ *      distance can then be settled in another order than that of their
+ *      numbers; on tables without such hops nothing changes.
  * 0.4: siltbrow_check, siltbrow_run and siltbrow_parts take hop_size behind the
  *      hops: a caller whose hops have 16 bytes adds SILTBROW_HOP_SIZE there,
  *      and gets what it got. siltbrow_hops_forward and siltbrow_hops_backward
@@ -225,9 +231,9 @@
  *      refusal 10 is gone from it; siltbrow_parts makes the parts. A page that
  *      shows streets calls it with the records that the run has settled.
  * 0.2: siltbrow_frame is new. */
-#define SILTBROW_VERSION "0.4.0"
+#define SILTBROW_VERSION "0.5.0"
 #define SILTBROW_VERSION_MAJOR 0
-#define SILTBROW_VERSION_MINOR 4
+#define SILTBROW_VERSION_MINOR 5
 #define SILTBROW_VERSION_PATCH 0
 
 #ifdef __cplusplus

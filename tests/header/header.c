@@ -126,6 +126,8 @@ static void table_test(void)
     broken(walks + 12, SILTBROW_NONE, SILTBROW_BAD_WALK, 1, "a twin that does not name it back");
     broken(hops + 8, (uint32_t)(SILTBROW_MIN_TIME - 1), SILTBROW_BAD_HOP, 0, "a hop that is too early");
     broken(hops + 12, (uint32_t)(SILTBROW_MAX_TIME + 1), SILTBROW_BAD_HOP, 0, "a hop that is too late");
+    broken(hops + 24, 1, SILTBROW_ACCEPTED, 0, "a hop that arrives as it departs");
+    broken(hops + 24, 2, SILTBROW_BAD_HOP, 1, "a hop that arrives before it departs");
     put4(walks, 0, 1, 10, SILTBROW_NONE);
     put4(walks + 16, 1, 0, 10, SILTBROW_NONE);
     checked(v, w, h, SILTBROW_WALK_ORDER, 1, "walks out of order");
