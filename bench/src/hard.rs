@@ -134,7 +134,7 @@ fn faults(good: &Network) -> [(&'static str, Network, (u32, usize)); 7] {
             network.walks[twin].twin = NONE;
         }),
         row("the last hop", (3, hop), &|network| {
-            network.hops[hop].arrival = network.hops[hop].departure;
+            network.hops[hop].arrival = network.hops[hop].departure - 1;
         }),
         row("the last vertex's zero", (6, last), &|network| {
             network.vertices[last].zero = 1;

@@ -236,7 +236,8 @@ static void records(void)
     damage("hop from no vertex", 'h', 0, 5, 3, 0);
     damage("hop to no vertex", 'h', 4, 5, 3, 0);
     damage("hop with equal ends", 'h', 0, 1, 3, 0);
-    damage("hop departs at its arrival", 'h', 8, 35880, 3, 0);
+    damage("hop departs at its arrival", 'h', 8, 35880, 0, 0);
+    damage("hop departs a second after its arrival", 'h', 8, 35881, 3, 0);
     damage("hop departs too early", 'h', 8, (uint32_t)-86401, 3, 0);
     damage("hop departs as early as can be", 'h', 8, (uint32_t)-86400, 0, 0);
     damage("hop departs before midnight", 'h', 8, (uint32_t)-1, 0, 0);
@@ -248,6 +249,12 @@ static void records(void)
     t = base();
     record(t.h, 0, 3, 1, (uint32_t)-5, (uint32_t)-4);
     expect("a ride before midnight", t, 0, 0);
+    record(t.h, 0, 3, 1, (uint32_t)-5, (uint32_t)-5);
+    expect("a ride of no time before midnight", t, 0, 0);
+    record(t.h, 0, 3, 1, (uint32_t)-86400, (uint32_t)-86400);
+    expect("a ride of no time as early as can be", t, 0, 0);
+    record(t.h, 0, 3, 1, 172800, 172800);
+    expect("a ride of no time as late as can be", t, 0, 0);
     record(t.h, 0, 3, 1, (uint32_t)-4, (uint32_t)-5);
     expect("a ride back in time before midnight", t, 3, 0);
     release(t);
@@ -358,7 +365,7 @@ static void largest(void)
     put(t.v + 12 * 1903, 1);
     expect("first walk of vertex 1903", t, 6, 1903);
     memcpy(t.v, kept, t.v_len);
-    put(t.h + 16 * 262143 + 8, 2);
+    put(t.h + 16 * 262143 + 8, 3);
     expect("the last hop", t, 3, 262143);
     put(t.w + 16 * 262143 + 8, 0);
     expect("the last walk before the last hop", t, 2, 262143);
@@ -373,7 +380,7 @@ static void numbers(void)
     record(t.w, 0, 0, 2, 5, NONE);
     record(t.w, 1, 0, 1, 5, NONE);
     record(t.w, 2, 0, 3, 0, NONE);
-    record(t.h, 0, 0, 2, 5, 5);
+    record(t.h, 0, 0, 2, 6, 5);
     record(t.h, 1, 0, 1, 5, 6);
     record(t.h, 2, 0, 3, 5, 6);
     settle(t);
@@ -433,7 +440,7 @@ static uint64_t by_hand(tables t)
             return 2ull << 32 | i;
     for (i = 0; i < hops; i++) {
         int32_t departure = (int32_t)get(t.h + 16 * i + 8), arrival = (int32_t)get(t.h + 16 * i + 12);
-        if (bad_ends(t, t.h + 16 * i) || departure < -86400 || arrival > 172800 || departure >= arrival)
+        if (bad_ends(t, t.h + 16 * i) || departure < -86400 || arrival > 172800 || departure > arrival)
             return 3ull << 32 | i;
     }
     for (i = 1; i < walks; i++)
@@ -479,7 +486,7 @@ static void random_tables(void)
         }
         for (i = 0; i < hops; i++) {
             uint32_t to = i * n / hops;
-            record(t.h, i, (to + 1 + next(n - 1)) % n, to, next(3) - 1, 2 + next(3));
+            record(t.h, i, (to + 1 + next(n - 1)) % n, to, next(4) - 1, 2 + next(3));
         }
         settle(t);
         for (k = next(3); k > 0; k--) {

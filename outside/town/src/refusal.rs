@@ -94,7 +94,7 @@ fn ride(town: &Town, tables: &Tables, record: usize) -> Option<String> {
     let ride = &town.rides[*tables.ride.get(record)?];
     let reason = match ride.from == ride.to {
         true => "it ends at the corner where it begins",
-        false => "it has to depart before it arrives, and both between -24:00:00 and 48:00:00",
+        false => "it may not arrive before it departs, and both lie between -24:00:00 and 48:00:00",
     };
     let name = town.ride_name(ride);
     Some(town.told(&ride.source, &format!("ride {name}: {reason}")))
