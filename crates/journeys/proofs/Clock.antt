@@ -11,7 +11,7 @@ use lib.Signed.{leZ, _≤ℤ_}
 use borrow.Author.Tests.{leb-true, le-leb, lt-leb, lt-ltb, le-ltb}
 use Rattle.journeys.specs.Bytes.{midnight}
 use Rattle.journeys.specs.Tables.{Tables, walk, hop}
-use Rattle.journeys.specs.Query.{Query, before, asked, ticks}
+use Rattle.journeys.specs.Query.{Query, before, asked, ticks, walkTicks, fromTicks, toTicks}
 use Rattle.journeys.specs.Journeys.{Journey}
 use Rattle.journeys.specs.Clock.{tick, arrivalTick, ClockJourney, from-end, to-end, at-to, by-walk, by-hop}
 use Rattle.journeys.proofs.Tests.{le-or-lt}
@@ -128,11 +128,11 @@ module _ (N : Tables) (Q : Query) (ok : Valid N Q) where
 
   -- A journey that starts d ticks before T is one that starts at that tick by the clock.
   pub to-clock : {v d : ℕ} → Journey N Q v d → ClockJourney N Q v (startTick d)
-  to-clock Journey.from-end = move (less-is (Q .offset)) from-end
-  to-clock (Journey.to-end h) = move (less-is (asked N Q .len - Q .offset)) (to-end h)
+  to-clock Journey.from-end = move (less-is (fromTicks N Q)) from-end
+  to-clock (Journey.to-end h) = move (less-is (toTicks N Q)) (to-end h)
   to-clock (Journey.at-to e) = move (arrival-is ∙ sub-same T-ticks zero-ticks T-ticks (zero-ticks + 0) (omega arith)) (at-to e)
   to-clock (Journey.by-walk i l {d = d} j) =
-      move (sub-more T-ticks (zero-ticks + d) (walk N i .len) ∙ sub-same T-ticks ((zero-ticks + d) + walk N i .len) T-ticks (zero-ticks + (d + walk N i .len)) (omega arith)) (by-walk i l (to-clock j))
+      move (sub-more T-ticks (zero-ticks + d) (walkTicks Q (walk N i)) ∙ sub-same T-ticks ((zero-ticks + d) + walkTicks Q (walk N i)) T-ticks (zero-ticks + (d + walkTicks Q (walk N i))) (omega arith)) (by-walk i l (to-clock j))
   to-clock (Journey.by-hop i l a j) =
       move (tick-before (hop N i .departure) (omega (arith, good-hop N (ok .tables) i l .rides))) (by-hop i l (move (sym (tick-before (hop N i .arrival) a)) (to-clock j)))
   to-clock (Journey.wait {d = d} {d′ = d′} h j) =
@@ -169,15 +169,15 @@ module _ (N : Tables) (Q : Query) (ok : Valid N Q) where
 
   -- And every journey by the clock is such a journey.
   pub from-clock : {v : ℕ} {t : ℤ} → ClockJourney N Q v t → (d : ℕ) × (t ≡ startTick d) × Journey N Q v d
-  from-clock from-end = (Q .offset, less-is (Q .offset), Journey.from-end)
-  from-clock (to-end h) = (asked N Q .len - Q .offset, less-is (asked N Q .len - Q .offset), Journey.to-end h)
+  from-clock from-end = (fromTicks N Q, less-is (fromTicks N Q), Journey.from-end)
+  from-clock (to-end h) = (toTicks N Q, less-is (toTicks N Q), Journey.to-end h)
   from-clock (at-to e) = (0, arrival-is ∙ sub-same T-ticks zero-ticks T-ticks (zero-ticks + 0) (omega arith), Journey.at-to e)
   from-clock (by-walk i l j) =
       let r = from-clock j in (
-        r .0 + walk N i .len,
-        ap (λ (z : ℤ). z -ℤ pos (walk N i .len)) (r .1)
-            ∙ sub-more T-ticks (zero-ticks + r .0) (walk N i .len)
-            ∙ sub-same T-ticks ((zero-ticks + r .0) + walk N i .len) T-ticks (zero-ticks + (r .0 + walk N i .len)) (omega arith),
+        r .0 + walkTicks Q (walk N i),
+        ap (λ (z : ℤ). z -ℤ pos (walkTicks Q (walk N i))) (r .1)
+            ∙ sub-more T-ticks (zero-ticks + r .0) (walkTicks Q (walk N i))
+            ∙ sub-same T-ticks ((zero-ticks + r .0) + walkTicks Q (walk N i)) T-ticks (zero-ticks + (r .0 + walkTicks Q (walk N i))) (omega arith),
         Journey.by-walk i l (r .2),
       )
   from-clock (by-hop i l j) =

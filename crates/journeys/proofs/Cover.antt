@@ -34,10 +34,10 @@ module _ (G : Network) (W : Ways) where
     straight : x ≤ r .near → r .near - x + r .more ≤ b → FromPlace r x b
     onward : (d : ℕ) → Arrives G W (r .end) d → d + r .lag + (r .len - x) ≤ b → FromPlace r x b
 
-  -- the parts of the road from a to z when S is settled
+  -- The parts of the road from a to z when S is settled. What is left after a wait is 0 where it does not reach the wait: such a part would start where it ends.
   pub data Piece (D : ℕ) (S : List Settled) (r : Road) : ℕ → ℕ → Type 0 where
-    first : r .more ≤ D → r .near - (D - r .more) ≢ r .near → Piece D S r (r .near - (D - r .more)) (r .near)
-    later : (d : ℕ) → In (settled (r .end) d) S → d + r .lag ≤ D → max (r .len - (D - d - r .lag)) (r .near) ≢ r .len
+    first : r .near - (D - r .more) ≢ r .near → Piece D S r (r .near - (D - r .more)) (r .near)
+    later : (d : ℕ) → In (settled (r .end) d) S → max (r .len - (D - d - r .lag)) (r .near) ≢ r .len
         → Piece D S r (max (r .len - (D - d - r .lag)) (r .near)) (r .len)
 
   abbrev pub Covers : ℕ → List Settled → Road → ℕ → Type 0
@@ -48,13 +48,13 @@ module _ (G : Network) (W : Ways) where
   covers-from D S F r x c = go (c .2) (c .3) (c .4)
     where
       go : {a z : ℕ} → Piece D S r a z → a ≤ x → x ≤ z → FromPlace r x D
-      go (first m q) h k = straight k (omega arith)
-      go (later d s m q) h k = onward d (F (r .end) d s .0) (omega arith)
+      go (first q) h k = straight k (omega arith)
+      go (later d s q) h k = onward d (F (r .end) d s .0) (omega arith)
 
   -- And every place inside the road from which one is in time lies in a part.
   pub from-covers : Laws G W → (D : ℕ) → 0 < D → D < none → (S : List Settled) → Whole G W D S → (r : Road) → Sound r → (x : ℕ) → 0 < x → x < r .len
       → FromPlace r x D → Covers D S r x
-  from-covers L D D1 Di S all r s x x0 xl (straight h k) = (r .near - (D - r .more), r .near, first (omega arith) (go (decLt 0 (r .more))), omega arith, h)
+  from-covers L D D1 Di S all r s x x0 xl (straight h k) = (r .near - (D - r .more), r .near, first (go (decLt 0 (r .more))), omega arith, h)
     where
       go : Dec (0 < r .more) → r .near - (D - r .more) ≢ r .near
       go (yes q) = omega (arith, s .there q)
@@ -65,5 +65,5 @@ module _ (G : Network) (W : Ways) where
     where
       go : (d′ : ℕ) → Dist G W (r .end) d′ → d′ ≤ d → (r .near ≤ x) ⊎ (x < r .near) → Covers D S r x
       go d′ X le (inl q) =
-          (max (r .len - (D - d′ - r .lag)) (r .near), r .len, later d′ (all (r .end) d′ X (omega arith)) (omega arith) (omega arith), omega arith, omega arith)
-      go d′ X le (inr q) = (r .near - (D - r .more), r .near, first (omega (arith, s .waits)) (omega (arith, s .waits, s .on)), omega (arith, s .waits, s .on), omega arith)
+          (max (r .len - (D - d′ - r .lag)) (r .near), r .len, later d′ (all (r .end) d′ X (omega arith)) (omega arith), omega arith, omega arith)
+      go d′ X le (inr q) = (r .near - (D - r .more), r .near, first (omega (arith, s .waits, s .on)), omega (arith, s .waits, s .on), omega arith)

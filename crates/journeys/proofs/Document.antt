@@ -3,31 +3,33 @@ use mathlib.Core.Path.{_≡_, refl, sym, ap, subst, _∙_}
 use mathlib.Core.Logic.{_⊎_, inl, inr, ⊎-elim, _≢_}
 use mathlib.Core.Bool.{Bool, true, false, not, cond, _&&_, _||_}
 use mathlib.Core.List.{List}
-use Prim.Native.Nat.{ℕ, _+_, _-_, _≤_, _<_}
+use Prim.Native.Nat.{ℕ, _+_, _-_, _*_, _≤_, _<_}
+use native.Mathlib.Decide.{ℕ-discrete}
 use native.Mathlib.Nat.{mul-le-mul-right, mul-lt-mul-of-pos-right}
 use native.Mathlib.Omega.{arith}
 use lib.Dec.{eqb, leb, ltb}
+use lib.ListN.{List·getD-eq-default}
 use borrow.Author.Tests.{eqb-true, eqb-false, leb-true, ltb-true, eq-eqb, ne-eqb, le-leb, lt-ltb, not-true}
 use Rattle.journeys.specs.Counting.{none}
-use Rattle.journeys.specs.Tables.{Tables, walk, hop, vertexCount, walkCount, hopCount}
-use Rattle.journeys.specs.Query.{Query, before, asked, allowed}
+use Rattle.journeys.specs.Tables.{Tables, Walk, walk, hop, vertexCount, walkCount, hopCount}
+use Rattle.journeys.specs.Query.{Query, before, asked, askedTwin, waitTicks, pastTicks, walkTicks, fromTicks, toTicks, allowed}
 use Rattle.journeys.specs.Journeys.{Journey, from-end, to-end, at-to, by-walk, by-hop, Distance}
 use Rattle.journeys.specs.Order.{Settled, Order}
 use Rattle.journeys.specs.Records.{Record, walked, ridden, from, to, offer, recordCount, recordAt, seed, network}
 use Rattle.journeys.proofs.Tests.{split, and-both, and-true, or-cases, or-left, or-right, cond-true, cond-false, le-or-lt}
 use Rattle.journeys.proofs.Ways.{Ways, Arrives, ends, leads, Dist, Laws, Strict, Loopless, arrives-up}
 use Rattle.journeys.proofs.Firsts.{order-same}
-use Rattle.journeys.proofs.Valid.{good-walk, good-hop, allowed-high}
+use Rattle.journeys.proofs.Valid.{good-walk, good-hop, paired, allowed-high}
 use Rattle.journeys.specs.Valid.{Valid}
 
 -- ---- the meaning of the offers
 abbrev pub End : Tables → Query → ℕ → ℕ → Type 0
 End N Q v b =
-    ((asked N Q .from ≡ v) × (Q .offset ≤ b))
-    ⊎ ((asked N Q .to ≡ v) × ((asked N Q .twin ≢ none) ⊎ (Q .offset ≡ asked N Q .len)) × (asked N Q .len - Q .offset ≤ b))
+    ((asked N Q .from ≡ v) × (fromTicks N Q ≤ b))
+    ⊎ ((asked N Q .to ≡ v) × ((asked N Q .twin ≢ none) ⊎ (Q .offset ≡ asked N Q .len)) × (toTicks N Q ≤ b))
 
 abbrev pub Lead : Query → Record → ℕ → ℕ → Type 0
-Lead Q (walked w) d b = d + w .len ≤ b
+Lead Q (walked w) d b = d + walkTicks Q w ≤ b
 Lead Q (ridden h) d b = (h .arrival ≤ Q .arrival) × (d ≤ before Q (h .arrival)) × (before Q (h .departure) ≤ b)
 
 abbrev pub ways : Tables → Query → Ways
@@ -64,9 +66,9 @@ numbered N r l =
 module _ (N : Tables) (Q : Query) where
   seed-le : (v b : ℕ) → End N Q v b → seed N Q v ≤ b
   unfolding seed
-  seed-le v b (inl x) = omega (arith, cond-true (Q .offset) none (eq-eqb (asked N Q .from) v (x .0)))
+  seed-le v b (inl x) = omega (arith, cond-true (fromTicks N Q) none (eq-eqb (asked N Q .from) v (x .0)))
   seed-le v b (inr x) =
-      omega (arith, cond-true (asked N Q .len - Q .offset) none (and-true (eq-eqb (asked N Q .to) v (x .0)) (go (x .1))))
+      omega (arith, cond-true (toTicks N Q) none (and-true (eq-eqb (asked N Q .to) v (x .0)) (go (x .1))))
     where
       go : (asked N Q .twin ≢ none) ⊎ (Q .offset ≡ asked N Q .len) → (not (eqb (asked N Q .twin) none) || eqb (Q .offset) (asked N Q .len)) ≡ true
       go (inl n) = or-left (eqb (Q .offset) (asked N Q .len)) (ap not (ne-eqb (asked N Q .twin) none n))
@@ -78,16 +80,16 @@ module _ (N : Tables) (Q : Query) where
       go (split (eqb (asked N Q .from) v)) (split (eqb (asked N Q .to) v && (not (eqb (asked N Q .twin) none) || eqb (Q .offset) (asked N Q .len))))
     where
       first : ℕ
-      first = cond (eqb (asked N Q .from) v) (Q .offset) none
+      first = cond (eqb (asked N Q .from) v) (fromTicks N Q) none
 
       test-to : Bool
       test-to = eqb (asked N Q .to) v && (not (eqb (asked N Q .twin) none) || eqb (Q .offset) (asked N Q .len))
 
       second : ℕ
-      second = cond test-to (asked N Q .len - Q .offset) none
+      second = cond test-to (toTicks N Q) none
 
       at-from : eqb (asked N Q .from) v ≡ true → first ≤ b → End N Q v b
-      at-from t k = inl (eqb-true _ _ t, omega (arith, cond-true (Q .offset) none t))
+      at-from t k = inl (eqb-true _ _ t, omega (arith, cond-true (fromTicks N Q) none t))
 
       at-to-end : test-to ≡ true → second ≤ b → End N Q v b
       at-to-end t k =
@@ -95,7 +97,7 @@ module _ (N : Tables) (Q : Query) where
           inr (
             eqb-true _ _ (p .0),
             ⊎-elim (λ e. inl (eqb-false _ _ (not-true _ e))) (λ e. inr (eqb-true _ _ e)) (or-cases (not (eqb (asked N Q .twin) none)) _ (p .1)),
-            omega (arith, cond-true (asked N Q .len - Q .offset) none t),
+            omega (arith, cond-true (toTicks N Q) none t),
           )
 
       go : (eqb (asked N Q .from) v ≡ true) ⊎ (eqb (asked N Q .from) v ≡ false) → (test-to ≡ true) ⊎ (test-to ≡ false) → End N Q v b
@@ -103,9 +105,9 @@ module _ (N : Tables) (Q : Query) where
         where
           second-only : b < first → (test-to ≡ true) ⊎ (test-to ≡ false) → End N Q v b
           second-only k (inl u) = at-to-end u (omega arith)
-          second-only k (inr u) = absurd (omega (arith, cond-false (asked N Q .len - Q .offset) none u))
-      go (inr t) (inl u) = at-to-end u (omega (arith, cond-false (Q .offset) none t))
-      go (inr t) (inr u) = absurd (omega (arith, cond-false (Q .offset) none t, cond-false (asked N Q .len - Q .offset) none u))
+          second-only k (inr u) = absurd (omega (arith, cond-false (toTicks N Q) none u))
+      go (inr t) (inl u) = at-to-end u (omega (arith, cond-false (fromTicks N Q) none t))
+      go (inr t) (inr u) = absurd (omega (arith, cond-false (fromTicks N Q) none t, cond-false (toTicks N Q) none u))
 
 -- ---- offers
 before-mono : (Q : Query) (x y : ℕ) → x ≤ y → before Q y ≤ before Q x
@@ -190,13 +192,30 @@ module _ (N : Tables) (Q : Query) (ok : Valid N Q) where
   loopless r l e = record-apart r (numbered N r l) e
 
   -- ---- the journeys are those of the theory
+  -- where there is no twin there is no wait of one
+  pub no-twin : asked N Q .twin ≡ none → askedTwin N Q ≡ record { from = 0; to = 0; len = 0; wait = 0; twin = 0 }
+  no-twin e = List·getD-eq-default (N .walks) (record { from = 0; to = 0; len = 0; wait = 0; twin = 0 }) (omega (arith, e, ok .tables .walks-few))
+
+  -- "to" of e, where the place is: none of the twin's wait is spent, for the place is its "from"
+  pub to-zero : Q .offset ≡ asked N Q .len → toTicks N Q ≡ 0
+  to-zero e = go (ℕ-discrete (asked N Q .twin) none)
+    where
+      back : ℕ
+      back = asked N Q .len - Q .offset
+
+      go : Dec (asked N Q .twin ≡ none) → toTicks N Q ≡ 0
+      go (no n) =
+          let p = paired N (ok .tables) (Q .walk) (ok .query .walk-low) n in
+          omega (arith, cond-false (waitTicks Q (askedTwin N Q)) 0 (ne-eqb back (askedTwin N Q .len) (omega (arith, e, good-walk N (ok .tables) (asked N Q .twin) (p .0) .len-low))))
+      go (yes n) = omega (arith, ap (λ (w : Walk). pastTicks Q w back) (no-twin n), cond-true (0 * Q .speed) 0 (eq-eqb back 0 (omega (arith, e))))
+
   pub journey-arrives : {v d : ℕ} → Journey N Q v d → Arrives (network N Q) (ways N Q) v d
-  journey-arrives from-end = ends {b = Q .offset} (inl (refl, omega arith))
-  journey-arrives (to-end n) = ends {b = asked N Q .len - Q .offset} (inr (refl, inl n, omega arith))
-  journey-arrives (at-to e) = ends {b = 0} (inr (refl, inr e, omega arith))
+  journey-arrives from-end = ends {b = fromTicks N Q} (inl (refl, omega arith))
+  journey-arrives (to-end n) = ends {b = toTicks N Q} (inr (refl, inl n, omega arith))
+  journey-arrives (at-to e) = ends {b = 0} (inr (refl, inr e, omega (arith, to-zero e)))
   journey-arrives (by-walk i l {d = d} j) =
       let q = walk-record N i l in
-      leads {b = d + walk N i .len} i d (omega arith) (ap from q) (rw q (omega arith)) (rw q (journey-arrives j))
+      leads {b = d + walkTicks Q (walk N i)} i d (omega arith) (ap from q) (rw q (omega arith)) (rw q (journey-arrives j))
   journey-arrives (by-hop i l a j) =
       let q = hop-record N i in
       leads {b = before Q (hop N i .departure)} (walkCount N + i) (before Q (hop N i .arrival)) (omega arith) (ap from q) (rw q (a, omega arith, omega arith)) (rw q (journey-arrives j))
@@ -207,11 +226,11 @@ module _ (N : Tables) (Q : Query) (ok : Valid N Q) where
   ride v d b r (of-hop i l e) f o j = Journey.wait (o .2) (rw f at (by-hop i l (o .0) (Journey.wait (o .1) j)))
 
   end-journey : (v b : ℕ) → End N Q v b → Journey N Q v b
-  end-journey v b (inl x) = let j : Journey N Q (asked N Q .from) (Q .offset) = from-end in Journey.wait (x .1) (rw (x .0) at j)
+  end-journey v b (inl x) = let j : Journey N Q (asked N Q .from) (fromTicks N Q) = from-end in Journey.wait (x .1) (rw (x .0) at j)
   end-journey v b (inr x) = go (x .1)
     where
       go : (asked N Q .twin ≢ none) ⊎ (Q .offset ≡ asked N Q .len) → Journey N Q v b
-      go (inl n) = let j : Journey N Q (asked N Q .to) (asked N Q .len - Q .offset) = to-end n in Journey.wait (x .2) (rw (x .0) at j)
+      go (inl n) = let j : Journey N Q (asked N Q .to) (toTicks N Q) = to-end n in Journey.wait (x .2) (rw (x .0) at j)
       go (inr e) =
           let j : Journey N Q (asked N Q .to) 0 = at-to e in
           let z : 0 ≤ b = omega arith in

@@ -5,6 +5,7 @@ use mathlib.Core.Bool.{Bool, true, false, not, cond, _&&_, _||_}
 use mathlib.Core.List.{List, [], _∷_, _++_, flatMap}
 use Prim.Native.Nat.{ℕ, zero, suc, _+_, _-_, _*_, _≤_, _<_, min, max}
 use native.Mathlib.Nat.{mul-le-mul}
+use native.Mathlib.Decide.{ℕ-discrete}
 use native.Mathlib.Omega.{arith}
 use lib.Dec.{eqb, leb, ltb}
 use borrow.Author.Tests.{eqb-false, lt-ltb, le-ltb}
@@ -12,8 +13,8 @@ use lib.ListN.{length, take, drop, length-append, take-append-drop}
 use lib.Seq.{take-nil}
 use Rattle.journeys.specs.Counting.{none, count, joined, In, one}
 use Rattle.journeys.specs.Bytes.{midnight}
-use Rattle.journeys.specs.Tables.{Tables, walk, hop, walkCount}
-use Rattle.journeys.specs.Query.{Query, before, asked, allowed}
+use Rattle.journeys.specs.Tables.{Tables, Walk, walk, hop, walkCount}
+use Rattle.journeys.specs.Query.{Query, before, asked, askedTwin, waitTicks, pastTicks, fromTicks, toTicks, allowed}
 use Rattle.journeys.specs.Order.{Settled, settled, Follows}
 use Rattle.journeys.specs.Network.{Network, distanceIn, within, known, held, row, entry, heldList}
 use Rattle.journeys.specs.Records.{Record, offer, recordCount, recordAt, seed, network}
@@ -22,11 +23,11 @@ use Rattle.journeys.proofs.Tests.{Test, same, other, test, le-or-lt}
 use Rattle.journeys.proofs.Counting.{is-one, is-zero, count-most, count-join, in-append, in-left, in-right, flat-in, joined-in}
 use Rattle.journeys.proofs.Known.{By, known-by, known-seed, known-record}
 use Rattle.journeys.proofs.Firsts.{distance-in, follows-apart}
-use Rattle.journeys.proofs.Valid.{good-walk, good-hop, paired, allowed-high}
+use Rattle.journeys.proofs.Valid.{good-walk, good-hop, paired, allowed-high, wait-most}
 use Rattle.journeys.specs.Valid.{Valid}
-use Rattle.journeys.proofs.Document.{Numbered, of-walk, of-hop, numbered, ways}
+use Rattle.journeys.proofs.Document.{Numbered, of-walk, of-hop, numbered, ways, no-twin}
 use Rattle.journeys.proofs.Cover.{Piece, first, later}
-use Rattle.journeys.proofs.Coverage.{road, sound, listed-piece, first-walk, firsts-cases, at-walk}
+use Rattle.journeys.proofs.Coverage.{road, firstStart, laterStart, sound, listed-piece, first-walk, firsts-cases, at-walk}
 
 -- the largest figure: a start at -86,400 s for an arrival at 172,800 s, at 100 dm/s
 abbrev pub largest : ℕ
@@ -52,9 +53,30 @@ module _ (N : Tables) (Q : Query) (ok : Valid N Q) where
       ridden-fits false x q = inl refl
 
       go : {x : Record} → Numbered N r x → Fits (offer Q x d)
-      go (of-walk i) = inr (omega (arith, good-walk N (ok .tables) r i .len-high, allowed-high (ok .query)))
+      go (of-walk i) = inr (omega (arith, good-walk N (ok .tables) r i .len-high, wait-most (ok .query) (walk N r .wait) (good-walk N (ok .tables) r i .wait-high), allowed-high (ok .query)))
       go (of-hop j i e) =
           ridden-fits (leb (hop N j .arrival) (Q .arrival) && leb d (before Q (hop N j .arrival))) (before Q (hop N j .departure)) (before-fits (hop N j .departure) (good-hop N (ok .tables) j i .departure-low))
+
+  -- The ticks of both seeds.
+  long : asked N Q .len ≤ 100000
+  long = good-walk N (ok .tables) (Q .walk) (ok .query .walk-low) .len-high
+
+  past-fits : (w : Walk) (offset : ℕ) → w .wait ≤ 120 → pastTicks Q w offset ≤ 12000
+  past-fits w offset h = go (eqb offset (w .len))
+    where
+      go : (t : Bool) → cond t (waitTicks Q w) 0 ≤ 12000
+      go true = wait-most (ok .query) (w .wait) h
+      go false = omega arith
+
+  pub from-fits : fromTicks N Q ≤ 112000
+  from-fits = omega (arith, long, ok .query .offset-low, past-fits (asked N Q) (Q .offset) (good-walk N (ok .tables) (Q .walk) (ok .query .walk-low) .wait-high))
+
+  pub to-fits : toTicks N Q ≤ 112000
+  to-fits = omega (arith, long, past-fits (askedTwin N Q) (asked N Q .len - Q .offset) (go (ℕ-discrete (asked N Q .twin) none)))
+    where
+      go : Dec (asked N Q .twin ≡ none) → askedTwin N Q .wait ≤ 120
+      go (yes e) = rw (no-twin N Q ok e) (omega arith)
+      go (no n) = good-walk N (ok .tables) (asked N Q .twin) (paired N (ok .tables) (Q .walk) (ok .query .walk-low) n .0) .wait-high
 
   -- Every seed.
   pub seed-fits : (v : ℕ) → Fits (seed N Q v)
@@ -62,13 +84,10 @@ module _ (N : Tables) (Q : Query) (ok : Valid N Q) where
   seed-fits v =
       go (eqb (asked N Q .from) v) (eqb (asked N Q .to) v && (not (eqb (asked N Q .twin) none) || eqb (Q .offset) (asked N Q .len)))
     where
-      long : asked N Q .len ≤ 100000
-      long = good-walk N (ok .tables) (Q .walk) (ok .query .walk-low) .len-high
-
-      go : (a b : Bool) → Fits (min (cond a (Q .offset) none) (cond b (asked N Q .len - Q .offset) none))
-      go true true = inr (omega (arith, long))
-      go true false = inr (omega (arith, long, ok .query .offset-low))
-      go false true = inr (omega (arith, long))
+      go : (a b : Bool) → Fits (min (cond a (fromTicks N Q) none) (cond b (toTicks N Q) none))
+      go true true = inr (omega (arith, from-fits))
+      go true false = inr (omega (arith, from-fits))
+      go false true = inr (omega (arith, to-fits))
       go false false = inl (omega arith)
 
   -- Every known distance, where all that is settled is within D.
@@ -87,12 +106,12 @@ module _ (N : Tables) (Q : Query) (ok : Valid N Q) where
           (known-record (network N Q) far v (x .0) i)
 
   -- Every part: a record of the table, and offsets on it.
-  pub part-fits : (S : List Settled) → ((x : Settled) → In x S → x .distance ≤ allowed Q) → (p : Part) → In p (partList N Q S)
+  pub part-fits : (S : List Settled) (p : Part) → In p (partList N Q S)
       → (p .walk < walkCount N) × (p .start ≤ p .end) × (p .end ≤ walk N (p .walk) .len)
   unfolding partList partsAt
-  part-fits S low p j =
+  part-fits S p j =
       let l : p .walk < walkCount N = go (in-append (firstParts N Q) _ p j) in
-      let q = piece-fits (p .walk) l (listed-piece N Q S low p j) in
+      let q = piece-fits (p .walk) l (listed-piece N Q S p j) in
       (l, q .0, q .1)
     where
       of-first : (i : ℕ) → i < walkCount N → In p (firstPart N Q i) → p .walk < walkCount N
@@ -114,8 +133,8 @@ module _ (N : Tables) (Q : Query) (ok : Valid N Q) where
           rw (at-walk N Q (x .0) (y .0) p (y .2)) (y .1)
 
       piece-fits : (i : ℕ) → i < walkCount N → {a z : ℕ} → Piece (network N Q) (ways N Q) (allowed Q) S (road N Q i) a z → (a ≤ z) × (z ≤ walk N i .len)
-      piece-fits i l (first m q) = (omega arith, sound N Q ok i l .on)
-      piece-fits i l (later d k m q) = (omega (arith, sound N Q ok i l .on), omega arith)
+      piece-fits i l (first q) = (omega arith, sound N Q ok i l .on)
+      piece-fits i l (later d k q) = (omega (arith, sound N Q ok i l .on), omega arith)
 
 -- ---- counts
 at-most-one : {A : Type 0} (t : Bool) (x : A) → (length (cond t (x ∷ []) []) ≤ one t) × (length (cond t [] (x ∷ [])) ≤ 1)
@@ -158,8 +177,8 @@ module _ (N : Tables) (Q : Query) where
       joined-most (λ i. cond (eqb (walk N i .to) (x .vertex)) (partAt N Q (x .distance) i) []) (λ i. eqb (walk N i .to) (x .vertex)) (walkCount N)
       (λ i l. go (eqb (walk N i .to) (x .vertex)) i)
     where
-      go : (t : Bool) (i : ℕ) → length (cond t (part i (max (walk N i .len - (allowed Q - x .distance)) (near N Q i)) (walk N i .len)) []) ≤ one t
-      go true i = part-most i (max (walk N i .len - (allowed Q - x .distance)) (near N Q i)) (walk N i .len)
+      go : (t : Bool) (i : ℕ) → length (cond t (part i (laterStart N Q (x .distance) i) (walk N i .len)) []) ≤ one t
+      go true i = part-most i (laterStart N Q (x .distance) i) (walk N i .len)
       go false i = omega arith
 
   -- each walk arrives at one vertex
@@ -184,15 +203,15 @@ module _ (N : Tables) (Q : Query) where
         arith,
         length-append (firstParts N Q) (flatMap (partsAt N Q) S),
         length-append (firstPart N Q (Q .walk)) (cond (eqb (asked N Q .twin) none) [] (firstPart N Q (asked N Q .twin))),
-        part-most (Q .walk) (near N Q (Q .walk) - allowed Q) (near N Q (Q .walk)),
+        part-most (Q .walk) (firstStart N Q (Q .walk)) (near N Q (Q .walk)),
         twin (eqb (asked N Q .twin) none),
         parts-of-most S h,
         count-most (λ i. within (distanceIn S) (walk N i .to)) (walkCount N),
       )
     where
-      twin : (t : Bool) → length (cond t [] (part (asked N Q .twin) (near N Q (asked N Q .twin) - allowed Q) (near N Q (asked N Q .twin)))) ≤ 1
+      twin : (t : Bool) → length (cond t [] (part (asked N Q .twin) (firstStart N Q (asked N Q .twin)) (near N Q (asked N Q .twin)))) ≤ 1
       twin true = omega arith
-      twin false = part-most (asked N Q .twin) (near N Q (asked N Q .twin) - allowed Q) (near N Q (asked N Q .twin))
+      twin false = part-most (asked N Q .twin) (firstStart N Q (asked N Q .twin)) (near N Q (asked N Q .twin))
 
 -- The order, and each beginning of it, gives each vertex one distance.
 pub distinct : (G : Network) (distance : ℕ → ℕ → Type 0) (D : ℕ) → D < none → (S l : List Settled) → Follows G distance D S l → (k : ℕ) → Distinct (take k l)

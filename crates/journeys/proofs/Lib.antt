@@ -27,5 +27,6 @@ pub mod Marked
 pub mod Limits
 pub mod PartLimits
 pub mod Moments
+pub mod Waits
 pub mod Clock
 pub mod Judged

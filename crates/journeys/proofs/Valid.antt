@@ -12,7 +12,7 @@ use borrow.Author.Tests.{leb-true, ltb-true, eqb-true, eqb-false, not-true}
 use Rattle.journeys.specs.Counting.{none}
 use Rattle.journeys.specs.Bytes.{midnight}
 use Rattle.journeys.specs.Tables.{Tables, tablesOf, vertexCount, walkCount, hopCount, walk, hop}
-use Rattle.journeys.specs.Query.{Query, asked, allowed}
+use Rattle.journeys.specs.Query.{Query, ticks, asked, allowed}
 use Rattle.journeys.specs.Refusals.{unless, firstBad, wholeOf, hopSizeOk, tableOf, tableLengths, bufferLengths, endsOk, lengthOk, pairOk, walkOk, hopOk, walkAscends, hopAscends, vertexOk, contents, queryRefusal, check}
 use Rattle.journeys.specs.Valid.{ValidTables, ValidQuery, Valid}
 use Rattle.journeys.specs.Answers.{Lent, tables, early}
@@ -112,6 +112,7 @@ pub record GoodWalk (N : Tables) (i : ℕ) : Type 0 where
   pub apart : walk N i .from ≢ walk N i .to
   pub len-low : 1 ≤ walk N i .len
   pub len-high : walk N i .len ≤ 100000
+  pub wait-high : walk N i .wait ≤ 120
   pub twin : walk N i .twin ≢ none → (walk N i .twin < walkCount N) × (pairOk i (walk N i) (walk N (walk N i .twin)) ≡ true)
 
 pub record GoodHop (N : Tables) (j : ℕ) : Type 0 where
@@ -133,9 +134,10 @@ module _ (N : Tables) where
   pub walk-says : (i : ℕ) → walkOk N i ≡ true → GoodWalk N i
   unfolding walkOk
   walk-says i ok =
-      let a = and-both (endsOk (vertexCount N) (walk N i .from) (walk N i .to) && lengthOk (walk N i .len)) _ ok in
+      let a = and-both (endsOk (vertexCount N) (walk N i .from) (walk N i .to) && lengthOk (walk N i .len) (walk N i .wait)) _ ok in
       let b = and-both (endsOk (vertexCount N) (walk N i .from) (walk N i .to)) _ (a .0) in
-      let c = and-both (leb 1 (walk N i .len)) _ (b .1) in
+      let w = and-both (leb 1 (walk N i .len) && leb (walk N i .len) 100000) _ (b .1) in
+      let c = and-both (leb 1 (walk N i .len)) _ (w .0) in
       let e = ends-good (vertexCount N) (walk N i .from) (walk N i .to) (b .0) in
       record {
         from-low = e .0;
@@ -143,6 +145,7 @@ module _ (N : Tables) where
         apart = e .2;
         len-low = leb-true _ _ (c .0);
         len-high = leb-true _ _ (c .1);
+        wait-high = leb-true _ _ (w .1);
         twin = λ n.
             ⊎-elim (λ (t : eqb (walk N i .twin) none ≡ true). absurd (n (eqb-true _ _ t)))
             (λ t. let p = and-both (ltb (walk N i .twin) (walkCount N)) _ t in (ltb-true _ _ (p .0), p .1))
@@ -197,3 +200,7 @@ allowed-some {N} {Q} q = mul-le-mul {n₁ = 1} {m₁ = 1} (q .duration-low) (q .
 
 pub allowed-high : {N : Tables} {Q : Query} → ValidQuery N Q → allowed Q ≤ 8640000
 allowed-high {N} {Q} q = let m : Q .duration * Q .speed ≤ 86400 * 100 = mul-le-mul (q .duration-high) (q .speed-high) in omega arith
+
+-- a wait is at most 12,000 ticks
+pub wait-most : {N : Tables} {Q : Query} → ValidQuery N Q → (seconds : ℕ) → seconds ≤ 120 → ticks Q seconds ≤ 12000
+wait-most {N} {Q} q seconds h = let m : seconds * Q .speed ≤ 120 * 100 = mul-le-mul h (q .speed-high) in omega arith

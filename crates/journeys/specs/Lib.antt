@@ -19,3 +19,4 @@ pub mod Marked
 pub mod Limits
 pub mod PartLimits
 pub mod Moments
+pub mod Waits

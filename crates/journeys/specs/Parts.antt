@@ -6,7 +6,7 @@ use lib.Dec.{eqb}
 use Rattle.journeys.specs.Counting.{none, joined, In}
 use Rattle.journeys.specs.Bytes.{word}
 use Rattle.journeys.specs.Tables.{Tables, walk, walkCount}
-use Rattle.journeys.specs.Query.{Query, allowed, asked}
+use Rattle.journeys.specs.Query.{Query, allowed, asked, waitTicks, pastTicks}
 use Rattle.journeys.specs.Order.{Settled}
 
 -- both ends belong to a part
@@ -27,17 +27,17 @@ module _ (N : Tables) (Q : Query) where
   unfoldable pub near : ℕ → ℕ
   near i = cond (eqb i (Q .walk)) (Q .offset) (cond (eqb i (asked N Q .twin)) (asked N Q .len - Q .offset) 0)
 
-  -- up to the query place, at most D long
+  -- Up to the query place: at most D long, or as long as D less the wait that the place is past. Where D does not reach the wait that is 0 long.
   unfoldable pub firstPart : ℕ → List Part
-  firstPart i = part i (near i - allowed Q) (near i)
+  firstPart i = part i (near i - (allowed Q - pastTicks Q (walk N i) (near i))) (near i)
 
   -- step 0: on e, then on the twin, if any
   unfoldable pub firstParts : List Part
   firstParts = firstPart (Q .walk) ++ cond (eqb (asked N Q .twin) none) [] (firstPart (asked N Q .twin))
 
-  -- up to "to", which has the distance d: what is left of D, and on e and its twin not beyond the query place
+  -- Up to "to", which has the distance d: what is left of D less the wait, and on e and its twin not beyond the query place. Where what is left does not reach the wait that is 0 long.
   unfoldable pub partAt : ℕ → ℕ → List Part
-  partAt d i = part i (max (walk N i .len - (allowed Q - d)) (near i)) (walk N i .len)
+  partAt d i = part i (max (walk N i .len - (allowed Q - d - waitTicks Q (walk N i))) (near i)) (walk N i .len)
 
   -- at a settled vertex: its arriving walks, ascending
   unfoldable pub partsAt : Settled → List Part

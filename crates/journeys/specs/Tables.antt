@@ -1,6 +1,6 @@
 -- The three tables, RULES 3: records of fixed size with no header, numbered from 0. Assumes nothing.
 use mathlib.Core.List.{List, [], _∷_}
-use Prim.Native.Nat.{ℕ, _+_, _*_, _/_}
+use Prim.Native.Nat.{ℕ, _+_, _*_, _/_, _%_}
 use lib.ListN.{length, getD}
 use Rattle.journeys.specs.Counting.{joined}
 use Rattle.journeys.specs.Bytes.{be16, be32, clock}
@@ -11,11 +11,12 @@ pub record Vertex : Type 0 where
   pub departing : ℕ
   pub zeros : ℕ
 
--- the length is in decimetres
+-- the length is in decimetres; the wait, in seconds, is spent at "to"
 pub record Walk : Type 0 where
   pub from : ℕ
   pub to : ℕ
   pub len : ℕ
+  pub wait : ℕ
   pub twin : ℕ
 
 -- the times are in seconds by `clock`
@@ -30,8 +31,16 @@ unfoldable pub vertexAt : List ℕ → ℕ → Vertex
 vertexAt b i =
     record { firstWalk = be32 b (12 * i); firstHop = be32 b (12 * i + 4); departing = be16 b (12 * i + 8); zeros = be16 b (12 * i + 10) }
 
+-- of the four bytes of a walk's length the first is the wait and the other three the length
+abbrev pub lenOf : ℕ → ℕ
+lenOf bits = bits % 16777216
+
+abbrev pub waitOf : ℕ → ℕ
+waitOf bits = bits / 16777216
+
 unfoldable pub walkAt : List ℕ → ℕ → Walk
-walkAt b i = record { from = be32 b (16 * i); to = be32 b (16 * i + 4); len = be32 b (16 * i + 8); twin = be32 b (16 * i + 12) }
+walkAt b i =
+    record { from = be32 b (16 * i); to = be32 b (16 * i + 4); len = lenOf (be32 b (16 * i + 8)); wait = waitOf (be32 b (16 * i + 8)); twin = be32 b (16 * i + 12) }
 
 -- of hops of a size, 16 bytes or 20: the last four of 20 are the trip, which no journey asks for
 unfoldable pub hopAt : ℕ → List ℕ → ℕ → Hop
@@ -65,7 +74,7 @@ abbrev pub vertex : Tables → ℕ → Vertex
 vertex N v = getD (N .vertices) v (record { firstWalk = 0; firstHop = 0; departing = 0; zeros = 0 })
 
 abbrev pub walk : Tables → ℕ → Walk
-walk N i = getD (N .walks) i (record { from = 0; to = 0; len = 0; twin = 0 })
+walk N i = getD (N .walks) i (record { from = 0; to = 0; len = 0; wait = 0; twin = 0 })
 
 abbrev pub hop : Tables → ℕ → Hop
 hop N j = getD (N .hops) j (record { from = 0; to = 0; departure = 0; arrival = 0 })
