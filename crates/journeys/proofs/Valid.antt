@@ -13,7 +13,7 @@ use Rattle.journeys.specs.Counting.{none}
 use Rattle.journeys.specs.Bytes.{midnight}
 use Rattle.journeys.specs.Tables.{Tables, tablesOf, vertexCount, walkCount, hopCount, walk, hop}
 use Rattle.journeys.specs.Query.{Query, ticks, asked, allowed}
-use Rattle.journeys.specs.Refusals.{unless, firstBad, wholeOf, hopSizeOk, tableOf, tableLengths, bufferLengths, endsOk, lengthOk, pairOk, walkOk, hopOk, walkAscends, hopAscends, vertexOk, contents, queryRefusal, check}
+use Rattle.journeys.specs.Refusals.{unless, firstBad, wholeOf, hopSizeOk, tableOf, tableLengths, bufferLengths, endsOk, lengthOk, waitOk, pairOk, walkOk, hopOk, walkAscends, hopAscends, vertexOk, contents, queryRefusal, check}
 use Rattle.journeys.specs.Valid.{ValidTables, ValidQuery, Valid}
 use Rattle.journeys.specs.Answers.{Lent, tables, early}
 use Rattle.journeys.proofs.Tests.{and-both, or-cases}
@@ -134,10 +134,10 @@ module _ (N : Tables) where
   pub walk-says : (i : ℕ) → walkOk N i ≡ true → GoodWalk N i
   unfolding walkOk
   walk-says i ok =
-      let a = and-both (endsOk (vertexCount N) (walk N i .from) (walk N i .to) && lengthOk (walk N i .len) (walk N i .wait)) _ ok in
-      let b = and-both (endsOk (vertexCount N) (walk N i .from) (walk N i .to)) _ (a .0) in
-      let w = and-both (leb 1 (walk N i .len) && leb (walk N i .len) 100000) _ (b .1) in
-      let c = and-both (leb 1 (walk N i .len)) _ (w .0) in
+      let a = and-both (endsOk (vertexCount N) (walk N i .from) (walk N i .to) && lengthOk (walk N i .len) && waitOk (walk N i .wait)) _ ok in
+      let w = and-both (endsOk (vertexCount N) (walk N i .from) (walk N i .to) && lengthOk (walk N i .len)) _ (a .0) in
+      let b = and-both (endsOk (vertexCount N) (walk N i .from) (walk N i .to)) _ (w .0) in
+      let c = and-both (leb 1 (walk N i .len)) _ (b .1) in
       let e = ends-good (vertexCount N) (walk N i .from) (walk N i .to) (b .0) in
       record {
         from-low = e .0;

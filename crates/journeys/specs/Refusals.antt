@@ -68,8 +68,11 @@ unfoldable pub endsOk : ℕ → ℕ → ℕ → Bool
 endsOk n from to = ltb from n && ltb to n && not (eqb from to)
 
 -- 2: the length in decimetres, the wait in seconds; t is the same road as w the other way and names i back. The two may have different waits.
-abbrev pub lengthOk : ℕ → ℕ → Bool
-lengthOk len wait = leb 1 len && leb len 100000 && leb wait 120
+abbrev pub lengthOk : ℕ → Bool
+lengthOk len = leb 1 len && leb len 100000
+
+abbrev pub waitOk : ℕ → Bool
+waitOk wait = leb wait 120
 
 unfoldable pub pairOk : ℕ → Walk → Walk → Bool
 pairOk i w t = eqb (t .twin) i && eqb (t .from) (w .to) && eqb (t .to) (w .from) && eqb (t .len) (w .len)
@@ -88,7 +91,7 @@ module _ (N : Tables) where
   twinOk i w = eqb (w .twin) none || (ltb (w .twin) (walkCount N) && pairOk i w (walk N (w .twin)))
 
   unfoldable pub walkOk : ℕ → Bool
-  walkOk i = let w = walk N i in endsOk (vertexCount N) (w .from) (w .to) && lengthOk (w .len) (w .wait) && twinOk i w
+  walkOk i = let w = walk N i in endsOk (vertexCount N) (w .from) (w .to) && lengthOk (w .len) && waitOk (w .wait) && twinOk i w
 
   unfoldable pub hopOk : ℕ → Bool
   hopOk j = let h = hop N j in endsOk (vertexCount N) (h .from) (h .to) && timesOk (h .departure) (h .arrival)

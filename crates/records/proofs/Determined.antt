@@ -1,5 +1,6 @@
 -- Any two answers that a contract allows are equal, and so are any two states of a buffer that was lent. Assumes nothing.
-use mathlib.Core.Path.{_≡_, sym, _∙_}
+use mathlib.Core.Path.{_≡_, sym, ap, _∙_}
+use Prim.Native.Nat.{ℕ}
 use denote.Ref.{now}
 use Rattle.records.proofs.Told.{vertex-injective, walk-injective, hop-injective}
 use Rattle.records.proofs.refusal.Reads as refusal
@@ -7,6 +8,10 @@ use Rattle.records.proofs.hop_start.Reads as hop-start
 use Rattle.records.proofs.from_at.Reads as from-at
 use Rattle.records.proofs.to_at.Reads as to-at
 use Rattle.records.proofs.vertex_at.Reads as vertex-at
+use Rattle.records.proofs.length_of.Reads as length-of
+use Rattle.records.proofs.wait_of.Reads as wait-of
+use Rattle.records.proofs.wait_ticks.Reads as wait-ticks
+use Rattle.records.proofs.walk_ticks.Reads as walk-ticks
 use Rattle.records.proofs.walk_at.Reads as walk-at
 use Rattle.records.proofs.hop_at.Reads as hop-at
 use Rattle.records.proofs.first_arriving.Reads as first-arriving
@@ -35,6 +40,18 @@ one-to-at κs a z z′ e e′ p q = p ∙ sym q
 
 pub one-vertex-at : (κs : _) (a : _) (z z′ : _) (e e′ : _) → vertex-at.Post κs a z e → vertex-at.Post κs a z′ e′ → z ≡ z′
 one-vertex-at κs a z z′ e e′ p q = p ∙ sym q
+
+pub one-length-of : (κs : _) (a : _) (z z′ : _) (e e′ : _) → length-of.Post κs a z e → length-of.Post κs a z′ e′ → z ≡ z′
+one-length-of κs a z z′ e e′ p q = p ∙ sym q
+
+pub one-wait-of : (κs : _) (a : _) (z z′ : _) (e e′ : _) → wait-of.Post κs a z e → wait-of.Post κs a z′ e′ → z ≡ z′
+one-wait-of κs a z z′ e e′ p q = p ∙ sym q
+
+pub one-wait-ticks : (κs : _) (a : _) (z z′ : _) (e e′ : _) → wait-ticks.Post κs a z e → wait-ticks.Post κs a z′ e′ → z ≡ z′
+one-wait-ticks κs a z z′ e e′ p q = ap (λ (x : ℕ). record { 0 = x }) (p ∙ sym q)
+
+pub one-walk-ticks : (κs : _) (a : _) (z z′ : _) (e e′ : _) → walk-ticks.Post κs a z e → walk-ticks.Post κs a z′ e′ → z ≡ z′
+one-walk-ticks κs a z z′ e e′ p q = ap (λ (x : ℕ). record { 0 = x }) (p ∙ sym q)
 
 pub one-walk-at : (κs : _) (a : _) (z z′ : _) (e e′ : _) → walk-at.Post κs a z e → walk-at.Post κs a z′ e′ → z ≡ z′
 one-walk-at κs a z z′ e e′ p q = p ∙ sym q

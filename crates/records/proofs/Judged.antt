@@ -2,13 +2,17 @@
 use mathlib.Core.Path.{_≡_, _∙_}
 use mathlib.Core.Bool.{Bool, true, false, _&&_}
 use mathlib.Core.List.{List, []}
-use Prim.Native.Nat.{ℕ, _/_, _<_}
-use lib.Dec.{eqb}
+use Prim.Native.Nat.{ℕ, _+_, _/_, _<_}
+use native.Mathlib.Omega.{arith}
+use borrow.Author.Tests.{leb-true, le-leb}
+use lib.Dec.{eqb, leb}
+use lib.IntN.{pos}
 use lib.ListN.{length}
+use Rattle.journeys.specs.Bytes.{clocked, midnight}
 use Rattle.journeys.specs.Tables.{Walk, vertexAt, walkAt, hopAt, tablesOf}
 use Rattle.journeys.specs.Records.{departing}
-use Rattle.journeys.specs.Refusals.{endsOk, lengthOk, twinOk, timesOk, walkOk, hopOk, vertexOk}
-use Rattle.journeys.proofs.Tests.{and-left, and-right}
+use Rattle.journeys.specs.Refusals.{endsOk, lengthOk, waitOk, twinOk, timesOk, walkOk, hopOk, vertexOk}
+use Rattle.journeys.proofs.Tests.{and-left, and-right, same-test}
 use Rattle.journeys.proofs.Decoding.{vertex-at, walk-at, hop-at, vertex-count}
 use Rattle.records.specs.Columns.{recordsIn, arrivingBelow}
 use Rattle.records.specs.declared.VertexRead.the-variants as vertices
@@ -18,9 +22,14 @@ use Rattle.records.specs.Meaning.{vertexOf, walkOf, hopOf}
 use Rattle.records.specs.Readings.{toldVertex, toldWalk, toldHop, vertexReading, walkReading, hopReading}
 use Rattle.records.proofs.Columns.{walks-below, hops-below}
 
+-- a wait judged as signed seconds
+pub wait-is : (wait : ℕ) → leb (clocked (pos wait)) (midnight + 120) ≡ waitOk wait
+wait-is wait =
+    same-test _ _ (λ e. le-leb wait 120 (omega (arith, leb-true (midnight + wait) (midnight + 120) e))) (λ e. le-leb (midnight + wait) (midnight + 120) (omega (arith, leb-true wait 120 e)))
+
 module _ (size : ℕ) (v w h : List ℕ) where
   pub walk-ok : (i : ℕ) → i < recordsIn 16 w
-      → walkOk (tablesOf size v w h) i ≡ endsOk (length v / 12) (walkAt w i .from) (walkAt w i .to) && lengthOk (walkAt w i .len) && twinOk (tablesOf 16 [] w []) i (walkAt w i)
+      → walkOk (tablesOf size v w h) i ≡ endsOk (length v / 12) (walkAt w i .from) (walkAt w i .to) && lengthOk (walkAt w i .len) && waitOk (walkAt w i .wait) && twinOk (tablesOf 16 [] w []) i (walkAt w i)
   unfolding walkOk tablesOf
   walk-ok i l = rw (walk-at size v w h i l, vertex-count size v w h)
 
@@ -33,13 +42,16 @@ module _ (size : ℕ) (v w h : List ℕ) where
     ends = endsOk (length v / 12) (x .from) (x .to)
 
     pub ends-decide : ends ≡ false → walkOk (tablesOf size v w h) i ≡ false
-    ends-decide e = walk-ok i l ∙ and-left (twinOk (tablesOf 16 [] w []) i x) (and-left (lengthOk (x .len)) e)
+    ends-decide e = walk-ok i l ∙ and-left (twinOk (tablesOf 16 [] w []) i x) (and-left (waitOk (x .wait)) (and-left (lengthOk (x .len)) e))
 
     pub length-decides : lengthOk (x .len) ≡ false → walkOk (tablesOf size v w h) i ≡ false
-    length-decides e = walk-ok i l ∙ and-left (twinOk (tablesOf 16 [] w []) i x) (and-right ends e)
+    length-decides e = walk-ok i l ∙ and-left (twinOk (tablesOf 16 [] w []) i x) (and-left (waitOk (x .wait)) (and-right ends e))
 
-    pub twin-decides : ends ≡ true → lengthOk (x .len) ≡ true → walkOk (tablesOf size v w h) i ≡ twinOk (tablesOf 16 [] w []) i x
-    twin-decides e f = walk-ok i l ∙ rw (e, f)
+    pub wait-decides : waitOk (x .wait) ≡ false → walkOk (tablesOf size v w h) i ≡ false
+    wait-decides e = walk-ok i l ∙ and-left (twinOk (tablesOf 16 [] w []) i x) (and-right (ends && lengthOk (x .len)) e)
+
+    pub twin-decides : ends ≡ true → lengthOk (x .len) ≡ true → waitOk (x .wait) ≡ true → walkOk (tablesOf size v w h) i ≡ twinOk (tablesOf 16 [] w []) i x
+    twin-decides e f g = walk-ok i l ∙ rw (e, f, g)
 
   pub hop-ok : (j : ℕ) → j < recordsIn size h
       → hopOk (tablesOf size v w h) j ≡ endsOk (length v / 12) (hopAt size h j .from) (hopAt size h j .to) && timesOk (hopAt size h j .departure) (hopAt size h j .arrival)

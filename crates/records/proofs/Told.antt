@@ -23,9 +23,13 @@ field k (refused r) = pos 0
 number : {a b : ℕ} → pos a ≡ pos b → a ≡ b
 number e = cc
 
--- a record by its four fields
+-- a record by its fields
 four : {A B C D E : Type 0} (f : A → B → C → D → E) {a a′ : A} {b b′ : B} {c c′ : C} {d d′ : D} → a ≡ a′ → b ≡ b′ → c ≡ c′ → d ≡ d′ → f a b c d ≡ f a′ b′ c′ d′
 four f p q r s = cc
+
+five : {A B C D E F : Type 0} (f : A → B → C → D → E → F) {a a′ : A} {b b′ : B} {c c′ : C} {d d′ : D} {e e′ : E} → a ≡ a′ → b ≡ b′ → c ≡ c′ → d ≡ d′ → e ≡ e′
+    → f a b c d e ≡ f a′ b′ c′ d′ e′
+five f p q r s t = cc
 
 pub vertex-injective : (a b : VertexRead) → toldVertex a ≡ toldVertex b → a ≡ b
 unfolding toldVertex place field
@@ -39,8 +43,8 @@ vertex-injective (vertices.Bad a) (vertices.Bad b) e = ap vertices.Bad (ap place
 pub walk-injective : (a b : WalkRead) → toldWalk a ≡ toldWalk b → a ≡ b
 unfolding toldWalk place field
 walk-injective (walks.Good a) (walks.Good b) e =
-    four (λ (x y z w : ℕ). walks.Good (record { from = x; to = y; len = record { 0 = z }; twin = w }))
-    (number (ap (field 0) e)) (number (ap (field 1) e)) (number (ap (field 2) e)) (number (ap (field 3) e))
+    five (λ (x y z : ℕ) (t : ℤ) (w : ℕ). walks.Good (record { from = x; to = y; len = record { 0 = z }; wait = record { 0 = t }; twin = w }))
+    (number (ap (field 0) e)) (number (ap (field 1) e)) (number (ap (field 2) e)) (ap (field 3) e) (number (ap (field 4) e))
 walk-injective (walks.Good a) (walks.Bad b) e = cc
 walk-injective (walks.Bad a) (walks.Good b) e = cc
 walk-injective (walks.Bad a) (walks.Bad b) e = ap walks.Bad (ap place e)

@@ -13,7 +13,7 @@ use Rattle.records.specs.declared.WalkRead.the-variants as walk
 use Rattle.records.specs.declared.HopRead.{HopRead}
 use Rattle.records.specs.declared.HopRead.the-variants as hop
 
--- the fields of a good record in their order, times in signed seconds from midnight; or the refusal of it
+-- the fields of a good record in their order, a walk's wait behind its length, times in signed seconds from midnight; or the refusal of it
 pub data Reading : Type 0 where
   good : List ℤ → Reading
   refused : Refusal → Reading
@@ -24,7 +24,7 @@ toldVertex (vertex.Good x) = good (pos (x .«first_walk») ∷ pos (x .«first_h
 toldVertex (vertex.Bad v) = refused (record { number = 6; place = v })
 
 unfoldable pub toldWalk : WalkRead → Reading
-toldWalk (walk.Good w) = good (pos (w .from) ∷ pos (w .to) ∷ pos (w .len .0) ∷ pos (w .twin) ∷ [])
+toldWalk (walk.Good w) = good (pos (w .from) ∷ pos (w .to) ∷ pos (w .len .0) ∷ w .wait .0 ∷ pos (w .twin) ∷ [])
 toldWalk (walk.Bad i) = refused (record { number = 2; place = i })
 
 unfoldable pub toldHop : HopRead → Reading
@@ -41,7 +41,7 @@ module _ (N : tables.Tables) where
   unfoldable pub walkReading : ℕ → Reading
   walkReading i =
       let w = tables.walk N i in
-      cond (walkOk N i) (good (pos (w .from) ∷ pos (w .to) ∷ pos (w .len) ∷ pos (w .twin) ∷ [])) (refused (record { number = 2; place = i }))
+      cond (walkOk N i) (good (pos (w .from) ∷ pos (w .to) ∷ pos (w .len) ∷ pos (w .wait) ∷ pos (w .twin) ∷ [])) (refused (record { number = 2; place = i }))
 
   unfoldable pub hopReading : ℕ → Reading
   hopReading j =

@@ -9,20 +9,22 @@ use words::half_at;
 use words::not_after;
 use words::put_word;
 use words::seconds_of;
+use words::ticks_of;
+use words::walked;
 use words::word_at;
 ghost use mathlib.Core.Path.{_≡_};
 ghost use mathlib.Core.Bool.{true};
 ghost use mathlib.Core.List.{[], _++_};
 ghost use Prim.Native.Nat.{ℕ, _+_, _-_, _*_, _/_, _<_, _≤_};
-ghost use lib.Dec.{eqb};
+ghost use lib.Dec.{eqb, leb};
 ghost use lib.ListN.{length, drop};
-ghost use Rattle.journeys.specs.Bytes.{clocked};
-ghost use Rattle.journeys.specs.Tables.{vertexAt, walkAt, hopAt, tablesOf};
+ghost use Rattle.journeys.specs.Bytes.{clocked, midnight};
+ghost use Rattle.journeys.specs.Tables.{lenOf, waitOf, vertexAt, walkAt, hopAt, tablesOf};
 ghost use Rattle.journeys.specs.Refusals.{endsOk, lengthOk, pairOk, twinOk, timesOk, walkOk};
 ghost use Rattle.journeys.specs.Records.{departing};
 ghost use Rattle.journeys.specs.Answers.{settledBytes};
 ghost use Rattle.journeys.specs.Parts.{partBytes};
-ghost use Rattle.records.specs.Meaning.{vertexOf, walkOf, walkIn, hopOf, refusalOf};
+ghost use Rattle.records.specs.Meaning.{offsetOf, spanOf, vertexOf, walkOf, walkIn, hopOf, refusalOf};
 ghost use Rattle.records.specs.Readings.{toldVertex, toldWalk, toldHop, vertexReading, walkReading, hopReading};
 ghost use Rattle.records.specs.Columns.{recordsIn, fromAt, toAt, Ascending, arrivingBelow};
 ghost use Rattle.records.specs.Arriving.{tableOf, sizeOf, firstOf, endOf, run};
@@ -40,6 +42,7 @@ pub struct Walk {
     pub from: u32,
     pub to: u32,
     pub len: Offset,
+    pub wait: Seconds,
     pub twin: u32,
 }
 
@@ -122,15 +125,45 @@ pub fn vertex_at(vertices: &[u8], v: usize) -> Vertex
     }
 }
 
+// Of the four bytes of a walk's length the first is the wait and the other three the length.
+pub fn length_of(bits: u32) -> Offset
+    ensures { λ r. ⌜ r ≡ offsetOf (lenOf bits) ⌝ }
+{
+    Offset(bits % 16777216)
+}
+
+pub fn wait_of(bits: u32) -> Seconds
+    ensures { λ r. ⌜ r ≡ spanOf (waitOf bits) ⌝ }
+{
+    Seconds((bits / 16777216) as i32)
+}
+
+// The ticks of such a wait, and those of the whole walk.
+pub fn wait_ticks(bits: u32, speed: u32) -> Ticks
+    requires { ⌜ speed ≤ 100 ⌝ }
+    ensures { λ r. ⌜ r .0 ≡ waitOf bits * speed ⌝ }
+{
+    ticks_of(wait_of(bits), speed)
+}
+
+pub fn walk_ticks(bits: u32, speed: u32) -> Ticks
+    requires { ⌜ speed ≤ 100 ⌝ }
+    ensures { λ r. ⌜ r .0 ≡ lenOf bits + waitOf bits * speed ⌝ }
+{
+    Ticks(walked(length_of(bits)).0 + wait_ticks(bits, speed).0)
+}
+
 pub fn walk_at(walks: &[u8], i: usize) -> Walk
     requires { ⌜ i < length (now walks) / 16 ⌝ }
     ensures { λ r. ⌜ r ≡ walkOf (walkAt (now (walks .entry)) i) ⌝ }
 {
     let at = 16 * i;
+    let bits = word_at(walks, at + 8);
     Walk {
         from: word_at(walks, at),
         to: word_at(walks, at + 4),
-        len: Offset(word_at(walks, at + 8)),
+        len: length_of(bits),
+        wait: wait_of(bits),
         twin: word_at(walks, at + 12),
     }
 }
@@ -183,6 +216,12 @@ fn length_ok(len: u32) -> bool
     ensures { λ r. ⌜ r ≡ lengthOk len ⌝ }
 {
     (1 <= len) & (len <= 100000)
+}
+
+fn wait_ok(wait: Seconds) -> bool
+    ensures { λ r. ⌜ r ≡ leb (clocked (wait .0)) (midnight + 120) ⌝ }
+{
+    not_after(wait, Seconds(120))
 }
 
 fn pair_ok(i: u32, w: Walk, t: Walk) -> bool
@@ -262,13 +301,17 @@ pub fn read_vertex(
 }
 
 // A pair is tested once, from its lower record: that one tests the ends and the length of both. So a walk whose twin is lower, and good, is good
-// exactly if the twin names it.
+// exactly if the twin names it and its own wait is good.
 fn walk_ok(vertices: &[u8], walks: &[u8], i: u32) -> bool
     requires { ⌜ (i < recordsIn 16 (now walks)) × (recordsIn 16 (now walks) ≤ 262144) ⌝ }
     requires { ⌜ ((k : ℕ) → k < i → walkOk (tablesOf 16 (now vertices) (now walks) []) k ≡ true) ⌝ }
     ensures { λ r. ⌜ r ≡ walkOk (tablesOf 16 (now (vertices .entry)) (now (walks .entry)) []) i ⌝ }
 {
     let w = walk_at(walks, i as usize);
+    let wait = w.wait;
+    if !wait_ok(wait) {
+        return false;
+    }
     if w.twin < i {
         return walk_at(walks, w.twin as usize).twin == i;
     }
