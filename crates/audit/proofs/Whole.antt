@@ -112,7 +112,7 @@ module _ (size : ℕ) (v w h : List ℕ) where
 
     pub walks-low : Low 16 w
     unfolding walkAt
-    walks-low i l = low (walkAt w i .from) (walkAt w i .to) (and-both _ _ (and-both _ _ (sym (walk-ok size v w h i l) ∙ ok .walks-good i l) .0) .0)
+    walks-low i l = low (walkAt w i .from) (walkAt w i .to) (and-both _ _ (and-both _ _ (and-both _ _ (sym (walk-ok size v w h i l) ∙ ok .walks-good i l) .0) .0) .0)
 
     pub hops-low : Low size h
     unfolding hopAt

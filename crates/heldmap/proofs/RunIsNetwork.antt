@@ -318,9 +318,6 @@ module _ (size : ℕ) (wide : 16 ≤ size) (v w h : List ℕ) (Q : Query) (ok : 
           hops = rw (length-run size wide h fh (endOf Hops v (length h / size) x) (hr .order) hops-in, as-many size (endOf Hops v (length h / size) x - fh) (omega arith)) (omega arith);
           fits = wide;
         };
-        lengths = λ i l.
-            let k : fw + i < walkCount N = omega (arith, wr .order, wr .fit) in
-            subst (λ y. y .len ≤ 100000) (walk-at size v w h (fw + i) (rw (walk-count size v w h) at k) ∙ sym (walk-part i l)) (good-walk N (ok .tables) (fw + i) k .len-high);
         times = λ i l. rides i l;
         distance = omega (arith, near, allowed-high (ok .query));
         arrival = rw clock (record { low = omega (arith, ok .query .arrival-low); high = ok .query .arrival-high });

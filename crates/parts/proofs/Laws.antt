@@ -1,25 +1,30 @@
 -- Lists of parts, one behind the other. Assumes nothing.
-use mathlib.Core.Path.{_≡_, refl, sym, ap, subst, _∙_}
-use mathlib.Core.Bool.{cond}
+use mathlib.Core.Path.{_≡_, refl, sym, ap, ap₂, subst, _∙_}
+use mathlib.Core.Logic.{_⊎_, inl, inr}
+use mathlib.Core.Bool.{Bool, true, false, cond}
 use mathlib.Core.List.{List, [], _∷_, _++_, flatMap, append-nil, append-assoc}
 use Prim.Native.Nat.{ℕ, zero, suc, _+_, _-_, _*_, _/_, _≤_, _<_, max}
 use native.Mathlib.Omega.{arith}
-use lib.Dec.{eqb}
-use lib.ListN.{length, take, drop, take-append-drop, length-append}
-use borrow.Author.Tests.{eq-eqb, ne-eqb}
+use lib.Dec.{eqb, ltb}
+use lib.ListN.{length, take, drop, take-append-drop, length-append, List·getD-eq-default}
+use borrow.Author.Tests.{eq-eqb, ne-eqb, lt-ltb, le-ltb}
 use Rattle.journeys.specs.Counting.{none, joined}
 use Rattle.journeys.specs.Bytes.{be32}
-use Rattle.journeys.specs.Tables as tables
-use Rattle.journeys.specs.Tables.{walkAt}
+use Rattle.journeys.specs.Tables.{Walk, lenOf, waitOf, walkAt, tablesOf, walk}
+use Rattle.journeys.specs.Query.{Query, pastTicks}
 use Rattle.journeys.specs.Parts.{Part, part, partBytes}
+use Rattle.journeys.proofs.Tests.{cond-true, cond-false, le-or-lt}
+use Rattle.journeys.proofs.Decoding.{walk-count, walk-at}
 use Rattle.journeys.proofs.Counting.{flat-append, flat-length}
 use Rattle.words.specs.Written.{written}
+use Rattle.words.specs.declared.Offset.{Offset}
+use Rattle.words.specs.declared.Ticks.{Ticks}
 use Rattle.records.specs.Fields.{partOf}
-use Rattle.records.specs.Meaning.{walkOf}
-use Rattle.records.specs.declared.Walk.{Walk}
+use Rattle.records.specs.Meaning.{offsetOf, walkOf}
+use Rattle.records.specs.declared.Walk as read
 use Rattle.records.proofs.RecordBytes.{length-part}
 use Rattle.words.proofs.Written.{length-written, written-next}
-use Rattle.parts.specs.Listing.{Behind, Overfull, ListedIs, roadOf, nearOn, firstOn, partOn, partsOn}
+use Rattle.parts.specs.Listing.{Behind, Overfull, ListedIs, pastOn, roadOf, nearOn, nearStart, backStart, firstOn, partOn, partsOn}
 use Rattle.parts.specs.declared.Listed.{Listed}
 use Rattle.parts.specs.declared.Listed.the-variants.{Fits, NoRoom}
 use Rattle.parts.specs.declared.Road.{Road}
@@ -112,19 +117,19 @@ module _ (count : ℕ) (ps : List Part) (b b′ : List ℕ) (h : count ≤ lengt
   listed-end c x = subst (λ (q : List Part). ListedIs count q b b′ (Fits c)) (sym (append-nil ps)) x
 
 -- step 0 without and with a twin
-pub first-alone : (e : Road) (allowed : ℕ) → e .twin ≡ none → part (e .walk) (e .near .0 - allowed) (e .near .0) ++ [] ≡ firstOn e allowed
+pub first-alone : (e : Road) (allowed : ℕ) → e .twin ≡ none → part (e .walk) (nearStart e allowed) (e .near .0) ++ [] ≡ firstOn e allowed
 unfolding firstOn
 first-alone e allowed q = rw (eq-eqb (e .twin) none q)
 
 pub first-both : (e : Road) (allowed : ℕ) → (e .twin ≡ none → ⊥)
-    → part (e .walk) (e .near .0 - allowed) (e .near .0) ++ part (e .twin) (e .back .0 - allowed) (e .back .0) ≡ firstOn e allowed
+    → part (e .walk) (nearStart e allowed) (e .near .0) ++ part (e .twin) (backStart e allowed) (e .back .0) ≡ firstOn e allowed
 unfolding firstOn
 first-both e allowed q = rw (ne-eqb (e .twin) none q)
 
 -- whatever comes behind, the first part alone is too much
-pub first-over : (e : Road) (allowed : ℕ) (b b′ : List ℕ) → ListedIs 0 (part (e .walk) (e .near .0 - allowed) (e .near .0)) b b′ NoRoom → ListedIs 0 (firstOn e allowed) b b′ NoRoom
+pub first-over : (e : Road) (allowed : ℕ) (b b′ : List ℕ) → ListedIs 0 (part (e .walk) (nearStart e allowed) (e .near .0)) b b′ NoRoom → ListedIs 0 (firstOn e allowed) b b′ NoRoom
 unfolding firstOn
-first-over e allowed b b′ x = listed-over 0 (part (e .walk) (e .near .0 - allowed) (e .near .0)) (cond (eqb (e .twin) none) [] (part (e .twin) (e .back .0 - allowed) (e .back .0))) b b′ x
+first-over e allowed b b′ x = listed-over 0 (part (e .walk) (nearStart e allowed) (e .near .0)) (cond (eqb (e .twin) none) [] (part (e .twin) (backStart e allowed) (e .back .0))) b b′ x
 
 joined-add : (f : ℕ → List Part) (m n : ℕ) → (ps : List Part) × (joined f (m + n) ≡ joined f m ++ ps)
 unfolding joined
@@ -158,9 +163,10 @@ parts-over w e left first i end h l = go (end - (i + 1)) (let z : (i + 1 - first
 pub listed-as : (count : ℕ) (ps qs : List Part) (b b′ : List ℕ) (r : Listed) → ps ≡ qs → ListedIs count ps b b′ r → ListedIs count qs b b′ r
 listed-as count ps qs b b′ r e x = subst (λ (z : List Part). ListedIs count z b b′ r) e x
 
-pub part-on : (w : List ℕ) (e : Road) (left i len a near start : ℕ) → len ≡ be32 w (16 * i + 8) → a ≡ len - left → near ≡ nearOn e i → start ≡ max a near → part i start len ≡ partOn w e left i
+pub part-on : (w : List ℕ) (e : Road) (left i bits : ℕ) (len : Offset) (wait rest a near start : ℕ) → bits ≡ be32 w (16 * i + 8) → len ≡ offsetOf (lenOf bits) → wait ≡ waitOf bits * e .speed → rest ≡ left - wait
+    → a ≡ len .0 - rest → near ≡ nearOn e i → start ≡ max a near → part i start (len .0) ≡ partOn w e left i
 unfolding partOn walkAt
-part-on w e left i len a near start p q r s = rw (s, q, r, p)
+part-on w e left i bits len wait rest a near start b p t l q r s = rw (s, q, r, l, t, p, b)
 
 -- before the first walk
 pub parts-start : (w : List ℕ) (e : Road) (left first count : ℕ) (b : List ℕ) → count ≤ length b / 12 → ListedIs count (partsOn w e left first (first - first)) b b (Fits count)
@@ -185,9 +191,9 @@ listed-length count ps b b′ c x =
     let fit : 12 * count + length (flatMap partBytes ps) ≤ length b = omega (arith, flat-length partBytes 12 length-part ps, x .counted, x .room) in
     ap length (x .bytes) ∙ length-written b (12 * count) (flatMap partBytes ps) fit
 
-module _ (e : Road) (allowed x : ℕ) (q : x ≡ e .near .0 - allowed) (b b′ : List ℕ) (r : Listed) (one : ListedIs 0 (part (e .walk) x (e .near .0)) b b′ r) where
-  first-as : ListedIs 0 (part (e .walk) (e .near .0 - allowed) (e .near .0)) b b′ r
-  first-as = listed-as 0 _ _ b b′ r (ap (λ (z : ℕ). part (e .walk) z (e .near .0)) q) one
+module _ (e : Road) (allowed rest x : ℕ) (l : rest ≡ allowed - e .past .0) (q : x ≡ e .near .0 - rest) (b b′ : List ℕ) (r : Listed) (one : ListedIs 0 (part (e .walk) x (e .near .0)) b b′ r) where
+  first-as : ListedIs 0 (part (e .walk) (nearStart e allowed) (e .near .0)) b b′ r
+  first-as = listed-as 0 _ _ b b′ r (ap (λ (z : ℕ). part (e .walk) z (e .near .0)) (q ∙ ap (λ (z : ℕ). e .near .0 - z) l)) one
 
   pub first-full : r ≡ NoRoom → ListedIs 0 (firstOn e allowed) b b′ NoRoom
   first-full s = first-over e allowed b b′ (listed-is 0 _ b b′ r NoRoom s first-as)
@@ -199,23 +205,62 @@ module _ (e : Road) (allowed x : ℕ) (q : x ≡ e .near .0 - allowed) (b b′ :
   first-one c s t =
       listed-as 0 _ _ b b′ (Fits c) (first-alone e allowed t) (listed-end 0 _ b b′ (omega arith) c (listed-is 0 _ b b′ r (Fits c) s first-as))
 
-  pub first-two : (c : ℕ) → r ≡ Fits c → (e .twin ≡ none → ⊥) → (y : ℕ) → y ≡ e .back .0 - allowed → (b″ : List ℕ) (r′ : Listed) → ListedIs c (part (e .twin) y (e .back .0)) b′ b″ r′
+  pub first-two : (c : ℕ) → r ≡ Fits c → (e .twin ≡ none → ⊥) → (more y : ℕ) → more ≡ allowed - e .«past_back» .0 → y ≡ e .back .0 - more → (b″ : List ℕ) (r′ : Listed) → ListedIs c (part (e .twin) y (e .back .0)) b′ b″ r′
       → ListedIs 0 (firstOn e allowed) b b″ r′
-  first-two c s t y p b″ r′ two =
+  first-two c s t more y m p b″ r′ two =
       listed-as 0 _ _ b b″ r′ (first-both e allowed t)
       (listed-more 0 _ b b′ (omega arith) c _ b″ r′ (listed-is 0 _ b b′ r (Fits c) s first-as)
-      (listed-as c _ _ b′ b″ r′ (ap (λ (z : ℕ). part (e .twin) z (e .back .0)) p) two))
+      (listed-as c _ _ b′ b″ r′ (ap (λ (z : ℕ). part (e .twin) z (e .back .0)) (p ∙ ap (λ (z : ℕ). e .back .0 - z) m)) two))
 
 pub parts-end : (w : List ℕ) (e : Road) (left first i end count : ℕ) (b b′ : List ℕ) (r : Listed) → i ≡ end → ListedIs count (partsOn w e left first (i - first)) b b′ r
     → ListedIs count (partsOn w e left first (end - first)) b b′ r
 parts-end w e left first i end count b b′ r q x = subst (λ (k : ℕ). ListedIs count (partsOn w e left first (k - first)) b b′ r) q x
 
--- ---- the road as it is read
-pub road-is : (i offset : ℕ) (w : tables.Walk) (r : Walk) → r ≡ walkOf w → record { walk = i; twin = r .twin; near = record { 0 = offset }; back = record { 0 = r .len .0 - offset } } ≡ roadOf i w offset
-road-is i offset w r e = ap (λ (x : Walk). roadIn x) e
-  where
-    roadIn : Walk → Road
-    roadIn x = record { walk = i; twin = x .twin; near = record { 0 = offset }; back = record { 0 = x .len .0 - offset } }
+-- ---- what is waited for a place of a record, as its bits are read
+module _ (w : List ℕ) (speed i place : ℕ) where
+  module _ (inside : i < length w / 16) (bits : ℕ) (b : bits ≡ be32 w (16 * i + 8)) (len : Offset) (p : len ≡ offsetOf (lenOf bits)) where
+    same-end : len .0 ≡ walkAt w i .len
+    unfolding walkAt
+    same-end = rw (p, b)
 
-pub len-is : (w : tables.Walk) (r : Walk) → r ≡ walkOf w → r .len .0 ≡ w .len
-len-is w r e = ap (λ (x : Walk). x .len .0) e
+    pub past-end : place ≡ len .0 → (wait : ℕ) → wait ≡ waitOf bits * speed → wait ≡ pastOn w speed i place
+    unfolding pastOn walkAt
+    past-end e wait t = t ∙ ap (λ (x : ℕ). waitOf x * speed) b ∙ sym (cond-true _ 0 (lt-ltb i (length w / 16) inside) ∙ cond-true _ 0 (eq-eqb place (walkAt w i .len) (e ∙ same-end)))
+
+    pub past-inner : (place ≡ len .0 → ⊥) → 0 ≡ pastOn w speed i place
+    unfolding pastOn
+    past-inner n = sym (cond-true _ 0 (lt-ltb i (length w / 16) inside) ∙ cond-false _ 0 (ne-eqb place (walkAt w i .len) (λ e. n (e ∙ sym same-end))))
+
+  pub past-no-walk : length w / 16 ≤ i → 0 ≡ pastOn w speed i place
+  unfolding pastOn
+  past-no-walk h = sym (cond-false _ 0 (le-ltb i (length w / 16) h))
+
+-- The same by the tables' record of that number: where there is none, it has no wait.
+pub past-is : (size : ℕ) (v w h : List ℕ) (Q : Query) (i place : ℕ) → pastTicks Q (walk (tablesOf size v w h) i) place ≡ pastOn w (Q .speed) i place
+unfolding pastOn
+past-is size v w h Q i place = go (le-or-lt (length w / 16) i)
+  where
+    nothing : Walk
+    nothing = record { from = 0; to = 0; len = 0; wait = 0; twin = 0 }
+
+    no-wait : (t : Bool) → cond t (0 * Q .speed) 0 ≡ 0
+    no-wait true = omega arith
+    no-wait false = refl
+
+    go : (length w / 16 ≤ i) ⊎ (i < length w / 16) → pastTicks Q (walk (tablesOf size v w h) i) place ≡ cond (ltb i (length w / 16)) (pastTicks Q (walkAt w i) place) 0
+    go (inl l) =
+        ap (λ (x : Walk). pastTicks Q x place) (List·getD-eq-default (tablesOf size v w h .walks) nothing (omega (arith, walk-count size v w h)))
+        ∙ no-wait (eqb place 0) ∙ sym (cond-false _ 0 (le-ltb i (length w / 16) l))
+    go (inr l) = ap (λ (x : Walk). pastTicks Q x place) (walk-at size v w h i l) ∙ sym (cond-true _ 0 (lt-ltb i (length w / 16) l))
+
+-- ---- the road as it is read
+pub road-is : (w : List ℕ) (Q : Query) (r : read.Walk) → r ≡ walkOf (walkAt w (Q .walk)) → (past back : Ticks) → past .0 ≡ pastOn w (Q .speed) (Q .walk) (Q .offset) → back .0 ≡ pastOn w (Q .speed) (r .twin) (r .len .0 - Q .offset)
+    → record { walk = Q .walk; twin = r .twin; near = record { 0 = Q .offset }; back = record { 0 = r .len .0 - Q .offset }; past = past; «past_back» = back; speed = Q .speed } ≡ roadOf w Q
+road-is w Q r e past back p q =
+    ap₂ (λ (x y : ℕ). roadIn r (record { 0 = x }) (record { 0 = y })) p q ∙ ap (λ (x : read.Walk). roadIn x (record { 0 = pastOn w (Q .speed) (Q .walk) (Q .offset) }) (record { 0 = pastOn w (Q .speed) (x .twin) (x .len .0 - Q .offset) })) e
+  where
+    roadIn : read.Walk → Ticks → Ticks → Road
+    roadIn x past back = record { walk = Q .walk; twin = x .twin; near = record { 0 = Q .offset }; back = record { 0 = x .len .0 - Q .offset }; past = past; «past_back» = back; speed = Q .speed }
+
+pub len-is : (w : Walk) (r : read.Walk) → r ≡ walkOf w → r .len .0 ≡ w .len
+len-is w r e = ap (λ (x : read.Walk). x .len .0) e

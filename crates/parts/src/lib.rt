@@ -1,21 +1,30 @@
 // The covered parts of walk records, listed in the part buffer vertex by vertex.
 // Promises: the parts of step 0, and those at a listed vertex, stand behind the ones already there, or the buffer has no room for all of them.
 // Rests on: the readers and the part writer of `records`, which is lent the unfilled rest of the buffer.
+use records::Query;
+use records::length_of;
+use records::wait_ticks;
 use words::Offset;
 use words::Ticks;
+use words::word_at;
 ghost use mathlib.Core.Path.{_≡_};
 ghost use Prim.Native.Nat.{_-_, _/_, _<_, _≤_, max};
 ghost use lib.ListN.{length};
 ghost use Rattle.journeys.specs.Tables.{walkAt};
 ghost use Rattle.journeys.specs.Parts.{part};
-ghost use Rattle.parts.specs.Listing.{roadOf, nearOn, firstOn, partOn, partsOn, ListedIs};
+ghost use Rattle.records.specs.Asked.{queryOf};
+ghost use Rattle.parts.specs.Listing.{pastOn, roadOf, nearOn, firstOn, partOn, partsOn, ListedIs};
 
-// The query's road: its record, its twin, and the offset of the query place on each of the two.
+// The query's road: its record, its twin, the offset of the query place on each of the two, and what is waited for the place there; and the speed
+// that makes ticks of waits.
 pub struct Road {
     pub walk: u32,
     pub twin: u32,
     pub near: Offset,
     pub back: Offset,
+    pub past: Ticks,
+    pub past_back: Ticks,
+    pub speed: u32,
 }
 
 // How many parts are listed, or that there is no room for them.
@@ -24,16 +33,38 @@ pub enum Listed {
     NoRoom,
 }
 
-pub fn read_road(walks: &[u8], walk: u32, offset: Offset) -> Road
-    requires { ⌜ (walk < length (now walks) / 16) × (offset .0 ≤ walkAt (now walks) walk .len) ⌝ }
-    ensures { λ r. ⌜ r ≡ roadOf walk (walkAt (now (walks .entry)) walk) (offset .0) ⌝ }
+// What is waited for a place on walk i: the place at its length is past the wait, and no other is. Where there is no such walk there is no wait.
+fn past_at(walks: &[u8], i: u32, place: Offset, speed: u32) -> Ticks
+    requires { ⌜ speed ≤ 100 ⌝ }
+    ensures { λ r. ⌜ r .0 ≡ pastOn (now (walks .entry)) speed i (place .0) ⌝ }
 {
+    let at = i as usize;
+    if at < walks.len() / 16 {
+        let bits = word_at(walks, 16 * at + 8);
+        if place.0 == length_of(bits).0 {
+            return wait_ticks(bits, speed);
+        }
+    }
+    Ticks(0)
+}
+
+pub fn read_road(walks: &[u8], q: Query) -> Road
+    requires { ⌜ (q .walk < length (now walks) / 16) × (q .offset .0 ≤ walkAt (now walks) (q .walk) .len) × (q .speed ≤ 100) ⌝ }
+    ensures { λ r. ⌜ r ≡ roadOf (now (walks .entry)) (queryOf q) ⌝ }
+{
+    let walk = q.walk;
+    let near = q.offset;
+    let speed = q.speed;
     let w = records::walk_at(walks, walk as usize);
+    let back = Offset(w.len.0 - near.0);
     Road {
         walk: walk,
         twin: w.twin,
-        near: offset,
-        back: Offset(w.len.0 - offset.0),
+        near: near,
+        back: back,
+        past: past_at(walks, walk, near, speed),
+        past_back: past_at(walks, w.twin, back, speed),
+        speed: speed,
     }
 }
 
@@ -63,6 +94,17 @@ fn walked_back(place: Offset, spent: Ticks) -> Offset
     }
 }
 
+// What is left of so many ticks after a wait: none where they do not reach it.
+fn after_wait(left: Ticks, wait: Ticks) -> Ticks
+    ensures { λ r. ⌜ r .0 ≡ left .0 - wait .0 ⌝ }
+{
+    if wait.0 < left.0 {
+        Ticks(left.0 - wait.0)
+    } else {
+        Ticks(0)
+    }
+}
+
 fn larger(a: Offset, b: Offset) -> Offset
     ensures { λ r. ⌜ r .0 ≡ max (a .0) (b .0) ⌝ }
 {
@@ -87,26 +129,37 @@ pub fn list_first(parts: &mut [u8], e: Road, allowed: Ticks) -> Listed
 {
     let near = e.near;
     let back = e.back;
-    let Listed::Fits(count) = list_part(parts, 0, e.walk, walked_back(near, allowed), near) else {
+    let past = e.past;
+    let past_back = e.past_back;
+    let start = walked_back(near, after_wait(allowed, past));
+    let Listed::Fits(count) = list_part(parts, 0, e.walk, start, near) else {
         return Listed::NoRoom;
     };
     if e.twin == words::NONE {
         return Listed::Fits(count);
     }
-    list_part(parts, count, e.twin, walked_back(back, allowed), back)
+    list_part(
+        parts,
+        count,
+        e.twin,
+        walked_back(back, after_wait(allowed, past_back)),
+        back,
+    )
 }
 
-// The part of walk i, at whose end `left` ticks are left.
+// The part of walk i, at whose end `left` ticks are left, the wait among them.
 fn list_walk(parts: &mut [u8], count: usize, walks: &[u8], i: u32, e: Road, left: Ticks) -> Listed
-    requires { ⌜ (count ≤ length (now parts) / 12) × (i < length (now walks) / 16) ⌝ }
+    requires { ⌜ (count ≤ length (now parts) / 12) × (i < length (now walks) / 16) × (e .speed ≤ 100) ⌝ }
     ensures { λ r. ⌜ ListedIs count (partOn (now (walks .entry)) e (left .0) i) (now (parts .entry)) (now (parts .exit)) r ⌝ }
 {
-    let len = Offset(words::word_at(walks, 16 * (i as usize) + 8));
+    let bits = word_at(walks, 16 * (i as usize) + 8);
+    let len = length_of(bits);
+    let rest = after_wait(left, wait_ticks(bits, e.speed));
     list_part(
         parts,
         count,
         i,
-        larger(walked_back(len, left), near_on(e, i)),
+        larger(walked_back(len, rest), near_on(e, i)),
         len,
     )
 }
@@ -121,7 +174,7 @@ pub fn list_arriving(
     e: Road,
     left: Ticks,
 ) -> Listed
-    requires { ⌜ (count ≤ length (now parts) / 12) × (first ≤ end) × (end ≤ length (now walks) / 16) ⌝ }
+    requires { ⌜ (count ≤ length (now parts) / 12) × (first ≤ end) × (end ≤ length (now walks) / 16) × (e .speed ≤ 100) ⌝ }
     ensures { λ r. ⌜ ListedIs count (partsOn (now (walks .entry)) e (left .0) first (end - first)) (now (parts .entry)) (now (parts .exit)) r ⌝ }
 {
     let mut listed = count;

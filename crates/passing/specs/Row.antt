@@ -51,10 +51,9 @@ pub record Counted (w h : List ℕ) (a : Arriving) : Type 0 where
   pub hops : a .hops ≤ length h / a .size
   pub fits : 16 ≤ a .size
 
--- what a row has to be
+-- What a row has to be. Of a walk nothing is asked: whatever its length and its wait, its ticks fit.
 pub record Sound (w h : List ℕ) (a : Arriving) : Type 0 where
   pub counted : Counted w h a
-  pub lengths : (i : ℕ) → i < a .walks → walkAt w i .len ≤ 100000
   pub times : (i : ℕ) → i < a .hops → Rides (a .size) h i
   pub distance : a .distance .0 ≤ 8640000
   pub arrival : DayTime (clocked (a .arrival .0))

@@ -11,13 +11,12 @@ ghost use Rattle.words.specs.Quantities.{DayTime};
 ghost use Rattle.worktable.specs.Map.{Figure};
 ghost use Rattle.passing.specs.Row.{asking, passes, fromOf, offerOf, Rides, Counted, Sound};
 use records::hop_at;
+use records::walk_ticks;
 use words::NONE;
-use words::Offset;
 use words::Seconds;
 use words::Ticks;
 use words::not_after;
 use words::ticks_before;
-use words::walked;
 use words::word_at;
 
 // How many walks and hops arrive at the vertex, the size of a hop, the distance of the vertex, and what of the query an offer asks. The records themselves are a part of the walk table and a part of the hop table.
@@ -71,8 +70,8 @@ pub fn offer_at(walks: &[u8], hops: &[u8], arriving: Arriving, j: usize) -> Tick
 {
     let distance = arriving.distance;
     if j < arriving.walks {
-        let way = Offset(word_at(walks, 16 * j + 8));
-        let sum = distance.0 + walked(way).0;
+        let way = walk_ticks(word_at(walks, 16 * j + 8), arriving.speed);
+        let sum = distance.0 + way.0;
         return Ticks(sum);
     }
     let arrival = arriving.arrival;

@@ -21,7 +21,7 @@ loop-holds c = (parts-start _ _ _ _ _ _ (c .before .before .pre .0), omega arith
 list-walk-requires : tie.Need-list-walk-requires Inv-loop μ-loop
 list-walk-requires c κs =
     let i = c .before .before .loop .inv in
-    (listed-room _ _ _ _ (c .before .before .before .before .before .pre .0) _ (i .0), omega (arith, c .before .before .before .before .before .pre .2))
+    (listed-room _ _ _ _ (c .before .before .before .before .before .pre .0) _ (i .0), omega (arith, c .before .before .before .before .before .pre .2), c .before .before .before .before .before .pre .3)
 
 same-length : tie.Need-same-length Inv-loop μ-loop
 same-length c =

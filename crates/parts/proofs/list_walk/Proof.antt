@@ -10,8 +10,10 @@ use Rattle.words.proofs.word_at.Reads as word-at-reads
 
 returns : tie.Need-returns
 returns c =
+    let rest = c .before .before .before .before .before .before .before in
     listed-as _ _ _ _ _ _
-    (part-on _ _ _ _ _ _ _ _ (c .before .before .before .before .before .before .before .word-at .ensures) (c .before .before .before .before .before .walked-back .ensures) (c .before .before .before .before .near-on .ensures) (c .before .before .before .larger .ensures))
+    (part-on _ _ _ _ _ _ _ _ _ _ _ (rest .before .before .before .word-at .ensures) (rest .before .before .length-of .ensures) (rest .before .wait-ticks .ensures) (rest .after-wait .ensures)
+    (c .before .before .before .before .before .walked-back .ensures) (c .before .before .before .before .near-on .ensures) (c .before .before .before .larger .ensures))
     (c .before .before .list-part .ensures)
 
 pub list-walk-spec : {M : Type 1} → statement M
@@ -20,6 +22,9 @@ list-walk-spec =
     (tie.spec
     (λ c. search needs)
     (λ c. search needs)
+    (λ c κs. search needs)
+    (λ c κs. search needs)
+    (λ c κs. search needs)
     (λ c κs. search needs)
     (λ c κs. search needs)
     (λ c κs. search needs)
