@@ -3,27 +3,32 @@ use Rattle.passing.proofs.OfferFits.{hop-distance}
 use Rattle.passing.specs.Row.{recordOf}
 use Rattle.journeys.specs.Bytes.{clocked}
 use Rattle.journeys.specs.Records.{offer}
-use Rattle.journeys.specs.Tables.{walkAt, hopAt}
+use Rattle.journeys.specs.Tables.{lenOf, waitOf, walkAt, hopAt}
 use borrow.Author.Tests.{lt-ltb, le-ltb}
 use native.Mathlib.Omega.{arith}
-use Prim.Native.Nat.{_+_, _-_, _<_}
+use Prim.Native.Nat.{ℕ, _+_, _-_, _*_, _≤_, _<_}
+use native.Mathlib.Nat.{mul-le-mul}
 use mathlib.Core.Logic.{inl}
 use borrow.Author.Needs.{needs}
 use Rattle.passing.proofs.offer_at.Statement.{statement}
 use Rattle.passing.proofs.offer_at.Tie as tie
 
+-- Whatever the bits of its length, a walk's ticks fit.
+way-fits : (bits speed : ℕ) → bits < 4294967296 → speed ≤ 100 → lenOf bits + waitOf bits * speed ≤ 16802715
+way-fits bits speed l h = let m : waitOf bits * speed ≤ 255 * 100 = mul-le-mul (let q : waitOf bits ≤ 255 = omega arith in q) h in omega arith
+
 add-sum : tie.Need-add-sum
-unfolding walkAt
 add-sum c =
     let s = c .before .before .before .before .before .before .before .before .before in
-    record { fits = omega (arith, s .pre .0 .lengths (s .args .j) (c .before .before .before .before .if1 .taken), s .pre .0 .distance, c .before .before .before .word-at .ensures, c .before .before .walked .ensures) }
+    record { fits = omega (arith, s .pre .0 .distance, c .before .before .walk-ticks .ensures, way-fits (c .before .before .before .word-at .result) (s .args .arriving .speed) (omega arith) (s .pre .0 .speed)) }
 
 returns : tie.Need-returns
 unfolding offer recordOf walkAt
 returns c =
     let s = c .before .before .before .before .before .before .before .before .before in
-    let d : s .args .arriving .distance .0 + c .before .before .walked .result .0 < 2147483647 = omega (arith, s .pre .0 .lengths (s .args .j) (c .before .before .before .before .if1 .taken), s .pre .0 .distance, c .before .before .before .word-at .ensures, c .before .before .walked .ensures) in
-    (rw (lt-ltb (s .args .j) (s .args .arriving .walks) (c .before .before .before .before .if1 .taken), c .before .before .walked .ensures, c .before .before .before .word-at .ensures), inl d)
+    let read = c .before .before .before in
+    let d : s .args .arriving .distance .0 + c .before .before .walk-ticks .result .0 < 2147483647 = omega (arith, s .pre .0 .distance, c .before .before .walk-ticks .ensures, way-fits (read .word-at .result) (s .args .arriving .speed) (omega arith) (s .pre .0 .speed)) in
+    (rw (lt-ltb (s .args .j) (s .args .arriving .walks) (read .before .if1 .taken), c .before .before .walk-ticks .ensures, read .word-at .ensures), inl d)
 
 hop-offer-requires : tie.Need-hop-offer-requires
 hop-offer-requires c κs =
