@@ -59,7 +59,7 @@ module _ (b : PartsLent) (Q : Query) where
     n = length (b .list) / 8
 
     abbrev road : Road
-    road = roadOf (Q .walk) (walkAt w (Q .walk)) (Q .offset)
+    road = roadOf w Q
 
     abbrev f : ℕ → List Part
     f = listedOn (b .vertices) w (b .list) road (allowed Q)
@@ -79,16 +79,16 @@ module _ (b : PartsLent) (Q : Query) where
         ∷ []) e (listRefusal 8 (vertexCount N) (allowed Q) (b .list)) (inr (inr (inr (inr (inl refl))))))
 
     -- what reading the road and listing ask for
-    pub road-fits : (Q .walk < length w / 16) × (Q .offset ≤ walkAt w (Q .walk) .len)
+    pub road-fits : (Q .walk < length w / 16) × (Q .offset ≤ walkAt w (Q .walk) .len) × (Q .speed ≤ 100)
     road-fits =
         let l : Q .walk < length w / 16 = omega (arith, ok .query .walk-low, walk-count (b .hopSize) (b .vertices) w (b .hops)) in
-        (l, rw (walk-at (b .hopSize) (b .vertices) w (b .hops) (Q .walk) l) at (ok .query .offset-low))
+        (l, rw (walk-at (b .hopSize) (b .vertices) w (b .hops) (Q .walk) l) at (ok .query .offset-low), ok .query .speed-high)
 
     pub query-high : (Q .duration ≤ 86400) × (Q .speed ≤ 100)
     query-high = (ok .query .duration-high, ok .query .speed-high)
 
-    pub list-fits : (D : ℕ) → D ≡ allowed Q → (length w / 16 ≤ 262144) × ((i : ℕ) → i < n → Sound (b .vertices) w (b .list) D i)
-    list-fits D q = (omega (arith, ok .tables .walks-few, walk-count (b .hopSize) (b .vertices) w (b .hops)), λ i l. rw q (entry-sound b Q e i l))
+    pub list-fits : (r : Road) → r ≡ road → (D : ℕ) → D ≡ allowed Q → (length w / 16 ≤ 262144) × ((i : ℕ) → i < n → Sound (b .vertices) w (b .list) D i) × (r .speed ≤ 100)
+    list-fits r s D q = (omega (arith, ok .tables .walks-few, walk-count (b .hopSize) (b .vertices) w (b .hops)), λ i l. rw q (entry-sound b Q e i l), subst (λ (z : Road). z .speed ≤ 100) (sym s) (ok .query .speed-high))
 
     pub covered-as : (r : Road) → r ≡ road → (D : ℕ) → D ≡ allowed Q → (b′ : List ℕ) (x : Covered) → CoveredIs (listedOn (b .vertices) w (b .list) r D) n (b .parts) b′ x → CoveredIs f n (b .parts) b′ x
     covered-as r q D d b′ x c = subst (λ (z : Road). CoveredIs (listedOn (b .vertices) w (b .list) z (allowed Q)) n (b .parts) b′ x) q (subst (λ (z : ℕ). CoveredIs (listedOn (b .vertices) w (b .list) r z) n (b .parts) b′ x) d c)
@@ -161,9 +161,9 @@ module _ (b : PartsLent) (Q : Query) where
           ∙ sym (parts-fit b Q e (λ j l. omega (arith, roomy j (omega (arith, l, settled-count (b .list))), ap length (same-parts j (omega (arith, l, settled-count (b .list)))))))
 
 -- ---- in the code's terms: r is what `cover` answered
-module _ (b : PartsLent) (Q : Query) (e : partsEarly b Q .number ≡ 0) (road : Road) (q : road ≡ roadOf (Q .walk) (walkAt (b .walks) (Q .walk)) (Q .offset)) (D : ℕ) (d : D ≡ allowed Q) (b′ : List ℕ) (r x : Covered) (same : r ≡ x) where
+module _ (b : PartsLent) (Q : Query) (e : partsEarly b Q .number ≡ 0) (road : Road) (q : road ≡ roadOf (b .walks) Q) (D : ℕ) (d : D ≡ allowed Q) (b′ : List ℕ) (r x : Covered) (same : r ≡ x) where
   pub covered-told : CoveredIs (listedOn (b .vertices) (b .walks) (b .list) road D) (length (b .list) / 8) (b .parts) b′ r
-      → CoveredIs (listedOn (b .vertices) (b .walks) (b .list) (roadOf (Q .walk) (walkAt (b .walks) (Q .walk)) (Q .offset)) (allowed Q)) (length (b .list) / 8) (b .parts) b′ x
+      → CoveredIs (listedOn (b .vertices) (b .walks) (b .list) (roadOf (b .walks) Q) (allowed Q)) (length (b .list) / 8) (b .parts) b′ x
   covered-told c = covered-as b Q e road q D d b′ x (subst (CoveredIs (listedOn (b .vertices) (b .walks) (b .list) road D) (length (b .list) / 8) (b .parts) b′) same c)
 
 -- the numbers and the bytes together

@@ -34,7 +34,7 @@ module _ (b : PartsLent) (Q : Query) (e : partsEarly b Q .number ≡ 0) where
   N = partsTables b
 
   abbrev road : Road
-  road = roadOf (Q .walk) (walkAt w (Q .walk)) (Q .offset)
+  road = roadOf w Q
 
   ok : Valid N Q
   ok = parts-valid b Q e

@@ -10,7 +10,7 @@ use lib.ListN.{length}
 use borrow.Author.Tests.{eq-eqb, ne-eqb, eqb-false}
 use Rattle.journeys.specs.Counting.{none, joined}
 use Rattle.journeys.specs.Tables.{Tables, Walk, walk, walkCount, tablesOf, vertexAt, walkAt}
-use Rattle.journeys.specs.Query.{Query, allowed, asked}
+use Rattle.journeys.specs.Query.{Query, allowed, asked, waitTicks, pastTicks}
 use Rattle.journeys.specs.Order.{settled}
 use Rattle.journeys.specs.Parts.{Part, part, near, firstPart, firstParts, partAt, partsAt}
 use Rattle.journeys.proofs.Tests.{cond-true, cond-false, same-or-below, split}
@@ -19,8 +19,9 @@ use Rattle.journeys.proofs.Valid.{good-walk, paired}
 use Rattle.journeys.specs.Valid.{Valid}
 use Rattle.records.specs.Arriving.{firstOf, endOf}
 use Rattle.records.specs.declared.Kind.the-variants.{Walks}
-use Rattle.parts.specs.Listing.{roadOf, nearOn, firstOn, partOn, partsOn}
+use Rattle.parts.specs.Listing.{pastOn, roadOf, backStart, nearOn, firstOn, partOn, partsOn}
 use Rattle.parts.specs.declared.Road.{Road}
+use Rattle.parts.proofs.Laws.{past-is}
 use Rattle.heldmap.proofs.ArrivingRun as arriving
 use Rattle.heldmap.proofs.ArrivingRun.{up-walk, walk-run}
 
@@ -55,7 +56,7 @@ module _ (size : ℕ) (v w h : List ℕ) (Q : Query) (ok : Valid (tablesOf size 
   N = tablesOf size v w h
 
   abbrev road : Road
-  road = roadOf (Q .walk) (walkAt w (Q .walk)) (Q .offset)
+  road = roadOf w Q
 
   low : {i : ℕ} → i < walkCount N → i < length w / 16
   low l = rw (walk-count size v w h) at l
@@ -69,7 +70,7 @@ module _ (size : ℕ) (v w h : List ℕ) (Q : Query) (ok : Valid (tablesOf size 
 
   part-is : (d i : ℕ) → i < walkCount N → partAt N Q d i ≡ partOn w road (allowed Q - d) i
   unfolding partAt partOn
-  part-is d i l = ap₂ (λ (x : Walk) (z : ℕ). part i (max (x .len - (allowed Q - d)) z) (x .len)) (walk-at size v w h i (low l)) (near-is i)
+  part-is d i l = ap₂ (λ (x : Walk) (z : ℕ). part i (max (x .len - (allowed Q - d - waitTicks Q x)) z) (x .len)) (walk-at size v w h i (low l)) (near-is i)
 
   -- At a settled vertex the run of its arriving walks has all its parts.
   pub parts-here : (x d : ℕ) → x < length v / 12
@@ -106,11 +107,15 @@ module _ (size : ℕ) (v w h : List ℕ) (Q : Query) (ok : Valid (tablesOf size 
   near-walk = cond-true _ _ (eq-eqb (Q .walk) (Q .walk) refl)
 
   -- Step 0 lists the parts of the query's road.
+  first-is : (i place : ℕ) → near N Q i ≡ place → firstPart N Q i ≡ part i (place - (allowed Q - pastOn w (Q .speed) i place)) place
+  unfolding firstPart
+  first-is i place e = ap₂ (λ (o p : ℕ). part i (o - (allowed Q - p)) o) e (ap (pastTicks Q (walk N i)) e ∙ past-is size v w h Q i place)
+
   pub parts-first : firstParts N Q ≡ firstOn road (allowed Q)
-  unfolding firstParts firstPart firstOn
+  unfolding firstParts firstOn
   parts-first =
-      ap₂ (λ (x y : List Part). x ++ y) (ap (λ (z : ℕ). part (Q .walk) (z - allowed Q) z) near-walk)
-      (ap (λ (x : Walk). cond (eqb (x .twin) none) [] (part (x .twin) (near N Q (x .twin) - allowed Q) (near N Q (x .twin)))) asked-is ∙ go (split (eqb (walkAt w (Q .walk) .twin) none)))
+      ap₂ (λ (x y : List Part). x ++ y) (first-is (Q .walk) (Q .offset) near-walk)
+      (ap (λ (x : Walk). cond (eqb (x .twin) none) [] (firstPart N Q (x .twin))) asked-is ∙ go (split (eqb (walkAt w (Q .walk) .twin) none)))
     where
       T : ℕ
       T = walkAt w (Q .walk) .twin
@@ -121,6 +126,6 @@ module _ (size : ℕ) (v w h : List ℕ) (Q : Query) (ok : Valid (tablesOf size 
       near-back : T ≢ none → near N Q T ≡ back
       near-back n = subst (λ (x : Walk). x .twin ≢ none → near N Q (x .twin) ≡ x .len - Q .offset) asked-is near-twin n
 
-      go : (eqb T none ≡ true) ⊎ (eqb T none ≡ false) → cond (eqb T none) [] (part T (near N Q T - allowed Q) (near N Q T)) ≡ cond (eqb T none) [] (part T (back - allowed Q) back)
+      go : (eqb T none ≡ true) ⊎ (eqb T none ≡ false) → cond (eqb T none) [] (firstPart N Q T) ≡ cond (eqb T none) [] (part T (backStart road (allowed Q)) back)
       go (inl e) = cond-true _ _ e ∙ sym (cond-true _ _ e)
-      go (inr e) = ap (λ (z : ℕ). cond (eqb T none) [] (part T (z - allowed Q) z)) (near-back (eqb-false T none e))
+      go (inr e) = ap (λ (ps : List Part). cond (eqb T none) [] ps) (first-is T back (near-back (eqb-false T none e)))

@@ -46,7 +46,7 @@ fn list_entry(
     road: Road,
     allowed: Ticks,
 ) -> Listed
-    requires { ⌜ (count ≤ length (now parts) / 12) × (i < length (now list) / 8) × (length (now walks) / 16 ≤ 262144) × Sound (now vertices) (now walks) (now list) (allowed .0) i ⌝ }
+    requires { ⌜ (count ≤ length (now parts) / 12) × (i < length (now list) / 8) × (length (now walks) / 16 ≤ 262144) × Sound (now vertices) (now walks) (now list) (allowed .0) i × (road .speed ≤ 100) ⌝ }
     ensures { λ r. ⌜ ListedIs count (entryOn (now (vertices .entry)) (now (walks .entry)) (now (list .entry)) road (allowed .0) i) (now (parts .entry)) (now (parts .exit)) r ⌝ }
 {
     let vertex = word_at(list, 8 * i) as usize;
@@ -65,7 +65,7 @@ fn cover(
     road: Road,
     allowed: Ticks,
 ) -> Covered
-    requires { ⌜ (length (now walks) / 16 ≤ 262144) × ((i : ℕ) → i < length (now list) / 8 → Sound (now vertices) (now walks) (now list) (allowed .0) i) ⌝ }
+    requires { ⌜ (length (now walks) / 16 ≤ 262144) × ((i : ℕ) → i < length (now list) / 8 → Sound (now vertices) (now walks) (now list) (allowed .0) i) × (road .speed ≤ 100) ⌝ }
     ensures { λ r. ⌜ CoveredIs (listedOn (now (vertices .entry)) (now (walks .entry)) (now (list .entry)) road (allowed .0)) (length (now (list .entry)) / 8) (now (parts .entry)) (now (parts .exit)) r ⌝ }
 {
     let Listed::Fits(first) = parts::list_first(parts, road, allowed) else {
@@ -204,7 +204,7 @@ pub fn parts(
     if found.number != 0 {
         return refusal(found.number, found.place);
     }
-    let road = parts::read_road(walks, q.walk, q.offset);
+    let road = parts::read_road(walks, q);
     match cover(parts, vertices, walks, list, road, intake::allowed(q)) {
         Covered::All(count) => fill(parts, count),
         Covered::Full(entry) => give_up(parts, entry),

@@ -21,7 +21,7 @@ use Rattle.journeys.specs.Records.{Record, walked, ridden, recordAt, recordCoun
 use Rattle.journeys.proofs.Tests.{cond-true, cond-false, le-or-lt, and-both, split}
 use Rattle.journeys.proofs.Counting.{count-grows, none-count}
 use Rattle.journeys.proofs.Decoding.{walk-at, hop-at, vertex-at, vertex-count, walk-count, hop-count}
-use Rattle.journeys.proofs.Valid.{good-walk, good-hop, allowed-high}
+use Rattle.journeys.proofs.Valid.{good-hop, allowed-high}
 use Rattle.journeys.specs.Valid.{Valid}
 use Rattle.journeys.proofs.Document.{ways, laws, loopless, walk-record, hop-record}
 use Rattle.journeys.proofs.Fits.{offer-fits, Fits}

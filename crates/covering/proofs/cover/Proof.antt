@@ -25,8 +25,9 @@ loop-holds c = (go-start _ _ _ _ _ _ _ _ (listed-is _ _ _ _ _ _ (c .before .firs
 list-entry-requires : tie.Need-list-entry-requires Inv-loop μ-loop
 list-entry-requires c κs =
     let at = c .before .before in
+    let s = at .before .before .before .before .before .before .before .before .before .before .before .before in
     let F = listed-is _ _ _ _ _ _ (at .before .before .first .given .1) (at .before .before .before .before .before .before .list-first .ensures) in
-    (go-room _ _ _ _ _ _ _ _ F _ _ _ (at .loop .inv .0), c .before .loop-test .taken, at .before .before .before .before .before .before .before .before .before .before .before .before .pre .0, at .before .before .before .before .before .before .before .before .before .before .before .before .pre .1 _ (c .before .loop-test .taken))
+    (go-room _ _ _ _ _ _ _ _ F _ _ _ (at .loop .inv .0), c .before .loop-test .taken, s .pre .0, s .pre .1 _ (c .before .loop-test .taken), s .pre .2)
 
 add-t20 : tie.Need-add-t20 Inv-loop μ-loop
 add-t20 c = omega (arith, c .before .before .before .before .before .before .loop-test .taken)

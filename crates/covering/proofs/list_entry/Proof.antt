@@ -18,7 +18,7 @@ list-arriving-requires : tie.Need-list-arriving-requires
 list-arriving-requires c κs =
     let s = c .before .before .before .before .before .before .before .before .before .before in
     let run = run-fits _ _ _ _ _ _ (s .pre .3) (c .before .before .before .before .before .word-at .ensures) _ _ (c .before .before .first-arriving .ensures) (c .before .end-arriving .ensures) in
-    (s .pre .0, run .0, run .1)
+    (s .pre .0, run .0, run .1, s .pre .4)
 
 returns : tie.Need-returns
 returns c =

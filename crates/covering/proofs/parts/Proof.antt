@@ -37,7 +37,7 @@ cover-requires c κs =
     let b = partsLent (now (a .args .vertices)) (now (a .args .walks)) (now (a .args .hops)) (a .args .hop-size) (now (a .args .list)) (now (a .args .parts)) in
     let Q = queryOf (a .args .q) in
     let e = fine-so-far _ (c .before .before .before .before .before .fault .ensures) (c .before .before .before .if1 .left) in
-    list-fits b Q e _ (c .allowed .ensures)
+    list-fits b Q e _ (c .before .before .read-road .ensures) _ (c .allowed .ensures)
 
 fill-requires : tie.Need-fill-requires
 fill-requires c κs =
