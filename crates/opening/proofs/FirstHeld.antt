@@ -3,30 +3,32 @@ use mathlib.Core.Path.{_≡_, sym, ap, ap₂, subst, fun-ext, _∙_}
 use mathlib.Core.Logic.{_≢_}
 use mathlib.Core.Bool.{Bool, not, cond, _||_}
 use mathlib.Core.List.{List, []}
-use Prim.Native.Nat.{ℕ, _-_, _/_, _%_, _≤_, _<_, min}
+use Prim.Native.Nat.{ℕ, _+_, _-_, _/_, _%_, _≤_, _<_, min}
 use native.Mathlib.Omega.{arith}
 use native.Mathlib.Decide.{ℕ-discrete}
 use lib.Dec.{eqb}
 use lib.ListN.{length}
 use borrow.Author.Tests.{eq-eqb, ne-eqb}
 use Rattle.journeys.specs.Counting.{none}
-use Rattle.journeys.specs.Tables.{Tables, Walk, vertexCount, vertexAt, walkAt}
-use Rattle.journeys.specs.Query.{Query, asked}
+use Rattle.journeys.specs.Tables.{Tables, Walk, walk, vertexCount, vertexAt, walkAt}
+use Rattle.journeys.specs.Query.{Query, asked, placeTicks, fromTicks, toTicks}
 use Rattle.journeys.specs.Order.{Settled}
 use Rattle.journeys.specs.Network.{Network, distanceIn}
 use Rattle.journeys.specs.Records.{network, departing}
 use Rattle.journeys.specs.Answers.{Lent, tables, heldAfter}
+use Rattle.journeys.proofs.Fits.{from-fits, to-fits}
 use Rattle.journeys.proofs.Valid.{GoodWalk, good-walk}
 use Rattle.journeys.specs.Valid.{Valid}
 use Rattle.journeys.proofs.Decoding.{vertex-count, walk-count, vertex-at, walk-at}
 use Rattle.worktable.specs.Map.{known, size}
 use Rattle.parts.specs.Listing.{roadOf}
 use Rattle.parts.specs.declared.Road.{Road}
+use Rattle.parts.proofs.Laws.{past-is}
 use Rattle.heldmap.specs.Model.{heldMap}
 use Rattle.heldmap.proofs.ArrivingRun.{good-vertex}
 use Rattle.heldmap.proofs.HeldMap.{size-held}
 use Rattle.heldmap.proofs.StepIsNext.{bounded-is}
-use Rattle.opening.specs.Seeds.{seedMap, atEnd, toIsSeed, firstMap}
+use Rattle.opening.specs.Seeds.{seedMap, fromTicksOf, toTicksOf, atEnd, toIsSeed, firstMap}
 use Rattle.opening.proofs.SeedsHeld.{two, seeds-held}
 use Rattle.opening.proofs.SeedTable.{size-first}
 
@@ -38,7 +40,7 @@ module _ (b : Lent) (Q : Query) (ok : Valid (tables b) Q) where
   G = network N Q
 
   abbrev pub road : Road
-  road = roadOf (Q .walk) (walkAt (b .walks) (Q .walk)) (Q .offset)
+  road = roadOf (b .walks) Q
 
   pub walk-low : Q .walk < length (b .walks) / 16
   walk-low = rw (walk-count (b .hopSize) (b .vertices) (b .walks) (b .hops)) at (ok .query .walk-low)
@@ -53,13 +55,22 @@ module _ (b : Lent) (Q : Query) (ok : Valid (tables b) Q) where
   vertices-as = vertex-count (b .hopSize) (b .vertices) (b .walks) (b .hops)
 
   -- the numbers of the road are small, and its ends are two vertices
-  pub road-fits : (Q .walk < length (b .walks) / 16) × (Q .offset ≤ walkAt (b .walks) (Q .walk) .len)
-  road-fits = (walk-low, subst (λ (x : Walk). Q .offset ≤ x .len) asked-is (ok .query .offset-low))
+  pub road-fits : (Q .walk < length (b .walks) / 16) × (Q .offset ≤ walkAt (b .walks) (Q .walk) .len) × (Q .speed ≤ 100)
+  road-fits = (walk-low, subst (λ (x : Walk). Q .offset ≤ x .len) asked-is (ok .query .offset-low), ok .query .speed-high)
 
-  pub road-small : (length (b .vertices) / 12 ≤ 65536) × (Q .walk < length (b .walks) / 16) × (Q .offset ≤ 100000) × (walkAt (b .walks) (Q .walk) .len - Q .offset ≤ 100000)
-  road-small =
-      let long : walkAt (b .walks) (Q .walk) .len ≤ 100000 = subst (λ (x : Walk). x .len ≤ 100000) asked-is (good .len-high) in
-      (omega (arith, ok .tables .vertices-few, vertices-as), walk-low, omega (arith, long, road-fits .1), omega (arith, long))
+  -- the ticks of both seeds
+  from-ticks : fromTicksOf road ≡ fromTicks N Q
+  from-ticks = ap (λ (k : ℕ). Q .offset + k) (sym (past-is (b .hopSize) (b .vertices) (b .walks) (b .hops) Q (Q .walk) (Q .offset)))
+
+  to-ticks : toTicksOf road ≡ toTicks N Q
+  to-ticks =
+      sym
+      (ap (λ (x : Walk). placeTicks Q (walk N (x .twin)) (x .len - Q .offset)) asked-is
+      ∙ ap (λ (k : ℕ). walkAt (b .walks) (Q .walk) .len - Q .offset + k)
+      (past-is (b .hopSize) (b .vertices) (b .walks) (b .hops) Q (walkAt (b .walks) (Q .walk) .twin) (walkAt (b .walks) (Q .walk) .len - Q .offset)))
+
+  pub road-small : (length (b .vertices) / 12 ≤ 65536) × (Q .walk < length (b .walks) / 16) × (fromTicksOf road ≤ 112000) × (toTicksOf road ≤ 112000)
+  road-small = (omega (arith, ok .tables .vertices-few, vertices-as), walk-low, omega (arith, from-ticks, from-fits N Q ok), omega (arith, to-ticks, to-fits N Q ok))
 
   pub road-ends : (walkAt (b .walks) (Q .walk) .from < length (b .vertices) / 12) × (walkAt (b .walks) (Q .walk) .to < length (b .vertices) / 12)
       × (walkAt (b .walks) (Q .walk) .from ≢ walkAt (b .walks) (Q .walk) .to)
@@ -90,8 +101,9 @@ module _ (b : Lent) (Q : Query) (ok : Valid (tables b) Q) where
   unfolding firstMap
   first-held =
       let E = walkAt (b .walks) (Q .walk) in
-      ap₂ (λ (m n : ℕ). seedMap (E .from) (known (Q .offset) 0 m) (E .to) (known (E .len - Q .offset) 0 n) (toIsSeed road)) (field (E .from) (road-ends .0)) (field (E .to) (road-ends .1))
-      ∙ ap (λ (x : Walk). seedMap (x .from) (known (Q .offset) 0 (departing N (x .from))) (x .to) (known (x .len - Q .offset) 0 (departing N (x .to))) (toIsSeed road)) (sym asked-is)
+      ap₂ (λ (m n : ℕ). seedMap (E .from) (known (fromTicksOf road) 0 m) (E .to) (known (toTicksOf road) 0 n) (toIsSeed road)) (field (E .from) (road-ends .0)) (field (E .to) (road-ends .1))
+      ∙ ap₂ (λ (m n : ℕ). seedMap (E .from) (known m 0 (departing N (E .from))) (E .to) (known n 0 (departing N (E .to))) (toIsSeed road)) from-ticks to-ticks
+      ∙ ap (λ (x : Walk). seedMap (x .from) (known (fromTicks N Q) 0 (departing N (x .from))) (x .to) (known (toTicks N Q) 0 (departing N (x .to))) (toIsSeed road)) (sym asked-is)
       ∙ fun-ext (λ u. seeds-held N Q ok (toIsSeed road) (sym to-is-seed-as) u)
 
   -- there are as many seeds as the definitions hold
@@ -106,10 +118,10 @@ module _ (b : Lent) (Q : Query) (ok : Valid (tables b) Q) where
   -- ---- the same with the road as the code has it
   module _ (r : Road) (e : r ≡ road) where
     pub road-needs : length (b .held) % 16 ≡ 0
-        → ((length (b .held) % 16 ≡ 0) × (length (b .vertices) / 12 ≤ 65536) × (r .walk < length (b .walks) / 16) × (r .near .0 ≤ 100000) × (r .back .0 ≤ 100000))
+        → ((length (b .held) % 16 ≡ 0) × (length (b .vertices) / 12 ≤ 65536) × (r .walk < length (b .walks) / 16) × (fromTicksOf r ≤ 112000) × (toTicksOf r ≤ 112000))
         × ((walkAt (b .walks) (r .walk) .from < length (b .vertices) / 12) × (walkAt (b .walks) (r .walk) .to < length (b .vertices) / 12)
         × (walkAt (b .walks) (r .walk) .from ≢ walkAt (b .walks) (r .walk) .to))
     road-needs h =
-        subst (λ (z : Road). ((length (b .held) % 16 ≡ 0) × (length (b .vertices) / 12 ≤ 65536) × (z .walk < length (b .walks) / 16) × (z .near .0 ≤ 100000) × (z .back .0 ≤ 100000))
+        subst (λ (z : Road). ((length (b .held) % 16 ≡ 0) × (length (b .vertices) / 12 ≤ 65536) × (z .walk < length (b .walks) / 16) × (fromTicksOf z ≤ 112000) × (toTicksOf z ≤ 112000))
         × ((walkAt (b .walks) (z .walk) .from < length (b .vertices) / 12) × (walkAt (b .walks) (z .walk) .to < length (b .vertices) / 12)
         × (walkAt (b .walks) (z .walk) .from ≢ walkAt (b .walks) (z .walk) .to))) (sym e) ((h, road-small .0, road-small .1, road-small .2, road-small .3), road-ends)

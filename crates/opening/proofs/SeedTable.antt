@@ -36,10 +36,10 @@ one-known : (d s n : ℕ) → one (known d s n) ≡ 1
 unfolding one
 one-known d s n = refl
 
-near-distance : (d : ℕ) → d ≤ 100000 → Figure d
+near-distance : (d : ℕ) → d ≤ 112000 → Figure d
 near-distance d h = inl (omega arith)
 
-pub first-seed : (t : Table) (b : List ℕ) (c u d n : ℕ) → Holds t b empty → t .capacity ≡ c → 1 ≤ c → u < 65536 → d ≤ 100000 → n < 65536
+pub first-seed : (t : Table) (b : List ℕ) (c u d n : ℕ) → Holds t b empty → t .capacity ≡ c → 1 ≤ c → u < 65536 → d ≤ 112000 → n < 65536
     → InOrder t b × (u < 65536) × Figure d × (n < 65536) × (mapOf t b u ≡ absent) × (size (mapOf t b) < t .capacity)
 unfolding empty size
 first-seed t b c u d n h e l ul dl nl =
@@ -50,7 +50,7 @@ pub after-first : (t r : Table) (b b1 : List ℕ) (u d n n′ : ℕ) → n ≡ n
 after-first t r b b1 u d n n′ q h g =
     record { order = g .holds .order; map = g .holds .map ∙ ap (λ (m : Map). put m u (known d 0 n)) (h .map) ∙ ap (λ (k : ℕ). put empty u (known d 0 k)) q }
 
-pub second-seed : (r : Table) (b : List ℕ) (from x s k u d n : ℕ) → Holds r b (put empty from (known x s k)) → from < 65536 → from ≢ u → 2 ≤ r .capacity → u < 65536 → d ≤ 100000 → n < 65536
+pub second-seed : (r : Table) (b : List ℕ) (from x s k u d n : ℕ) → Holds r b (put empty from (known x s k)) → from < 65536 → from ≢ u → 2 ≤ r .capacity → u < 65536 → d ≤ 112000 → n < 65536
     → InOrder r b × (u < 65536) × Figure d × (n < 65536) × (mapOf r b u ≡ absent) × (size (mapOf r b) < r .capacity)
 unfolding empty
 second-seed r b from x s k u d n h fl ne cap ul dl nl = (

@@ -10,7 +10,7 @@ use lib.Dec.{eqb}
 use borrow.Author.Tests.{eq-eqb, ne-eqb, lt-ltb, le-ltb}
 use Rattle.journeys.specs.Counting.{none, count}
 use Rattle.journeys.specs.Tables.{Tables, Walk}
-use Rattle.journeys.specs.Query.{Query, asked}
+use Rattle.journeys.specs.Query.{Query, asked, fromTicks, toTicks}
 use Rattle.journeys.specs.Network as network
 use Rattle.journeys.specs.Network.{Network, distanceIn, within, into, offered, remaining, met, held, row, entry}
 use Rattle.journeys.specs.Records.{seed, departing}
@@ -19,6 +19,7 @@ use Rattle.journeys.proofs.Tests.{and-right, cond-false}
 use Rattle.journeys.proofs.Counting.{least-skip, least-empty, none-count}
 use Rattle.journeys.proofs.Known.{not-within}
 use Rattle.journeys.proofs.Held.{departs, departs-is}
+use Rattle.journeys.proofs.Fits.{from-fits, to-fits}
 use Rattle.journeys.proofs.Valid.{GoodWalk, good-walk}
 use Rattle.journeys.specs.Valid.{Valid}
 use Rattle.worktable.specs.Map.{Entry, absent, known, Map, empty, put}
@@ -72,17 +73,17 @@ module _ (N : Tables) (Q : Query) (ok : Valid N Q) where
   abbrev pub two : Bool
   two = not (eqb (e .twin) none) || eqb (Q .offset) (e .len)
 
-  seed-from : seed N Q (e .from) ≡ Q .offset
+  seed-from : seed N Q (e .from) ≡ fromTicks N Q
   unfolding seed
   seed-from =
-      rw (eq-eqb (e .from) (e .from) refl, ne-eqb (e .to) (e .from) (λ z. good .apart (sym z))) (omega (arith, ok .query .offset-low, good .len-high))
+      rw (eq-eqb (e .from) (e .from) refl, ne-eqb (e .to) (e .from) (λ z. good .apart (sym z))) (omega (arith, from-fits N Q ok))
 
-  seed-to : seed N Q (e .to) ≡ cond two (e .len - Q .offset) none
+  seed-to : seed N Q (e .to) ≡ cond two (toTicks N Q) none
   unfolding seed
   seed-to = rw (ne-eqb (e .from) (e .to) (good .apart), eq-eqb (e .to) (e .to) refl) (go two)
     where
-      go : (t : Bool) → min none (cond t (e .len - Q .offset) none) ≡ cond t (e .len - Q .offset) none
-      go true = omega (arith, good .len-high)
+      go : (t : Bool) → min none (cond t (toTicks N Q) none) ≡ cond t (toTicks N Q) none
+      go true = omega (arith, to-fits N Q ok)
       go false = omega arith
 
   seed-other : (u : ℕ) → u ≢ e .from → u ≢ e .to → seed N Q u ≡ none
@@ -91,22 +92,22 @@ module _ (N : Tables) (Q : Query) (ok : Valid N Q) where
 
   -- the entries of the two
   abbrev pub fromEntry : Entry
-  fromEntry = known (Q .offset) 0 (departing N (e .from))
+  fromEntry = known (fromTicks N Q) 0 (departing N (e .from))
 
   abbrev pub toEntry : Entry
-  toEntry = known (e .len - Q .offset) 0 (departing N (e .to))
+  toEntry = known (toTicks N Q) 0 (departing N (e .to))
 
-  at-from : heldMap (records.network N Q) (distanceIn []) (e .from) ≡ known (Q .offset) 0 (departing N (e .from))
+  at-from : heldMap (records.network N Q) (distanceIn []) (e .from) ≡ known (fromTicks N Q) 0 (departing N (e .from))
   at-from =
-      first-seed (records.network N Q) (e .from) (omega (arith, seed-from, ok .query .offset-low, good .len-high))
+      first-seed (records.network N Q) (e .from) (omega (arith, seed-from, from-fits N Q ok))
       ∙ ap₂ (λ (d r : ℕ). known d 0 r) seed-from (departs-field N Q (e .from))
 
-  at-to : (t : Bool) → two ≡ t → heldMap (records.network N Q) (distanceIn []) (e .to) ≡ cond t (known (e .len - Q .offset) 0 (departing N (e .to))) absent
+  at-to : (t : Bool) → two ≡ t → heldMap (records.network N Q) (distanceIn []) (e .to) ≡ cond t (known (toTicks N Q) 0 (departing N (e .to))) absent
   at-to true q =
-      let s : seed N Q (e .to) ≡ e .len - Q .offset = seed-to ∙ ap (λ (b : Bool). cond b (e .len - Q .offset) none) q in
-      first-seed (records.network N Q) (e .to) (omega (arith, s, good .len-high)) ∙ ap₂ (λ (d r : ℕ). known d 0 r) s (departs-field N Q (e .to))
+      let s : seed N Q (e .to) ≡ toTicks N Q = seed-to ∙ ap (λ (b : Bool). cond b (toTicks N Q) none) q in
+      first-seed (records.network N Q) (e .to) (omega (arith, s, to-fits N Q ok)) ∙ ap₂ (λ (d r : ℕ). known d 0 r) s (departs-field N Q (e .to))
   at-to false q =
-      let s : seed N Q (e .to) ≡ none = seed-to ∙ ap (λ (b : Bool). cond b (e .len - Q .offset) none) q in
+      let s : seed N Q (e .to) ≡ none = seed-to ∙ ap (λ (b : Bool). cond b (toTicks N Q) none) q in
       first-other (records.network N Q) (e .to) (omega (arith, s))
 
   -- The map of the seeds is what the definitions hold before the first step.

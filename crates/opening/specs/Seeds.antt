@@ -2,7 +2,7 @@
 use mathlib.Core.Path.{_≡_}
 use mathlib.Core.Bool.{Bool, not, cond, _||_}
 use mathlib.Core.List.{List}
-use Prim.Native.Nat.{ℕ, _<_, _≤_}
+use Prim.Native.Nat.{ℕ, _+_, _<_, _≤_}
 use lib.Dec.{eqb}
 use Rattle.journeys.specs.Counting.{none}
 use Rattle.journeys.specs.Tables.{vertexAt, walkAt}
@@ -19,12 +19,12 @@ use Rattle.opening.specs.declared.Seeded.the-variants.{At, NoRoom}
 unfoldable pub seedMap : ℕ → Entry → ℕ → Entry → Bool → Map
 seedMap from x to y two = cond two (put (put empty from x) to y) (put empty from x)
 
--- the ticks of the two seeds of the query's road: what is left to walk from "from", and from "to" along the twin
+-- the ticks of the two seeds of the query's road: what it takes from "from", and from "to" along the twin, the wait that the place is past among it
 abbrev pub fromTicksOf : Road → ℕ
-fromTicksOf e = e .near .0
+fromTicksOf e = e .near .0 + e .past .0
 
 abbrev pub toTicksOf : Road → ℕ
-toTicksOf e = e .back .0
+toTicksOf e = e .back .0 + e .«past_back» .0
 
 -- whether the place is the end of the road
 unfoldable pub atEnd : Road → Bool

@@ -40,7 +40,7 @@ fn seeds(
     two: bool,
 ) -> Seeded
     requires { ⌜ (length (now held) % 16 ≡ 0) × (length (now vertices) / 12 ≤ 65536) ⌝ }
-    requires { ⌜ (from < length (now vertices) / 12) × (to < length (now vertices) / 12) × (from ≢ to) × (near .0 ≤ 100000) × (back .0 ≤ 100000) ⌝ }
+    requires { ⌜ (from < length (now vertices) / 12) × (to < length (now vertices) / 12) × (from ≢ to) × (near .0 ≤ 112000) × (back .0 ≤ 112000) ⌝ }
     ensures { λ r. ⌜ SeededIs (now (held .exit)) (min (length (now (held .entry)) / 16) (min (length (now (vertices .entry)) / 12) 65536)) (seedMap from (known (near .0) 0 (vertexAt (now (vertices .entry)) from .departing)) to (known (back .0) 0 (vertexAt (now (vertices .entry)) to .departing)) two) (cond two 2 1) r ⌝ }
 {
     let empty = worktable::start(held, vertices.len() / 12);
@@ -63,19 +63,24 @@ fn seeds(
     Seeded::At(worktable::insert(held, one, to as usize, back.0, departing_at(vertices, to)))
 }
 
-// The ticks of the two seeds: what is left to walk to the query place, from "from" of its road and from "to" along the twin.
+// The ticks of the two seeds: what it takes to the query place, from "from" of its road and from "to" along the twin, the wait that the place is past
+// among it.
 fn from_ticks(e: Road) -> Ticks
+    requires { ⌜ fromTicksOf e ≤ 112000 ⌝ }
     ensures { λ r. ⌜ r .0 ≡ fromTicksOf e ⌝ }
 {
     let near = e.near;
-    walked(near)
+    let past = e.past;
+    Ticks(walked(near).0 + past.0)
 }
 
 fn to_ticks(e: Road) -> Ticks
+    requires { ⌜ toTicksOf e ≤ 112000 ⌝ }
     ensures { λ r. ⌜ r .0 ≡ toTicksOf e ⌝ }
 {
     let back = e.back;
-    walked(back)
+    let past = e.past_back;
+    Ticks(walked(back).0 + past.0)
 }
 
 // Whether the query place is the end of its road.
@@ -95,7 +100,7 @@ fn to_is_seed(e: Road) -> bool
 
 // Step 0: the seeds in the table, or that it has no room for them.
 pub fn begin(vertices: &[u8], walks: &[u8], held: &mut [u8], road: Road) -> Stepped
-    requires { ⌜ (length (now held) % 16 ≡ 0) × (length (now vertices) / 12 ≤ 65536) × (road .walk < length (now walks) / 16) × (road .near .0 ≤ 100000) × (road .back .0 ≤ 100000) ⌝ }
+    requires { ⌜ (length (now held) % 16 ≡ 0) × (length (now vertices) / 12 ≤ 65536) × (road .walk < length (now walks) / 16) × (fromTicksOf road ≤ 112000) × (toTicksOf road ≤ 112000) ⌝ }
     requires { ⌜ (walkAt (now walks) (road .walk) .from < length (now vertices) / 12) × (walkAt (now walks) (road .walk) .to < length (now vertices) / 12) × (walkAt (now walks) (road .walk) .from ≢ walkAt (now walks) (road .walk) .to) ⌝ }
     ensures { λ r. ⌜ OpenIs (min (length (now (held .entry)) / 16) (min (length (now (vertices .entry)) / 12) 65536)) (firstMap (now (vertices .entry)) (now (walks .entry)) road) (cond (toIsSeed road) 2 1) (now (held .exit)) r ⌝ }
 {

@@ -34,7 +34,7 @@ fn all_steps<'a>(
     ensures { λ r. ⌜ Ends «hop_size» (now (vertices .entry)) (now (walks .entry)) (now (hops .entry)) (length (now (held .entry))) (length (now (settled .entry))) (queryOf q) limit (now (held .exit)) (now (settled .exit)) r ⌝ }
     ensures { λ _. ⌜ now (scratch .exit) ≡ replicate 2048 0 ⌝ }
 {
-    let road = parts::read_road(walks, q.walk, q.offset);
+    let road = parts::read_road(walks, q);
     let allowed = intake::allowed(q);
     match opening::begin(vertices, walks, held, road) {
         Stepped::Full(n) => Ended::Refused(n, 0),
