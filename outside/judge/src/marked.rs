@@ -1,12 +1,13 @@
 //! The marked cases M1 to M10 and the base job: what RULES 15 and 16 say of each,
 //! as one table. `fast`, `slow` and the library are held against it. The cases
 //! are pairs: a run, and the parts of its own list. Behind them stand lists of
-//! all kinds, for the parts operation alone, then hops with trips and moves, and
-//! rides of no minutes.
+//! all kinds, for the parts operation alone, then hops with trips and moves,
+//! rides of no minutes, and waits.
 
 mod lists;
 mod moments;
 mod trips;
+mod waits;
 
 use crate::network::{Network, Scene};
 use crate::outcome::{Call, Case, Outcome};
@@ -52,10 +53,11 @@ const fn marked(name: &'static str, make: fn() -> Case, wanted: &'static [Wanted
     Marked { name, make, wanted }
 }
 
-/// Every row: the marked cases, the lists, trips and moves, rides of no minutes.
+/// Every row: the marked cases, the lists, trips and moves, rides of no minutes,
+/// waits.
 pub fn all() -> impl Iterator<Item = &'static Marked> {
     let rows = MARKED.iter().chain(lists::ALL).chain(trips::ALL);
-    rows.chain(moments::ALL)
+    rows.chain(moments::ALL).chain(waits::ALL)
 }
 
 const MARKED: &[Marked] = &[
@@ -202,6 +204,7 @@ fn walk((from, to, length, twin): (u32, u32, u32, u32)) -> Walk {
         from,
         to,
         length,
+        wait: 0,
         twin,
     }
 }

@@ -35,6 +35,7 @@ impl Plan {
             from: from as u32,
             to: to as u32,
             length,
+            wait: 0,
             twin: NONE,
         });
     }

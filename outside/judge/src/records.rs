@@ -62,24 +62,39 @@ impl Vertex {
 pub struct Walk {
     pub from: u32,
     pub to: u32,
+    /// The lower three bytes of its word.
     pub length: u32,
+    /// Seconds at the "to" end, the top byte of that word.
+    pub wait: u32,
     pub twin: u32,
+}
+
+/// The bits of a walk's third word that are its length.
+const LENGTH_BITS: u32 = 24;
+
+/// Length and wait of a walk's third word.
+#[inline]
+pub fn apart(word: u32) -> (u32, u32) {
+    (word & ((1 << LENGTH_BITS) - 1), word >> LENGTH_BITS)
 }
 
 impl Walk {
     #[inline]
     pub fn read(table: &[u8], index: usize) -> Self {
         let bytes = &table[index * WALK..][..WALK];
+        let (length, wait) = apart(word(bytes, 8));
         Walk {
             from: word(bytes, 0),
             to: word(bytes, 4),
-            length: word(bytes, 8),
+            length,
+            wait,
             twin: word(bytes, 12),
         }
     }
 
     pub fn bytes(&self) -> [u8; WALK] {
-        lay(&[self.from, self.to, self.length, self.twin])
+        let both = self.wait << LENGTH_BITS | self.length;
+        lay(&[self.from, self.to, both, self.twin])
     }
 }
 

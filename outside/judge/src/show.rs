@@ -46,7 +46,11 @@ fn walk_line(w: Walk) -> String {
         NONE => "-".to_string(),
         twin => twin.to_string(),
     };
-    format!("walk {} {} {} {twin}", w.from, w.to, w.length)
+    let wait = match w.wait {
+        0 => String::new(),
+        wait => format!(" {wait}"),
+    };
+    format!("walk {} {} {} {twin}{wait}", w.from, w.to, w.length)
 }
 
 fn hop_line(h: Hop) -> String {

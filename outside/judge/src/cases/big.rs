@@ -43,6 +43,7 @@ impl Big {
 pub const ALL: &[Big] = &[
     big("full size", || full().run_case(NONE), 0, 0),
     big("full size, both", || full().pair_case(NONE), 0, 0),
+    big("full size, waits", || waiting().pair_case(NONE), 0, 0),
     big("full size, 1,000 steps", || full().pair_case(1_000), 0, 0),
     big("full size, check", || full().network.check_case(), 0, 0),
     somewhere(
@@ -229,6 +230,19 @@ fn broken(fault: fn(&mut Network)) -> Case {
     let mut scene = full();
     fault(&mut scene.network);
     scene.run_case(NONE)
+}
+
+/// The full size with waits of every length, those of twins apart, and the
+/// place past the longest.
+fn waiting() -> Scene {
+    let mut scene = full();
+    let longest = scene.query.record as usize;
+    for (record, walk) in scene.network.walks.iter_mut().enumerate() {
+        walk.wait = (record * 37 % 121) as u32;
+    }
+    scene.network.walks[longest].wait = 120;
+    scene.query.offset = scene.network.walks[longest].length;
+    scene
 }
 
 /// Every vertex has distance 0 by rides at T: the lower half to 32,767, which

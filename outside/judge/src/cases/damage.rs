@@ -14,6 +14,8 @@ pub enum Harm {
     WalkZero,
     WalkLong,
     WalkLonger,
+    WalkWaits,
+    WaitAlone,
     TwinSelf,
     TwinCount,
     TwinOther,
@@ -43,6 +45,8 @@ const HARMS: [&[Harm]; 5] = [
         Harm::WalkZero,
         Harm::WalkLong,
         Harm::WalkLonger,
+        Harm::WalkWaits,
+        Harm::WaitAlone,
         Harm::TwinSelf,
         Harm::TwinCount,
         Harm::TwinOther,
@@ -105,7 +109,9 @@ impl Harm {
             | Harm::WalkEnds
             | Harm::WalkZero
             | Harm::WalkLong
-            | Harm::WalkLonger => self.put_walk(network, place),
+            | Harm::WalkLonger
+            | Harm::WalkWaits
+            | Harm::WaitAlone => self.put_walk(network, place, rng),
             _ => self.put_hop(network, place),
         }
     }
@@ -121,7 +127,7 @@ impl Harm {
         }
     }
 
-    fn put_walk(self, network: &mut Network, place: usize) {
+    fn put_walk(self, network: &mut Network, place: usize, rng: &mut Rng) {
         let vertices = network.vertices.len() as u32;
         let walk = &mut network.walks[place];
         match self {
@@ -130,6 +136,8 @@ impl Harm {
             Harm::WalkEnds => walk.from = walk.to,
             Harm::WalkZero => walk.length = 0,
             Harm::WalkLong => walk.length = 100_001,
+            Harm::WalkWaits => walk.wait = rng.pick(&[121, 121, 122, 127, 128, 248, 255]),
+            Harm::WaitAlone => (walk.length, walk.wait) = (0, rng.pick(&[1, 120])),
             // On a pair this makes both records faulty, and neither alone.
             _ => walk.length = walk.length % 100_000 + 1,
         }
@@ -212,6 +220,9 @@ pub fn extremes(case: &Case, old: u32, index: usize) -> Vec<u32> {
         0x2000_0000 + index,
         0x0800_0000 + index,
     ]);
+    let waits = [1, 2, 119, 120, 121, 127, 128, 255];
+    values.extend(waits.map(|wait| old & 0xff_ffff | wait << 24));
+    values.extend(waits.map(|wait| wait << 24));
     values.extend([1, NONE, 0x8000_0000, 0x1000_0000, 0x0001_0000].map(|d| old.wrapping_add(d)));
     let window = case.query.duration.wrapping_mul(case.query.speed);
     values.extend([0, 1, NONE].map(|d| window.wrapping_add(d)));

@@ -147,7 +147,7 @@ fn damage(table: &mut Vec<u8>, size: usize, rng: &mut Rng) {
         2 | 3 => put(table, field, any_number(rng, count)),
         4 => {
             // A little more or less, or so much that only lower bits stay.
-            let more = rng.pick(&[1, 2, u32::MAX, 1 << 16, 1 << 28, 1 << 29, 1 << 31]);
+            let more = rng.pick(&[1, 2, u32::MAX, 1 << 16, 1 << 24, 1 << 28, 1 << 29, 1 << 31]);
             let number = word(table, field).wrapping_add(more);
             put(table, field, number);
         }
@@ -190,7 +190,12 @@ fn mend(case: &mut Case) {
         let walk = Walk::read(&case.walks, i);
         let long = (1..=100_000).contains(&walk.length);
         if inside(walk.from) && inside(walk.to) && walk.from != walk.to && long {
-            network.walks.push(Walk { twin: NONE, ..walk });
+            let wait = walk.wait % 121;
+            network.walks.push(Walk {
+                twin: NONE,
+                wait,
+                ..walk
+            });
         }
     }
     let size = case.hop_size as usize;

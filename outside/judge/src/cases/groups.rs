@@ -7,7 +7,7 @@ use super::{lists, small, trips};
 use crate::mutant::Sound;
 use crate::network::Scene;
 use crate::outcome::{Call, Case};
-use crate::records::{word, Answer, PartsAnswer, HELD, HOP, PART, SETTLED};
+use crate::records::{apart, word, Answer, PartsAnswer, HELD, HOP, PART, SETTLED};
 use crate::rng::Rng;
 
 /// The cases of one group; the kind of group follows from its number.
@@ -295,10 +295,9 @@ fn queries(scene: &Scene, rng: &mut Rng) -> Vec<Case> {
     };
     let record = scene.query.record as usize;
     let at = record * 16 + 8;
-    let length = if case.walks.is_empty() {
-        0
-    } else {
-        word(&case.walks, at)
+    let length = match case.walks.is_empty() {
+        true => 0,
+        false => apart(word(&case.walks, at)).0,
     };
     let mut cases = Vec::new();
     for field in 0..5 {

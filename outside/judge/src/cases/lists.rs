@@ -115,15 +115,20 @@ fn any(scene: &Scene, rng: &mut Rng) -> Vec<Settled> {
 
 /// A distance at which something turns: nothing or everything is left, or a
 /// walk that arrives at the vertex, or its part beside the place, is just
-/// covered.
+/// covered, or its wait just reached.
 fn distance(scene: &Scene, vertex: u32, rng: &mut Rng) -> u32 {
     let most = window(scene);
     let into = scene.network.walks.iter().filter(|w| w.to == vertex);
     let into: Vec<Walk> = into.copied().collect();
-    let turn = match rng.below(3) {
+    let turn = match rng.below(5) {
         _ if into.is_empty() => 0,
         0 => scene.query.offset,
-        _ => rng.pick(&into).length,
+        1 => rng.pick(&into).length,
+        turn => {
+            let walk = rng.pick(&into);
+            let wait = walk.wait.saturating_mul(scene.query.speed);
+            wait.saturating_add(if turn == 2 { 0 } else { walk.length })
+        }
     };
     let left = (i64::from(turn) + rng.range(-1, 1)).clamp(0, i64::from(most));
     match rng.below(8) {

@@ -4,7 +4,7 @@ use std::collections::BTreeSet;
 
 use crate::mutant::Sound;
 use crate::network::{Plan, Scene};
-use crate::records::{Answer, Hop, Query, Settled};
+use crate::records::{Answer, Hop, Query, Settled, Walk};
 use crate::rng::Rng;
 
 const FIRST_TIME: i64 = -86_400;
@@ -28,6 +28,9 @@ pub fn scene(rng: &mut Rng) -> Scene {
         add_roads(&mut plan, query.speed, rng);
         add_hops(&mut plan, query.arrival, rng);
     }
+    if rng.chance(50) {
+        waits(&mut plan, rng);
+    }
     let network = plan.build();
     let mut scene = Scene { network, query };
     place(&mut scene, rng);
@@ -37,8 +40,10 @@ pub fn scene(rng: &mut Rng) -> Scene {
     if rng.chance(40) {
         rides_at_once(&mut scene, rng);
     }
-    if rng.chance(35) {
-        window_at_distance(&mut scene, rng);
+    match rng.below(20) {
+        0..=6 => window_at_distance(&mut scene, rng),
+        7..=10 => window_at_wait(&mut scene, rng),
+        _ => {}
     }
     scene
 }
@@ -50,6 +55,9 @@ pub fn town(rng: &mut Rng) -> Scene {
     let side = rng.range(8, 16) as usize;
     let mut plan = streets(side, speed, rng);
     add_hops(&mut plan, 1_000, rng);
+    if rng.chance(50) {
+        waits(&mut plan, rng);
+    }
     let query = Query {
         record: 0,
         offset: 0,
@@ -188,6 +196,18 @@ fn add_roads(plan: &mut Plan, speed: u32, rng: &mut Rng) {
     }
 }
 
+/// Lights at the ends of some walks: each for itself, so that twins differ.
+fn waits(plan: &mut Plan, rng: &mut Rng) {
+    for walk in &mut plan.walks {
+        walk.wait = match rng.below(10) {
+            0..=3 => 0,
+            4..=7 => rng.range(1, 6) as u32,
+            8 => rng.pick(&[1, 119, 120]),
+            _ => rng.range(1, 120) as u32,
+        };
+    }
+}
+
 fn swap(plan: &mut Plan, a: usize, b: usize) {
     plan.walks.swap(a, b);
     for walk in &mut plan.walks {
@@ -232,9 +252,10 @@ fn place(scene: &mut Scene, rng: &mut Rng) {
     let record = rng.below(scene.network.walks.len());
     let length = scene.network.walks[record].length;
     scene.query.record = record as u32;
-    scene.query.offset = match rng.below(4) {
-        0 => 0,
-        1 => length,
+    scene.query.offset = match rng.below(8) {
+        0 | 1 => 0,
+        2 | 3 => length,
+        4 => length - 1,
         _ => rng.range(0, i64::from(length)) as u32,
     };
 }
@@ -257,6 +278,32 @@ fn window_at_distance(scene: &mut Scene, rng: &mut Rng) {
     }
     let distance = i64::from(rng.pick(&list).distance);
     let seconds = distance / i64::from(scene.query.speed) + rng.pick(&[0, 0, 0, 1, -1]);
+    scene.query.duration = seconds.clamp(1, 86_400) as u32;
+}
+
+/// Makes what is left at a vertex, or at the place itself, just reach the wait
+/// of a walk that ends there, or one second beside it.
+fn window_at_wait(scene: &mut Scene, rng: &mut Rng) {
+    let list = distances(scene);
+    if list.is_empty() {
+        return;
+    }
+    let far = rng.pick(&list);
+    let speed = i64::from(scene.query.speed);
+    let e = scene.network.walks[scene.query.record as usize];
+    let waiting = |walk: &&Walk| walk.wait > 0 && walk.to == far.vertex;
+    let into: Vec<Walk> = scene
+        .network
+        .walks
+        .iter()
+        .filter(waiting)
+        .copied()
+        .collect();
+    let (wait, distance) = match into.is_empty() {
+        true => (e.wait, 0),
+        false => (rng.pick(&into).wait, i64::from(far.distance)),
+    };
+    let seconds = (distance + speed - 1) / speed + i64::from(wait) + rng.pick(&[0, 0, 1, -1]);
     scene.query.duration = seconds.clamp(1, 86_400) as u32;
 }
 

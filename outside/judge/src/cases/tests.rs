@@ -121,7 +121,55 @@ fn features(case: &Case, outcome: &Outcome) -> Vec<&'static str> {
         "before midnight",
     );
     list.extend(moment_features(case, &settled, six.finished));
+    list.extend(wait_features(case, &settled));
     list
+}
+
+/// What a pair tries of waits.
+fn wait_features(case: &Case, settled: &[Settled]) -> Vec<&'static str> {
+    let q = case.query;
+    let walks = (0..case.walks.len() / WALK).map(|i| Walk::read(&case.walks, i));
+    let walks: Vec<Walk> = walks.collect();
+    let e = walks[q.record as usize];
+    let twin = walks.get(e.twin as usize);
+    let window = i64::from(q.duration * q.speed);
+    // At the end of each walk with a wait: what is left beyond the wait.
+    let own = |v: u32| settled.iter().find(|s| s.vertex == v).map(|s| s.distance);
+    let waiting = walks.iter().filter(|w| w.wait > 0);
+    let beyond = |w: &Walk| Some(window - i64::from(own(w.to)?) - i64::from(w.wait * q.speed));
+    let beyond: Vec<i64> = waiting.filter_map(beyond).collect();
+    let at_end = i64::from(e.wait * q.speed);
+    let mut names = vec![];
+    let mut add = |holds: bool, name| {
+        if holds {
+            names.push(name)
+        }
+    };
+    add(!beyond.is_empty(), "a wait at a settled vertex");
+    add(beyond.contains(&0), "a wait just reached");
+    add(beyond.contains(&-1), "a wait missed by a tick");
+    add(beyond.contains(&1), "a wait and a tick");
+    add(walks.iter().any(|w| w.wait == 120), "a wait of 120");
+    add(
+        twin.is_some_and(|twin| twin.wait != e.wait),
+        "twins with different waits",
+    );
+    add(e.wait > 0 && q.offset == e.length, "a place past a wait");
+    add(
+        q.offset == 0 && twin.is_some_and(|twin| twin.wait > 0),
+        "a place past the twin's wait",
+    );
+    add(
+        e.wait > 0 && q.offset == e.length - 1,
+        "a place just before a wait",
+    );
+    add(
+        q.offset == e.length && at_end > window,
+        "a wait longer than the time",
+    );
+    add(e.wait > 0 && q.speed == 1, "a wait at speed 1");
+    add(e.wait > 0 && q.speed == 100, "a wait at speed 100");
+    names
 }
 
 /// What a pair tries of rides of no minutes.
@@ -140,7 +188,8 @@ fn moment_features(case: &Case, settled: &[Settled], finished: u32) -> Vec<&'sta
     let walks = (0..case.walks.len() / WALK).map(|i| Walk::read(&case.walks, i));
     let walks: Vec<Walk> = walks.collect();
     let walked = |hop: &&Hop| {
-        let same = |w: &Walk| own(w.to).map(|d| d + w.length) == Some(ticks(hop));
+        let cost = |w: &Walk| w.length + w.wait * case.query.speed;
+        let same = |w: &Walk| own(w.to).map(|d| d + cost(w)) == Some(ticks(hop));
         walks.iter().any(|w| w.from == hop.from && same(w))
     };
     let falls = |w: &[Settled]| w[0].distance == w[1].distance && w[0].vertex > w[1].vertex;
@@ -217,7 +266,7 @@ fn every_feature_arises() {
             tally(&mut seen, features(&case, &outcome));
         }
     }
-    assert_eq!(seen.len(), 17, "{seen:#?}");
+    assert_eq!(seen.len(), 29, "{seen:#?}");
     assert!(seen.values().all(|&count| count >= 50), "{seen:#?}");
 }
 

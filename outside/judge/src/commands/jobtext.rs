@@ -108,7 +108,9 @@ fn vertex(fields: &[&str]) -> Result<Vec<u8>, String> {
 }
 
 fn walk(fields: &[&str]) -> Result<Vec<u8>, String> {
-    let f = counted(fields, &[4], "from, to, length, twin (- for none)")?;
+    let names = "from, to, length, twin (- for none; and the wait, if it is not 0)";
+    let f = counted(fields, &[4, 5], names)?;
+    let wait = f.get(4).copied().unwrap_or("0");
     let twin = match f[3] {
         "-" => NONE,
         word => unsigned(word, "twin")?,
@@ -116,7 +118,8 @@ fn walk(fields: &[&str]) -> Result<Vec<u8>, String> {
     let walk = Walk {
         from: unsigned(f[0], "from")?,
         to: unsigned(f[1], "to")?,
-        length: unsigned(f[2], "length")?,
+        length: number(f[2], "length", 0, 0xff_ffff)? as u32,
+        wait: number(wait, "wait", 0, 255)? as u32,
         twin,
     };
     Ok(laid(2, &walk.bytes()))
@@ -168,12 +171,15 @@ mod tests {
     #[test]
     fn lines_become_records() {
         let text = "# one of each\nvertex 1 2 3\n\nwalk 1 0 2000 - # no twin\n\
-                    hop 3 1 -5 7\nquery 1 2 3 70000 10\nraw 00ff 1\n";
-        assert!(encode(text).is_err_and(|e| e.starts_with("line 7:")));
+                    walk 0 1 2000 0 45\nhop 3 1 -5 7\nquery 1 2 3 70000 10\nraw 00ff 1\n";
+        assert!(encode(text).is_err_and(|e| e.starts_with("line 8:")));
         let job = encode(&text.replace("00ff 1", "00 ff")).unwrap_or_default();
         let mut right = vec![0, 0, 0, 1, 0, 0, 0, 1, 0, 0, 0, 2, 0, 3, 0, 0, 0, 0, 0, 0];
         right.extend([
             0, 0, 0, 2, 0, 0, 0, 1, 0, 0, 0, 0, 0, 0, 7, 0xd0, 255, 255, 255, 255,
+        ]);
+        right.extend([
+            0, 0, 0, 2, 0, 0, 0, 0, 0, 0, 0, 1, 45, 0, 7, 0xd0, 0, 0, 0, 0,
         ]);
         right.extend([
             0, 0, 0, 3, 0, 0, 0, 3, 0, 0, 0, 1, 255, 255, 255, 251, 0, 0, 0, 7,
@@ -191,6 +197,14 @@ mod tests {
         assert_eq!(
             message("vertex 0 0 1\nwalk 1 0 x -"),
             "line 2: length 'x' is no whole number"
+        );
+        assert_eq!(
+            message("walk 1 0 16777216 -"),
+            "line 1: length 16777216 does not fit, 0 to 16777215 do"
+        );
+        assert_eq!(
+            message("walk 1 0 7 - 256"),
+            "line 1: wait 256 does not fit, 0 to 255 do"
         );
         assert_eq!(
             message("query 1 2 3 4 256"),

@@ -12,6 +12,7 @@ use crate::records::{
 const MOST_VERTICES: usize = 65_536;
 const MOST_RECORDS: usize = 262_144;
 const MOST_LENGTH: u32 = 100_000;
+const MOST_WAIT: u32 = 120;
 const FIRST_TIME: i32 = -86_400;
 const LAST_TIME: i32 = 172_800;
 
@@ -152,11 +153,23 @@ fn bad_walk<F: Fault>(tables: Tables, fault: F) -> Option<Refusal> {
         walk.from >= vertices
             || walk.to >= vertices
             || (walk.from == walk.to && !fault.is(Mutant::SameEnds))
-            || walk.length < least
+            || (walk.length < least && !(fault.is(Mutant::LengthZeroWait) && walk.wait > 0))
             || walk.length > most
+            || !good_wait(walk.wait, fault)
             || !good_twin(tables.walks, i, walk, fault)
     })?;
     Some(Refusal::at(2, bad))
+}
+
+fn good_wait<F: Fault>(wait: u32, fault: F) -> bool {
+    let most = match fault {
+        _ if fault.is(Mutant::WaitLoose) => MOST_WAIT + 1,
+        _ if fault.is(Mutant::WaitTight) => MOST_WAIT - 1,
+        _ if fault.is(Mutant::WaitNever) => 0,
+        _ => MOST_WAIT,
+    };
+    let unsigned = !fault.is(Mutant::WaitSigned) || wait < 128;
+    wait <= most || !unsigned
 }
 
 /// A record is judged by its own twin field only.
@@ -178,6 +191,7 @@ fn good_twin<F: Fault>(walks: &[u8], index: usize, walk: Walk, fault: F) -> bool
     let ends = twin.from == walk.to && twin.to == walk.from;
     (ends || fault.is(Mutant::TwinEnds))
         && (twin.length == walk.length || fault.is(Mutant::TwinLength))
+        && (twin.wait == walk.wait || !fault.is(Mutant::TwinWaits))
         && (twin.twin == index as u32 || fault.is(Mutant::TwinNotBack))
 }
 
@@ -272,7 +286,11 @@ fn asked<F: Fault>(tables: Tables, query: Query, fault: F) -> Option<Refusal> {
     if query.record as usize >= tables.walks.len() / WALK {
         return Some(Refusal::at(7, 0));
     }
-    let length = Walk::read(tables.walks, query.record as usize).length;
+    let road = Walk::read(tables.walks, query.record as usize);
+    let length = match fault.is(Mutant::OffsetWide) {
+        true => road.length + (road.wait << 24),
+        false => road.length,
+    };
     let tight = fault.is(Mutant::OffsetTight) && query.offset == length;
     let early = query.arrival < 0 && !fault.is(Mutant::ArrivalUnsigned);
     let fewest = u32::from(!fault.is(Mutant::DurationZero));

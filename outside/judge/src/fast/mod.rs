@@ -9,6 +9,7 @@ mod order;
 mod parts;
 mod run;
 mod search;
+mod waits;
 
 pub use check::check;
 pub use job::{print, read, Job};

@@ -3,6 +3,7 @@
 use super::check::judge_parts;
 use super::list::{bad_entry, entries};
 use super::search::walks_into;
+use super::waits;
 use crate::mutant::{Fault, Mutant};
 use crate::records::{Part, PartsAnswer, Query, Refusal, Tables, Walk, NONE, PART};
 
@@ -99,15 +100,18 @@ impl<'a, F: Fault> Parts<'a, F> {
         } else {
             road.length - o
         };
-        let mut rows = [Some((self.query.record, o)), None];
+        let lights = waits::first_parts(self.tables, road, self.query, self.fault);
+        let mut rows = [Some((self.query.record, o, lights.own)), None];
         if road.twin != NONE || self.fault.is(Mutant::PartsAlways) {
-            rows[1] = Some((road.twin, back));
+            rows[1] = Some((road.twin, back, lights.twin));
         }
         if self.fault.is(Mutant::PartTwinFirst) {
             rows.swap(0, 1);
         }
-        for (record, end) in rows.into_iter().flatten() {
-            self.part(record, end.saturating_sub(self.window), end);
+        for (record, end, wait) in rows.into_iter().flatten() {
+            // Where nothing is left the part is a point, and left out.
+            let rest = self.window.saturating_sub(wait);
+            self.part(record, end.saturating_sub(rest), end);
         }
     }
 
@@ -117,6 +121,13 @@ impl<'a, F: Fault> Parts<'a, F> {
     pub fn arriving(&mut self, record: u32, walk: Walk, distance: u32) {
         // Never below zero, but with a mutant that lists beyond the window.
         let left = self.window.saturating_sub(distance);
+        let wait = waits::at_vertex(walk, self.query, self.fault);
+        let short = left < wait && self.fault.is(Mutant::PartWaitAll);
+        let left = if short {
+            left
+        } else {
+            left.saturating_sub(wait)
+        };
         let mut start = walk.length.saturating_sub(left);
         let mut end = walk.length;
         if self.fault.is(Mutant::PartFar) {

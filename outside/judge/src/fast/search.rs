@@ -7,6 +7,7 @@ use std::ops::Range;
 use super::hops;
 use super::order;
 use super::parts::Parts;
+use super::waits;
 use crate::mutant::{Fault, Mutant};
 use crate::records::{
     Hop, Lent, Query, Settled, Tables, Vertex, Walk, NONE, SETTLED, VERTEX, WALK,
@@ -94,10 +95,12 @@ impl<'a, 'b, F: Fault> Search<'a, 'b, F> {
     pub fn start(&mut self) {
         let (road, o) = (self.road, self.query.offset);
         let back = road.length - o;
-        let mut seeds = [Some((road.from, o)), None];
+        let lights = waits::seeds(self.tables, road, self.query, self.fault);
+        let mut seeds = [Some((road.from, o + lights.own)), None];
         let one_way = back == 0 && !self.fault.is(Mutant::SeedOneWay);
         if road.twin != NONE || one_way {
-            seeds[1] = Some((road.to, back));
+            let inner = if back == 0 { 0 } else { lights.twin };
+            seeds[1] = Some((road.to, back + inner));
         }
         if self.fault.is(Mutant::SeedOnVertex) && o == 0 {
             seeds[1] = None;
@@ -105,7 +108,7 @@ impl<'a, 'b, F: Fault> Search<'a, 'b, F> {
         for (vertex, distance) in seeds.into_iter().flatten() {
             let swapped = self.fault.is(Mutant::SeedSwapped);
             let distance = if swapped {
-                road.length - distance
+                road.length.saturating_sub(distance)
             } else {
                 distance
             };
@@ -176,7 +179,8 @@ impl<'a, 'b, F: Fault> Search<'a, 'b, F> {
                 parts.arriving(record as u32, walk, distance);
             }
             let twice = self.fault.is(Mutant::ParallelOnce) && before == walk.from;
-            self.meet(walk.from, Some(distance + walk.length), !twice);
+            let cost = waits::cost(walk, self.query, self.fault);
+            self.meet(walk.from, Some(distance + cost), !twice);
             before = walk.from;
         }
     }

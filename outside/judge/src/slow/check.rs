@@ -74,6 +74,7 @@ fn records(tables: Tables) -> Option<Given> {
             || !known(walk.to)
             || walk.from == walk.to
             || !(1..=100_000).contains(&walk.length)
+            || walk.wait > 120
             || !twin_in_order(&walks, i)
     })
     .or_else(|| {
@@ -94,13 +95,10 @@ fn twin_in_order(walks: &[Walk], i: usize) -> bool {
     if walk.twin == 0xffff_ffff {
         return true;
     }
-    let right = Walk {
-        from: walk.to,
-        to: walk.from,
-        length: walk.length,
-        twin: i as u32,
-    };
-    walks.get(walk.twin as usize) == Some(&right)
+    // The same road the other way; its lights are its own.
+    let road = |w: &Walk| (w.from, w.to, w.length, w.twin);
+    let right = (walk.to, walk.from, walk.length, i as u32);
+    walks.get(walk.twin as usize).map(road) == Some(right)
 }
 
 /// The tables ascend here (4 and 5 went before), so the number of records

@@ -58,18 +58,50 @@ impl Model {
         self.ticks(i64::from(self.query.duration))
     }
 
-    /// The query ends: how far the place is from each end that may reach it.
-    pub fn seeds(&self) -> Vec<(usize, i64)> {
+    pub fn wait(&self, walk: &Walk) -> i64 {
+        self.ticks(i64::from(walk.wait))
+    }
+
+    /// What a walk takes.
+    fn cost(&self, walk: &Walk) -> i64 {
+        i64::from(walk.length) + self.wait(walk)
+    }
+
+    /// The ways straight to the place: each record that leads there, the offset
+    /// on it where the place lies, and what is waited for there. The lights at
+    /// the far end are passed only where the place is that end itself.
+    pub fn straight(&self) -> Vec<(usize, i64, i64)> {
         let place = self.place();
-        let mut seeds = vec![(place.from as usize, self.offset())];
-        if place.twin != NONE || self.back() == 0 {
-            seeds.push((place.to as usize, self.back()));
+        let lights = |record: usize, end: i64| {
+            let walk = &self.walks[record];
+            match end == i64::from(walk.length) {
+                true => self.wait(walk),
+                false => 0,
+            }
+        };
+        let own = [(self.query.record, self.offset())].into_iter();
+        let twin = (place.twin != NONE).then(|| (place.twin, self.back()));
+        let ways = own.chain(twin);
+        let way = |(record, end): (u32, i64)| (record as usize, end, lights(record as usize, end));
+        ways.map(way).collect()
+    }
+
+    /// The query ends: how far the place is from each end that may reach it.
+    /// Where the place is the end of the road, that vertex is there already.
+    pub fn seeds(&self) -> Vec<(usize, i64)> {
+        let mut seeds = Vec::new();
+        for (record, end, lights) in self.straight() {
+            seeds.push((self.walks[record].from as usize, end + lights));
+        }
+        if self.back() == 0 {
+            seeds.truncate(1);
+            seeds.push((self.place().to as usize, 0));
         }
         seeds
     }
 
     pub fn walk_offer(&self, walk: &Walk, far: i64) -> i64 {
-        far + i64::from(walk.length)
+        far + self.cost(walk)
     }
 
     /// Board at the departure, if the arrival is not after T less `far`.
@@ -222,8 +254,11 @@ impl Model {
         let arriving = self.walks.iter().enumerate().skip(first);
         for (record, walk) in arriving.take_while(|(_, w)| w.to as usize == vertex) {
             let length = i64::from(walk.length);
-            let start = (length - left).max(0).max(self.clip(record));
-            put(&mut parts, record as u32, start, length);
+            let rest = left - self.wait(walk);
+            if rest >= 0 {
+                let start = (length - rest).max(0).max(self.clip(record));
+                put(&mut parts, record as u32, start, length);
+            }
         }
         parts
     }
@@ -231,11 +266,11 @@ impl Model {
     /// The parts of step 0.
     pub fn first_parts(&self) -> Vec<Part> {
         let mut parts = Vec::new();
-        let start = |end: i64| (end - self.window()).max(0);
-        let (o, back) = (self.offset(), self.back());
-        put(&mut parts, self.query.record, start(o), o);
-        if self.place().twin != NONE {
-            put(&mut parts, self.place().twin, start(back), back);
+        for (record, end, lights) in self.straight() {
+            let rest = self.window() - lights;
+            if rest >= 0 {
+                put(&mut parts, record as u32, (end - rest).max(0), end);
+            }
         }
         parts
     }

@@ -26,16 +26,24 @@ pub fn uncovered(tables: Tables, query: Query) -> Option<(usize, i64)> {
 /// Is there a journey from this point that starts within the window?
 fn in_time(model: &Model, record: usize, x: i64) -> bool {
     let walk = model.walks[record];
-    let on = i64::from(walk.length) - x;
+    let seconds = i64::from(walk.wait);
+    let on = i64::from(walk.length) - x + model.ticks(seconds);
     let by_end = model.distance[walk.to as usize].map(|d| d + on);
+    let o = model.offset();
     let end = if record == model.query.record as usize {
-        Some(model.offset())
+        Some(o)
     } else if record as u32 == model.place().twin {
-        Some(model.back())
+        Some(i64::from(walk.length) - o)
     } else {
         None
     };
-    let straight = end.filter(|&end| x <= end).map(|end| end - x);
+    // Whoever goes to the very end of the road has to wait at its lights.
+    let lights = |end: i64| match end == i64::from(walk.length) {
+        true => model.ticks(seconds),
+        false => 0,
+    };
+    let straight = end.filter(|&end| x <= end);
+    let straight = straight.map(|end| end - x + lights(end));
     let fits = |cost: i64| cost <= model.window();
     by_end.is_some_and(fits) || straight.is_some_and(fits)
 }
