@@ -77,7 +77,7 @@ static void print_part(const uint8_t *record)
     const uint8_t *walk = walks + SILTBROW_WALK_SIZE * siltbrow_get(record);
     printf("street %u to %u  from %5.1f m to %5.1f m of %.1f m\n", siltbrow_get(walk),
            siltbrow_get(walk + 4), siltbrow_get(record + 4) / 10.0, siltbrow_get(record + 8) / 10.0,
-           siltbrow_get(walk + 8) / 10.0);
+           siltbrow_get_length(walk) / 10.0);
 }
 
 static int refused(uint32_t refusal, uint32_t place)

@@ -16,7 +16,8 @@
  *
  *   vertex, 12 bytes: first arriving walk, first arriving hop,
  *                     departing records (2 bytes), zero (2 bytes)
- *   walk,   16 bytes: from, to, length in decimetres, twin or FFFFFFFF
+ *   walk,   16 bytes: from, to, wait in seconds (1 byte), length in decimetres
+ *                     (3 bytes), twin or FFFFFFFF
  *   hop,    16 bytes: from, to, departure, arrival
  *       or  20 bytes: the same and the trip, 0 for unknown
  *
@@ -24,6 +25,10 @@
  * them: hop_size, 16 or 20, the same for the whole table. A caller that knows
  * no trips passes 16 (SILTBROW_HOP_SIZE), and its tables stay as they are. A
  * trip says which vehicle a ride belongs to; no answer depends on it.
+ *
+ * The wait of a walk is spent at its "to" end, as at the lights of a crossing.
+ * Offset "length" lies past it and every smaller offset before it. A table
+ * without waits has lengths of 4 bytes whose first byte is 0.
  *
  * siltbrow_check judges the three tables, which it only reads, and returns
  * refusal * 2^32 + place: 0 where nothing is refused, otherwise the lowest
@@ -34,8 +39,9 @@
  *              262,144 hops (place: 0 vertex, 1 walk, 2 hop table); and where
  *              hop_size is not 16 or 20, also over an empty hop table (2)
  *   refusal 2: a walk's end is no vertex, its ends are equal, its length is
- *              not 1 to 100,000, or its twin is not the same road the other
- *              way that names it back (place: the walk record)
+ *              not 1 to 100,000, its wait is above 120, or its twin is not
+ *              the same road the other way, as long, that names it back; the
+ *              waits of twins may differ (place: the walk record)
  *   refusal 3: a hop's end is no vertex, its ends are equal, its times are
  *              not -86,400 to 172,800, or it arrives before it departs; one
  *              that arrives as it departs is good (place: the hop record)
@@ -63,7 +69,10 @@
  *             65,536 or more is none
  *
  * Distances are in ticks before the arrival: a second has "speed" of them, and
- * a decimetre walked takes one. "None" is FFFFFFFF.
+ * a decimetre walked takes one. A walk takes its length and its wait. The way
+ * from "from" straight to the query place takes the wait only where the place
+ * is offset "length"; on the twin, only where it is offset 0. "None" is
+ * FFFFFFFF.
  *
  * It fills two lent buffers with big-endian records, and what is left of each
  * with zero. All fields have 4 bytes.
@@ -115,6 +124,8 @@
  *           walk is covered, both ends included; first those at the query
  *           place (step 0), then those of each entry of the list in turn. One
  *           walk can have two parts. What is left of the buffer is zero.
+ *           Where a walk has a wait, its part is as long as the time beyond
+ *           that allows, and there is none where the time does not reach it.
  *
  * The list is the slice as it is given. For the list of a run that is 8 bytes
  * times its settled count (SILTBROW_LIST_BYTES), and not its whole settled
@@ -220,6 +231,10 @@
 /* The second number moves where a call changes, the third where only the
  * inside does; the first becomes 1 when all calls are there.
  *
+ * 0.6: the first byte of a walk's length is a wait at its "to" end; tables in
+ *      which it is 0 mean what they meant. siltbrow_get_length,
+ *      siltbrow_get_wait and siltbrow_put_length are new: a caller that reads
+ *      lengths takes them apart by these.
  * 0.5: a hop that arrives as it departs is no longer refused. Vertices at one
  *      distance can then be settled in another order than that of their
  *      numbers; on tables without such hops nothing changes.
@@ -231,9 +246,9 @@
  *      refusal 10 is gone from it; siltbrow_parts makes the parts. A page that
  *      shows streets calls it with the records that the run has settled.
  * 0.2: siltbrow_frame is new. */
-#define SILTBROW_VERSION "0.5.0"
+#define SILTBROW_VERSION "0.6.0"
 #define SILTBROW_VERSION_MAJOR 0
-#define SILTBROW_VERSION_MINOR 5
+#define SILTBROW_VERSION_MINOR 6
 #define SILTBROW_VERSION_PATCH 0
 
 #ifdef __cplusplus
@@ -291,12 +306,13 @@ uint64_t siltbrow_hops_backward(const uint8_t *source, size_t source_len,
 /* No step limit. */
 #define SILTBROW_NO_LIMIT 0xFFFFFFFFu
 
-/* The most that tables and query may have; times are in seconds, lengths in
- * decimetres, speeds in decimetres a second. */
+/* The most that tables and query may have; times and waits are in seconds,
+ * lengths in decimetres, speeds in decimetres a second. */
 #define SILTBROW_MAX_VERTICES 65536u
 #define SILTBROW_MAX_WALKS 262144u
 #define SILTBROW_MAX_HOPS 262144u
 #define SILTBROW_MAX_LENGTH 100000u
+#define SILTBROW_MAX_WAIT 120u
 #define SILTBROW_MIN_TIME (-86400)
 #define SILTBROW_MAX_TIME 172800
 #define SILTBROW_MAX_DURATION 86400u
@@ -436,6 +452,23 @@ static inline siltbrow_frame_answer siltbrow_read_frame(const uint8_t *bytes)
     return answer;
 }
 
+/* Length and wait of a walk record, and both put into one. A length has 3
+ * bytes, a wait 1: what is above that is lost. */
+static inline uint32_t siltbrow_get_length(const uint8_t *walk)
+{
+    return siltbrow_get(walk + 8) & 0xFFFFFFu;
+}
+
+static inline uint32_t siltbrow_get_wait(const uint8_t *walk)
+{
+    return walk[8];
+}
+
+static inline void siltbrow_put_length(uint8_t *walk, uint32_t length, uint32_t wait)
+{
+    siltbrow_put(walk + 8, (wait & 0xFFu) << 24 | (length & 0xFFFFFFu));
+}
+
 /* The trip of a hop record of 20 bytes; 0 is unknown. */
 static inline uint32_t siltbrow_get_trip(const uint8_t *hop)
 {
@@ -464,7 +497,7 @@ static inline const char *siltbrow_refusal_text(uint32_t refusal)
     switch (refusal) {
     case SILTBROW_ACCEPTED: return "nothing is refused";
     case SILTBROW_BAD_LENGTH: return "a length is no whole number of records, a table has too few or too many, or a hop's size is not 16 or 20";
-    case SILTBROW_BAD_WALK: return "a walk's ends, length or twin are wrong";
+    case SILTBROW_BAD_WALK: return "a walk's ends, length, wait or twin are wrong";
     case SILTBROW_BAD_HOP: return "a hop's ends or times are wrong";
     case SILTBROW_WALK_ORDER: return "the walks do not ascend by \"to\"";
     case SILTBROW_HOP_ORDER: return "the hops do not ascend by \"to\"";

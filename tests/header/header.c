@@ -115,6 +115,40 @@ static void bytes_test(void)
     count(siltbrow_get_time(b) == SILTBROW_MAX_TIME, "the last time comes back");
 }
 
+/* A walk's length and wait come back, and nothing beside them is written. */
+static void wait_test(void)
+{
+    static const uint32_t lengths[] = {0, 1, SILTBROW_MAX_LENGTH, 0xFFFFFFu}, seconds[] = {0, 1, SILTBROW_MAX_WAIT, 255};
+    uint8_t walk[SILTBROW_WALK_SIZE];
+    for (size_t i = 0; i < 4; i++)
+        for (size_t j = 0; j < 4; j++) {
+            put4(walk, 1, 2, SILTBROW_NONE, 3);
+            siltbrow_put_length(walk, lengths[i], seconds[j]);
+            count(siltbrow_get_length(walk) == lengths[i] && siltbrow_get_wait(walk) == seconds[j], "length and wait come back");
+            count(siltbrow_get(walk) == 1 && siltbrow_get(walk + 4) == 2 && siltbrow_get(walk + 12) == 3, "the ends and the twin stay");
+        }
+    siltbrow_put_length(walk, 0x1000001u, 0x101u);
+    count(siltbrow_get(walk + 8) == 0x01000001u, "what is above the bytes is lost");
+    siltbrow_put(walk + 8, 2000);
+    count(siltbrow_get_length(walk) == 2000 && siltbrow_get_wait(walk) == 0, "a length of old is one without a wait");
+}
+
+/* The place is past the lights of walk 0, then just before them. */
+static void crossing_test(void)
+{
+    fill();
+    siltbrow_put_length(walks, 1000, 30);
+    siltbrow_put_length(walks + SILTBROW_WALK_SIZE, 1000, 7);
+    siltbrow_answer all = ask(0, 1000, SILTBROW_MAX_TIME, 200, 10, sizeof held, sizeof settled);
+    count(all.settled == 2 && siltbrow_get(settled) == 0 && siltbrow_get(settled + 8) == 1 && siltbrow_get(settled + 12) == 1300,
+          "a place past the lights");
+    all = ask(0, 999, SILTBROW_MAX_TIME, 200, 10, sizeof held, sizeof settled);
+    count(all.settled == 2 && siltbrow_get(settled + 8) == 1 && siltbrow_get(settled + 12) == 999, "a place just before them");
+    all = ask(0, 0, SILTBROW_MAX_TIME, 200, 10, sizeof held, sizeof settled);
+    count(all.settled == 2 && siltbrow_get(settled + 8) == 0 && siltbrow_get(settled + 12) == 1070, "a place past the lights of the twin");
+    fill();
+}
+
 static void table_test(void)
 {
     size_t v = sizeof vertices, w = sizeof walks, h = sizeof hops;
@@ -123,6 +157,9 @@ static void table_test(void)
     checked(v, w - 1, h, SILTBROW_BAD_LENGTH, 1, "a cut walk");
     checked(v, w, h - 1, SILTBROW_BAD_LENGTH, 2, "a cut hop");
     broken(walks + 8, SILTBROW_MAX_LENGTH + 1, SILTBROW_BAD_WALK, 0, "a walk that is too long");
+    broken(walks + 8, SILTBROW_MAX_WAIT << 24 | SILTBROW_MAX_LENGTH, SILTBROW_ACCEPTED, 0, "the longest wait, that the twin has not");
+    broken(walks + 8, (SILTBROW_MAX_WAIT + 1) << 24 | SILTBROW_MAX_LENGTH, SILTBROW_BAD_WALK, 0, "a wait that is too long");
+    broken(walks + 8, SILTBROW_MAX_WAIT << 24, SILTBROW_BAD_WALK, 0, "a wait without a length");
     broken(walks + 12, SILTBROW_NONE, SILTBROW_BAD_WALK, 1, "a twin that does not name it back");
     broken(hops + 8, (uint32_t)(SILTBROW_MIN_TIME - 1), SILTBROW_BAD_HOP, 0, "a hop that is too early");
     broken(hops + 12, (uint32_t)(SILTBROW_MAX_TIME + 1), SILTBROW_BAD_HOP, 0, "a hop that is too late");
@@ -310,7 +347,9 @@ int main(void)
 {
     fill();
     bytes_test();
+    wait_test();
     table_test();
+    crossing_test();
     query_test();
     parts_test();
     count_test();
