@@ -1,6 +1,6 @@
-//! A city as CSV files: streets with from, to, metres, oneway; rides with
-//! from, to, departure, arrival; corners with name, east, north. The first
-//! line names the columns, which may stand in any order with others beside
+//! A city as CSV files: streets with from, to, metres, and where there are any
+//! oneway and the waits, wait and back; rides with from, to, departure,
+//! arrival; corners with name, east, north. The first line names the columns, which may stand in any order with others beside
 //! them. Fields may be "quoted".
 
 use crate::quantity;
@@ -128,15 +128,20 @@ fn add_street(town: &mut Town, row: &Row, source: &Source) -> Result<(), String>
         "1" | "yes" | "true" | "oneway" => true,
         other => return Err(format!("oneway '{other}' is neither yes nor no")),
     };
+    let wait = quantity::seconds(row.get("wait"))?;
+    let back = quantity::seconds(row.get("back"))?;
     let (from, to) = (row.corner("from")?, row.corner("to")?);
     let (from, to) = (town.corner(from), town.corner(to));
-    town.streets.push(Street {
+    let street = Street {
         from,
         to,
         length,
+        wait,
+        back,
         oneway,
         source: source.clone(),
-    });
+    };
+    town.streets.push(street.judged()?);
     Ok(())
 }
 
@@ -181,6 +186,10 @@ mod tests {
             (town.name(town.streets[0].from), town.streets[0].length),
             ("A", 125)
         );
+        let text = "from,to,metres,wait,back,oneway\nA,B,9,30,45,\nB,C,9,7,,yes\n";
+        assert_eq!(add_file(&mut town, text, &wanted, add_street), Ok(()));
+        let lights: Vec<[u32; 2]> = town.streets.iter().map(|s| [s.wait, s.back]).collect();
+        assert_eq!(lights, [[0, 0], [30, 45], [7, 0]]);
         let mut message = |text: &str| {
             let done = add_file(&mut town, text, &wanted, add_street);
             done.err().unwrap_or_default()
@@ -190,6 +199,8 @@ mod tests {
         );
         assert!(message("from,to,metres\nA,B\n").contains("line 2: 2 fields instead of 3"));
         assert!(message("from,to,metres\nA,B,x\n").contains("line 2: 'x' is no length"));
+        assert!(message("from,to,metres,wait\nA,B,9,x\n").contains("'x' is no wait in seconds"));
+        assert!(message("from,to,metres,back,oneway\nA,B,9,5,1\n").contains("goes one way"));
         assert!(message("").contains("no line that names the columns"));
     }
 }

@@ -56,32 +56,53 @@ fn within(value: i64, what: &str, most: i64) -> Result<u32, String> {
     }
 }
 
+/// A walk has three bytes for its length.
+const MOST_LENGTH: i64 = 0xff_ffff;
+
 /// A length in decimetres.
 pub fn length(words: &mut &[String]) -> Result<u32, String> {
     let units = [("m", 10), ("km", 10_000), ("dm", 1)];
     let value = measured(words, "the length", &units)?;
-    within(value, "the length", i64::from(u32::MAX))
+    within(value, "the length", MOST_LENGTH)
 }
 
 /// Metres without a unit, as in a CSV file.
 pub fn metres(word: &str) -> Result<u32, String> {
     let value = scaled(word, 10)
         .ok_or_else(|| format!("'{word}' is no length in metres and whole decimetres"))?;
-    within(value, "the length", i64::from(u32::MAX))
+    within(value, "the length", MOST_LENGTH)
 }
 
-/// A duration in seconds; several may follow one another, as in `1 h 30 min`.
-/// A job has three bytes for it.
-pub fn duration(words: &mut &[String]) -> Result<u32, String> {
+/// Seconds; several times may follow one another, as in `1 h 30 min`.
+fn lasting(words: &mut &[String], what: &str, most: i64) -> Result<u32, String> {
     let units = [("min", 60), ("s", 1), ("h", 3_600)];
-    let mut total = measured(words, "the duration", &units)?;
+    let mut total = measured(words, what, &units)?;
     while words
         .first()
         .is_some_and(|w| w.starts_with(|c: char| c.is_ascii_digit()))
     {
-        total += measured(words, "the duration", &units)?;
+        total += measured(words, what, &units)?;
     }
-    within(total, "the duration", 0xff_ffff)
+    within(total, what, most)
+}
+
+/// A duration in seconds. A job has three bytes for it.
+pub fn duration(words: &mut &[String]) -> Result<u32, String> {
+    lasting(words, "the duration", 0xff_ffff)
+}
+
+/// A wait in seconds. A walk has one byte for it.
+pub fn wait(words: &mut &[String]) -> Result<u32, String> {
+    lasting(words, "the wait", 255)
+}
+
+/// A wait in seconds without a unit, as in a CSV file; none is 0.
+pub fn seconds(word: &str) -> Result<u32, String> {
+    if word.is_empty() {
+        return Ok(0);
+    }
+    let value = scaled(word, 1).ok_or_else(|| format!("'{word}' is no wait in seconds"))?;
+    within(value, "the wait", 255)
 }
 
 /// A speed in decimetres a second. A job has one byte for it.
@@ -172,6 +193,7 @@ mod tests {
             "-3 m",
             "x m",
             "1.2.3 m",
+            "16777216 dm",
             "500000000 km",
         ] {
             assert!(length(&mut words(text).as_slice()).is_err(), "{text}");
@@ -210,6 +232,12 @@ mod tests {
         for (text, right) in [("10 min", 600), ("1 h 30 min", 5_400), ("90s", 90)] {
             assert_eq!(duration(&mut words(text).as_slice()), Ok(right), "{text}");
         }
+        for (text, right) in [("30 s", 30), ("1 min 30 s", 90), ("255 s", 255)] {
+            assert_eq!(wait(&mut words(text).as_slice()), Ok(right), "{text}");
+        }
+        assert!(wait(&mut words("256 s").as_slice()).is_err());
+        assert_eq!((seconds(""), seconds("45")), (Ok(0), Ok(45)));
+        assert!(seconds("4.5").is_err() && seconds("45 s").is_err() && seconds("256").is_err());
         assert_eq!(tell_duration(5_401), "1 h 30 min 1 s");
         assert_eq!(speed(&mut words("1.4 m/s").as_slice()), Ok(14));
         assert!(speed(&mut words("1.45 m/s").as_slice()).is_err());

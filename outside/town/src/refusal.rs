@@ -3,7 +3,7 @@
 
 use outside::records::{Refusal, JOB};
 
-use crate::quantity::tell_metres;
+use crate::quantity::{tell_duration, tell_metres};
 use crate::tables::Tables;
 use crate::town::{Ask, Town};
 
@@ -11,7 +11,7 @@ use crate::town::{Ask, Town};
 pub fn meaning(number: u32) -> &'static str {
     match number {
         1 => "a length is no whole number of records, or a table has too few or too many",
-        2 => "a walk's ends, length or twin are wrong",
+        2 => "a walk's ends, length, wait or twin are wrong",
         3 => "a hop's ends or times are wrong",
         4 => "the walks do not ascend by \"to\"",
         5 => "the hops do not ascend by \"to\"",
@@ -78,13 +78,16 @@ fn too_many(town: &Town, tables: &Tables, place: usize) -> Option<String> {
 }
 
 fn street(town: &Town, tables: &Tables, record: usize) -> Option<String> {
-    let street = &town.streets[tables.lane.get(record)?.street];
-    let reason = match street.from == street.to {
-        true => "it ends at the corner where it begins".to_string(),
-        false => format!(
-            "{} m is not between 0.1 m and 10 km",
-            tell_metres(street.length)
-        ),
+    let lane = tables.lane.get(record)?;
+    let street = &town.streets[lane.street];
+    let reason = if street.from == street.to {
+        "it ends at the corner where it begins".to_string()
+    } else if (1..=100_000).contains(&street.length) {
+        let wait = tell_duration(street.lights(lane.back));
+        format!("a wait of {wait} is more than 2 min")
+    } else {
+        let length = tell_metres(street.length);
+        format!("{length} m is not between 0.1 m and 10 km")
     };
     let name = town.street_name(street);
     Some(town.told(&street.source, &format!("street {name}: {reason}")))

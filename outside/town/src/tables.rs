@@ -56,6 +56,7 @@ impl Tables {
         let mut lanes = Vec::new();
         for (number, street) in town.streets.iter().enumerate() {
             let (from, to) = (vertex[street.from], vertex[street.to]);
+            let first = lanes.len();
             let lane = |back| Lane {
                 street: number,
                 back,
@@ -66,6 +67,9 @@ impl Tables {
             } else {
                 plan.road(from, to, street.length);
                 lanes.push(lane(true));
+            }
+            for (walk, lane) in plan.walks.iter_mut().zip(&lanes).skip(first) {
+                walk.wait = street.lights(lane.back);
             }
         }
         for ride in &town.rides {
@@ -269,6 +273,17 @@ mod tests {
         assert_eq!(asked(3).map(|q| q.offset), Ok(50));
         assert!(said(4).contains("no street touches D"));
         assert!(said(5).contains("no street and no ride has a corner 'E'"));
+    }
+
+    #[test]
+    fn each_way_has_its_own_wait() {
+        let town = town("street A B 10 m wait 30 s back 2 min\nstreet C A 5 m wait 7 s oneway\n");
+        let walks = Tables::of(&town).network.walks;
+        let rows: Vec<[u32; 4]> = walks
+            .iter()
+            .map(|w| [w.from, w.to, w.length, w.wait])
+            .collect();
+        assert_eq!(rows, [[1, 0, 100, 120], [2, 0, 50, 7], [0, 1, 100, 30]]);
     }
 
     #[test]

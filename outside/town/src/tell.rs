@@ -94,12 +94,26 @@ impl Story<'_> {
             let name = self.town.street_name(street);
             match stretches.is_empty() {
                 true => bare.push(name),
-                false => rows.push((name, told_stretches(street, stretches))),
+                false => {
+                    let said = told_stretches(street, stretches) + &self.lights(street);
+                    rows.push((name, said));
+                }
             }
         }
         let names: Vec<&str> = bare.iter().map(String::as_str).collect();
         columns("street", "in time, in metres from its first corner", rows)
             + &left_out("Nowhere in time", &names, "streets")
+    }
+
+    /// The waits of a street, each with the corner before which it is.
+    fn lights(&self, street: &Street) -> String {
+        let ends = [(street.wait, street.to), (street.back, street.from)];
+        let waits = ends.iter().filter(|(wait, _)| *wait > 0);
+        let wait = |(wait, corner): &(u32, usize)| {
+            let name = self.town.name(*corner);
+            format!("; a wait of {} before {name}", tell_duration(*wait))
+        };
+        waits.map(wait).collect()
     }
 
     fn held(&self) -> String {

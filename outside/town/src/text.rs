@@ -4,6 +4,7 @@
 //! ```text
 //! street Mill Church 200 m            # both ways
 //! street Church Station 1.2 km oneway
+//! street Mill Station 300 m wait 30 s back 45 s   # before Station, before Mill
 //! ride Mill Church 9:55:00 9:58:00
 //! corner Mill 0 120                   # east and north, for pictures
 //! ask on Mill Church at 50 m, by 10:00, within 10 min, at 1 m/s
@@ -108,17 +109,33 @@ fn street(town: &mut Town, mut words: &[String], source: &Source) -> Result<(), 
     let from = named(&mut words, "the corner where the street begins")?;
     let to = named(&mut words, "the corner where the street ends")?;
     let length = quantity::length(&mut words)?;
+    let wait = lights(&mut words, "wait")?;
+    let back = lights(&mut words, "back")?;
     let oneway = words.first().is_some_and(|word| word == "oneway");
     ended(&words[usize::from(oneway)..])?;
     let (from, to) = (town.corner(from), town.corner(to));
-    town.streets.push(Street {
+    let street = Street {
         from,
         to,
         length,
+        wait,
+        back,
         oneway,
         source: source.clone(),
-    });
+    };
+    town.streets.push(street.judged()?);
     Ok(())
+}
+
+/// The wait behind this word, 0 where the word is not there.
+fn lights(words: &mut &[String], word: &str) -> Result<u32, String> {
+    match words.split_first() {
+        Some((first, rest)) if first == word => {
+            *words = rest;
+            quantity::wait(words)
+        }
+        _ => Ok(0),
+    }
 }
 
 fn ride(town: &mut Town, mut words: &[String], source: &Source) -> Result<(), String> {

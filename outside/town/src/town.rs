@@ -24,6 +24,10 @@ pub struct Street {
     pub to: usize,
     /// In decimetres.
     pub length: u32,
+    /// Seconds at the lights before `to`.
+    pub wait: u32,
+    /// Seconds at the lights before `from`, on the way back.
+    pub back: u32,
     pub oneway: bool,
     pub source: Source,
 }
@@ -69,6 +73,24 @@ pub struct Town {
     pub rides: Vec<Ride>,
     pub asks: Vec<Ask>,
     numbers: HashMap<String, usize>,
+}
+
+impl Street {
+    /// The wait on the way there, or on the way back.
+    pub fn lights(&self, back: bool) -> u32 {
+        match back {
+            false => self.wait,
+            true => self.back,
+        }
+    }
+
+    /// A street that one may not go back has no lights on the way back.
+    pub fn judged(self) -> Result<Street, String> {
+        match self.oneway && self.back > 0 {
+            true => Err("there is a wait on the way back, but the street goes one way".to_string()),
+            false => Ok(self),
+        }
+    }
 }
 
 impl Town {

@@ -80,7 +80,7 @@ fn write(folder: &str, town: &Town, tables: &Tables) -> Result<(), String> {
         names += &format!("{vertex},{}\n", field(town.name(corner)));
     }
     keep(&format!("{folder}/names.csv"), names)?;
-    let mut walks = String::from("walk,from,to,decimetres,twin\n");
+    let mut walks = String::from("walk,from,to,decimetres,wait,twin\n");
     for (record, walk) in tables.network.walks.iter().enumerate() {
         let name = |vertex: u32| field(town.name(tables.corner[vertex as usize]));
         let twin = match walk.twin {
@@ -88,7 +88,8 @@ fn write(folder: &str, town: &Town, tables: &Tables) -> Result<(), String> {
             twin => twin.to_string(),
         };
         let (from, to) = (name(walk.from), name(walk.to));
-        walks += &format!("{record},{from},{to},{},{twin}\n", walk.length);
+        let (length, wait) = (walk.length, walk.wait);
+        walks += &format!("{record},{from},{to},{length},{wait},{twin}\n");
     }
     keep(&format!("{folder}/walks.csv"), walks)
 }
