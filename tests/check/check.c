@@ -223,6 +223,13 @@ static void records(void)
     damage("twin is the record itself", 'w', 16 * 4 + 12, 4, 2, 4);
     damage("twin that is not named back", 'w', 12, NONE, 2, 1);
     damage("lengths of a pair differ", 'w', 16 * 1 + 8, 1999, 2, 0);
+    damage("walk with a wait of 1", 'w', 16 * 3 + 8, 1u << 24 | 2500, 0, 0);
+    damage("walk with a wait of 120", 'w', 16 * 3 + 8, 120u << 24 | 2500, 0, 0);
+    damage("walk with a wait of 121", 'w', 16 * 3 + 8, 121u << 24 | 2500, 2, 3);
+    damage("walk with a wait of 128", 'w', 16 * 3 + 8, 128u << 24 | 2500, 2, 3);
+    damage("walk with a wait of 255", 'w', 16 * 3 + 8, 255u << 24 | 2500, 2, 3);
+    damage("walk with a wait and no length", 'w', 16 * 3 + 8, 120u << 24, 2, 2);
+    damage("walk with a wait, lengths of a pair differ", 'w', 16 * 3 + 8, 120u << 24 | 2501, 2, 2);
 
     t = base();
     put(t.w + 12, NONE);
@@ -231,6 +238,13 @@ static void records(void)
     put(t.w + 8, 1);
     put(t.w + 16 + 8, 100000);
     expect("the least and the greatest length", t, 0, 0);
+    put(t.w + 8, 120u << 24 | 1);
+    put(t.w + 16 + 8, 120u << 24 | 100000);
+    expect("the same with the greatest wait", t, 0, 0);
+    put(t.w + 8, 1u << 24);
+    expect("a wait alone", t, 2, 0);
+    put(t.w + 8, 1u << 24 | 100001);
+    expect("a wait and too long a length", t, 2, 0);
     release(t);
 
     damage("hop from no vertex", 'h', 0, 5, 3, 0);
@@ -410,7 +424,7 @@ static int bad_twin(tables t, uint32_t i)
     if (twin >= t.w_len / 16)
         return 1;
     x = t.w + 16 * (size_t)twin;
-    return get(x + 12) != i || get(x) != get(w + 4) || get(x + 4) != get(w) || get(x + 8) != get(w + 8);
+    return get(x + 12) != i || get(x) != get(w + 4) || get(x + 4) != get(w) || (get(x + 8) ^ get(w + 8)) << 8 != 0;
 }
 
 static int bad_ends(tables t, const uint8_t *r)
@@ -436,7 +450,7 @@ static uint64_t by_hand(tables t)
 {
     uint32_t i, walks = (uint32_t)(t.w_len / 16), hops = (uint32_t)(t.h_len / 16);
     for (i = 0; i < walks; i++)
-        if (bad_ends(t, t.w + 16 * i) || get(t.w + 16 * i + 8) - 1 > 99999 || bad_twin(t, i))
+        if (bad_ends(t, t.w + 16 * i) || (get(t.w + 16 * i + 8) & 0xFFFFFF) - 1 > 99999 || t.w[16 * i + 8] > 120 || bad_twin(t, i))
             return 2ull << 32 | i;
     for (i = 0; i < hops; i++) {
         int32_t departure = (int32_t)get(t.h + 16 * i + 8), arrival = (int32_t)get(t.h + 16 * i + 12);
@@ -465,7 +479,7 @@ static uint32_t next(uint32_t below)
 /* A good network of random records, with up to two words damaged. */
 static void random_tables(void)
 {
-    static const uint32_t words[] = {0, 1, 2, 3, 255, 256, 65536, 65537, 100000, 100001, 172800, 172801, 0x7FFFFFFF, 0x80000000, 0xFFFEAE80, 0xFFFEAE7F, 0xFFFFFFFE, NONE};
+    static const uint32_t words[] = {0, 1, 2, 3, 120u << 24, 120u << 24 | 2, 121u << 24 | 2, 255u << 24 | 1, 255, 256, 65536, 65537, 100000, 100001, 172800, 172801, 0x7FFFFFFF, 0x80000000, 0xFFFEAE80, 0xFFFEAE7F, 0xFFFFFFFE, NONE};
     int round;
     for (round = 0; round < 20000; round++) {
         uint32_t n = 2 + next(5), walks = next(8), hops = next(6), i, k;
@@ -474,12 +488,12 @@ static void random_tables(void)
         uint64_t answer;
         for (i = 0; i < walks; i++) {
             uint32_t to = i * n / walks;
-            record(t.w, i, (to + 1 + next(n - 1)) % n, to, 1 + next(3), NONE);
+            record(t.w, i, (to + 1 + next(n - 1)) % n, to, next(2) << 24 | (1 + next(3)), NONE);
         }
         for (i = 0; i + 1 < walks; i++) {
             k = i + 1 + next(walks - i - 1);
             if (get(t.w + 16 * i) == get(t.w + 16 * k + 4) && get(t.w + 16 * k) == get(t.w + 16 * i + 4) && get(t.w + 16 * i + 12) == NONE && get(t.w + 16 * k + 12) == NONE) {
-                put(t.w + 16 * k + 8, get(t.w + 16 * i + 8));
+                put(t.w + 16 * k + 8, next(121) << 24 | (get(t.w + 16 * i + 8) & 0xFFFFFF));
                 put(t.w + 16 * i + 12, k);
                 put(t.w + 16 * k + 12, i);
             }
