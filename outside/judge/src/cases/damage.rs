@@ -36,8 +36,8 @@ pub enum Harm {
     Zero,
 }
 
-/// The harms by the refusal they mostly lead to: 2, 3, 4, 5 and 6.
-const HARMS: [&[Harm]; 5] = [
+/// The harms by the refusal they mostly lead to: 2, twins apart, 3, 4, 5 and 6.
+const HARMS: [&[Harm]; 6] = [
     &[
         Harm::WalkFrom,
         Harm::WalkTo,
@@ -47,6 +47,8 @@ const HARMS: [&[Harm]; 5] = [
         Harm::WalkLonger,
         Harm::WalkWaits,
         Harm::WaitAlone,
+    ],
+    &[
         Harm::TwinSelf,
         Harm::TwinCount,
         Harm::TwinOther,
@@ -68,9 +70,9 @@ const HARMS: [&[Harm]; 5] = [
 ];
 
 /// Any harm; each refusal is as likely as the others, except that the many
-/// ways to break a walk come twice as often.
+/// ways to break a walk, and those of a twin, come as often each.
 pub fn any(rng: &mut Rng) -> Harm {
-    let class = rng.pick(&[0, 0, 1, 2, 3, 4]);
+    let class = rng.below(HARMS.len());
     rng.pick(HARMS[class])
 }
 
