@@ -99,8 +99,7 @@ impl<'a, 'b, F: Fault> Search<'a, 'b, F> {
         let mut seeds = [Some((road.from, o + lights.own)), None];
         let one_way = back == 0 && !self.fault.is(Mutant::SeedOneWay);
         if road.twin != NONE || one_way {
-            let inner = if back == 0 { 0 } else { lights.twin };
-            seeds[1] = Some((road.to, back + inner));
+            seeds[1] = Some((road.to, back + lights.twin));
         }
         if self.fault.is(Mutant::SeedOnVertex) && o == 0 {
             seeds[1] = None;
