@@ -8,9 +8,9 @@ use words::Offset;
 use words::Ticks;
 use words::word_at;
 ghost use mathlib.Core.Path.{_≡_};
-ghost use Prim.Native.Nat.{_-_, _/_, _<_, _≤_, max};
+ghost use Prim.Native.Nat.{_-_, _*_, _/_, _<_, _≤_, max};
 ghost use lib.ListN.{length};
-ghost use Rattle.journeys.specs.Tables.{walkAt};
+ghost use Rattle.journeys.specs.Tables.{waitOf, walkAt};
 ghost use Rattle.journeys.specs.Parts.{part};
 ghost use Rattle.records.specs.Asked.{queryOf};
 ghost use Rattle.parts.specs.Listing.{pastOn, roadOf, nearOn, firstOn, partOn, partsOn, ListedIs};
@@ -105,6 +105,17 @@ fn after_wait(left: Ticks, wait: Ticks) -> Ticks
     }
 }
 
+// The same by the bits of a walk's length. Most walks have no wait, and need no product.
+fn left_of(left: Ticks, bits: u32, speed: u32) -> Ticks
+    requires { ⌜ speed ≤ 100 ⌝ }
+    ensures { λ r. ⌜ r .0 ≡ left .0 - waitOf bits * speed ⌝ }
+{
+    if bits < 16777216 {
+        return left;
+    }
+    after_wait(left, wait_ticks(bits, speed))
+}
+
 fn larger(a: Offset, b: Offset) -> Offset
     ensures { λ r. ⌜ r .0 ≡ max (a .0) (b .0) ⌝ }
 {
@@ -154,7 +165,7 @@ fn list_walk(parts: &mut [u8], count: usize, walks: &[u8], i: u32, e: Road, left
 {
     let bits = word_at(walks, 16 * (i as usize) + 8);
     let len = length_of(bits);
-    let rest = after_wait(left, wait_ticks(bits, e.speed));
+    let rest = left_of(left, bits, e.speed);
     list_part(
         parts,
         count,

@@ -1,5 +1,5 @@
 -- A record judged in the bytes of its table is judged as `journeys` does. Assumes nothing.
-use mathlib.Core.Path.{_≡_, _∙_}
+use mathlib.Core.Path.{_≡_, refl, _∙_}
 use mathlib.Core.Bool.{Bool, true, false, _&&_}
 use mathlib.Core.List.{List, []}
 use Prim.Native.Nat.{ℕ, _+_, _/_, _<_}
@@ -44,11 +44,15 @@ module _ (size : ℕ) (v w h : List ℕ) where
     pub ends-decide : ends ≡ false → walkOk (tablesOf size v w h) i ≡ false
     ends-decide e = walk-ok i l ∙ and-left (twinOk (tablesOf 16 [] w []) i x) (and-left (waitOk (x .wait)) (and-left (lengthOk (x .len)) e))
 
-    pub length-decides : lengthOk (x .len) ≡ false → walkOk (tablesOf size v w h) i ≡ false
-    length-decides e = walk-ok i l ∙ and-left (twinOk (tablesOf 16 [] w []) i x) (and-left (waitOk (x .wait)) (and-right ends e))
-
     pub wait-decides : waitOk (x .wait) ≡ false → walkOk (tablesOf size v w h) i ≡ false
     wait-decides e = walk-ok i l ∙ and-left (twinOk (tablesOf 16 [] w []) i x) (and-right (ends && lengthOk (x .len)) e)
+
+    pub measures-decide : lengthOk (x .len) && waitOk (x .wait) ≡ false → walkOk (tablesOf size v w h) i ≡ false
+    measures-decide e = walk-ok i l ∙ and-left (twinOk (tablesOf 16 [] w []) i x) (go ends (lengthOk (x .len)) e)
+      where
+        go : (a b : Bool) → b && waitOk (x .wait) ≡ false → (a && b) && waitOk (x .wait) ≡ false
+        go true b q = q
+        go false b q = refl
 
     pub twin-decides : ends ≡ true → lengthOk (x .len) ≡ true → waitOk (x .wait) ≡ true → walkOk (tablesOf size v w h) i ≡ twinOk (tablesOf 16 [] w []) i x
     twin-decides e f g = walk-ok i l ∙ rw (e, f, g)

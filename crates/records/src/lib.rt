@@ -309,16 +309,16 @@ fn walk_ok(vertices: &[u8], walks: &[u8], i: u32) -> bool
 {
     let w = walk_at(walks, i as usize);
     let wait = w.wait;
-    if !wait_ok(wait) {
-        return false;
-    }
     if w.twin < i {
+        if !wait_ok(wait) {
+            return false;
+        }
         return walk_at(walks, w.twin as usize).twin == i;
     }
     if !ends_ok(vertices.len() / 12, w.from, w.to) {
         return false;
     }
-    if !length_ok(w.len.0) {
+    if !(length_ok(w.len.0) & wait_ok(wait)) {
         return false;
     }
     twin_ok(walks, i, w)

@@ -1,3 +1,4 @@
+use mathlib.Core.Path.{refl}
 use Rattle.parts.proofs.Laws.{listed-as, part-on}
 use borrow.Author.Needs.{needs}
 use Rattle.parts.proofs.list_walk.Statement.{statement}
@@ -12,7 +13,7 @@ returns : tie.Need-returns
 returns c =
     let rest = c .before .before .before .before .before .before .before in
     listed-as _ _ _ _ _ _
-    (part-on _ _ _ _ _ _ _ _ _ _ _ (rest .before .before .before .word-at .ensures) (rest .before .before .length-of .ensures) (rest .before .wait-ticks .ensures) (rest .after-wait .ensures)
+    (part-on _ _ _ _ _ _ _ _ _ _ _ (rest .before .before .word-at .ensures) (rest .before .length-of .ensures) refl (rest .left-of .ensures)
     (c .before .before .before .before .before .walked-back .ensures) (c .before .before .before .before .near-on .ensures) (c .before .before .before .larger .ensures))
     (c .before .before .list-part .ensures)
 
@@ -22,7 +23,6 @@ list-walk-spec =
     (tie.spec
     (λ c. search needs)
     (λ c. search needs)
-    (λ c κs. search needs)
     (λ c κs. search needs)
     (λ c κs. search needs)
     (λ c κs. search needs)
