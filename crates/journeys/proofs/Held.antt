@@ -1,4 +1,4 @@
--- The working table: who is held, that a dropped vertex stays dropped, and what one step does to each entry, record by record. Assumes nothing.
+-- The working table: who is held, that a dropped or forgotten vertex stays so, and what one step does to each entry, record by record. Assumes nothing.
 use mathlib.Core.Path.{_≡_, refl, sym, ap, _∙_}
 use mathlib.Core.Logic.{_⊎_, inl, inr, ⊎-elim, _≢_}
 use mathlib.Core.Bool.{Bool, true, false, not, cond, _&&_, _||_}
@@ -6,15 +6,15 @@ use mathlib.Core.List.{List, [], _∷_}
 use Prim.Native.Nat.{ℕ, suc, _+_, _-_, _≤_, _<_, min}
 use native.Mathlib.Omega.{arith}
 use lib.Dec.{eqb, ltb}
-use borrow.Author.Tests.{ltb-true, ltb-false, lt-ltb, eq-eqb, ne-eqb}
+use borrow.Author.Tests.{ltb-true, ltb-false, lt-ltb, le-ltb, eqb-true, eq-eqb, ne-eqb}
 use Rattle.journeys.specs.Counting.{none, least, count, joined, one}
 use Rattle.journeys.specs.Order.{Settled}
-use Rattle.journeys.specs.Network.{Network, Held, distanceIn, within, into, outside, known, remaining, met, held, row, entry, heldList, Dropped}
-use Rattle.journeys.proofs.Tests.{split, never, and-left, and-right, and-true, or-cases, or-left, or-right, or-none, cond-true, cond-false, same-test, le-or-lt}
+use Rattle.journeys.specs.Network.{Network, Held, distanceIn, within, into, outside, known, remaining, met, spent, held, row, entry, heldList, Dropped, Forgotten}
+use Rattle.journeys.proofs.Tests.{split, never, and-both, and-left, and-right, and-true, or-cases, or-left, or-right, or-none, cond-true, cond-false, same-test, le-or-lt}
 use Rattle.journeys.proofs.Counting.{is-one, least-empty, least-skip, count-mono, count-grows, count-skip, count-join, count-none, some-count, joined-same}
 use Rattle.journeys.proofs.Ways.{Ways, Arrives, leads, Laws, Loopless}
 use Rattle.journeys.proofs.Place.{key, key-less}
-use Rattle.journeys.proofs.Known.{upd, is-within, not-within, within-is, within-same, within-other, is-into, known-most, known-by, By, Next, next-dist}
+use Rattle.journeys.proofs.Known.{upd, is-within, not-within, within-is, within-same, within-other, is-into, known-most, known-seed, known-record, known-by, By, Next, next-dist}
 use Rattle.journeys.proofs.Step.{toward, through, through-none, known-step, remaining-step, into-step}
 use Rattle.journeys.proofs.Greedy.{State}
 use Rattle.journeys.proofs.Settling.{settled-known}
@@ -57,22 +57,25 @@ module _ (G : Network) where
         omega (arith, ltb-false 0 (count (into G far v) (G .records)) (p .1)),
       )
 
-  -- The least over the held unsettled entries is the least over all vertices outside S.
-  pub held-next : (far : ℕ → ℕ) (v : ℕ) → v < G .vertices → none ≤ far v → known G far v < none
-      → ((u : ℕ) → u < G .vertices → none ≤ far u → held G far u ≡ true → key (G .vertices) (known G far v) v ≤ key (G .vertices) (known G far u) u) → Next G far v
+  -- Who is known within D is not spent outside S, so it is held.
+  pub near-held : (far : ℕ → ℕ) (u : ℕ) → none ≤ far u → known G far u < none → known G far u ≤ G .allowed → held G far u ≡ true
   unfolding held
-  held-next far v vn out some least =
+  near-held far u out some near =
+      and-true (known-met far u some)
+      (ap not (and-right (eqb (remaining G far u) 0) (rw (not-within far u out) (le-ltb (G .allowed) (known G far u) near))))
+
+  -- The least over the held unsettled entries, where it is within D, is the least over all vertices outside S: who is not held is known above D.
+  pub held-next : (far : ℕ → ℕ) (v : ℕ) → v < G .vertices → none ≤ far v → known G far v < none → known G far v ≤ G .allowed
+      → ((u : ℕ) → u < G .vertices → none ≤ far u → held G far u ≡ true → key (G .vertices) (known G far v) v ≤ key (G .vertices) (known G far u) u) → Next G far v
+  held-next far v vn out some near least =
       record {
         low = vn;
         out = out;
         some = some;
         least = λ u a b.
-            ⊎-elim
-            (λ (q : none ≤ known G far u).
-            let l : known G far v < known G far u = omega arith in
-            omega (arith, key-less (G .vertices) {v = v} u vn l))
-            (λ (q : known G far u < none). least u a b (and-true (known-met far u q) (ap not (and-left (eqb (remaining G far u) 0) (not-within far u b)))))
-            (le-or-lt none (known G far u));
+            ⊎-elim (λ (q : known G far u ≤ known G far v). least u a b (near-held far u b (omega arith) (omega arith)))
+            (λ (q : known G far v < known G far u). omega (arith, key-less (G .vertices) {v = v} u vn q))
+            (le-or-lt (known G far u) (known G far v));
       }
 
   abbrev pub More : (ℕ → ℕ) → (ℕ → ℕ) → Type 0
@@ -97,18 +100,75 @@ module _ (G : Network) where
   dropped-stays far far′ h v g =
       (h v (g .0), omega (arith, g .1, count-mono (outside G far′ v) (outside G far v) (G .records) (λ r l. outside-less far far′ h v r)))
 
-  pub dropped-absent : (far : ℕ → ℕ) (v : ℕ) → Dropped G far v → entry G far v ≡ []
+  -- An entry is spent exactly if it is dropped or forgotten.
+  pub spent-is : (far : ℕ → ℕ) (v : ℕ) → spent (G .allowed) (within far v) (known G far v) (remaining G far v) ≡ true → Dropped G far v ⊎ Forgotten G far v
+  spent-is far v e =
+      let p = and-both (eqb (remaining G far v) 0) (within far v || ltb (G .allowed) (known G far v)) e in
+      let z : remaining G far v ≡ 0 = eqb-true (remaining G far v) 0 (p .0) in
+      ⊎-elim (λ (t : far v < none). inl (t, z))
+      (λ (t : none ≤ far v). inr (t, z, ltb-true (G .allowed) (known G far v) (or-second (not-within far v t) (p .1))))
+      (lt-or-le (far v) none)
+    where
+      or-second : {a b : Bool} → a ≡ false → (a || b) ≡ true → b ≡ true
+      or-second {a} {b} f h = ⊎-elim (λ (t : a ≡ true). never t f) (λ (t : b ≡ true). t) (or-cases a b h)
+
+      lt-or-le : (a b : ℕ) → (a < b) ⊎ (b ≤ a)
+      lt-or-le a b = ⊎-elim (λ (h : b ≤ a). inr h) (λ (h : a < b). inl h) (le-or-lt b a)
+
+  pub dropped-spent : (far : ℕ → ℕ) (v : ℕ) → Dropped G far v → spent (G .allowed) (within far v) (known G far v) (remaining G far v) ≡ true
+  dropped-spent far v g = and-true (eq-eqb (remaining G far v) 0 (g .1)) (or-left (ltb (G .allowed) (known G far v)) (is-within far v (g .0)))
+
+  pub forgotten-spent : (far : ℕ → ℕ) (v : ℕ) → Forgotten G far v → spent (G .allowed) (within far v) (known G far v) (remaining G far v) ≡ true
+  forgotten-spent far v g = and-true (eq-eqb (remaining G far v) 0 (g .1)) (or-right (within far v) (lt-ltb (G .allowed) (known G far v) (g .2)))
+
+  spent-absent : (far : ℕ → ℕ) (v : ℕ) → spent (G .allowed) (within far v) (known G far v) (remaining G far v) ≡ true → entry G far v ≡ []
   unfolding entry held
-  dropped-absent far v g =
-      cond-false (row G far v ∷ []) [] (and-right (met G far v) (ap not (and-true (is-within far v (g .0)) (eq-eqb (remaining G far v) 0 (g .1)))))
+  spent-absent far v e = cond-false (row G far v ∷ []) [] (and-right (met G far v) (ap not e))
+
+  pub dropped-absent : (far : ℕ → ℕ) (v : ℕ) → Dropped G far v → entry G far v ≡ []
+  dropped-absent far v g = spent-absent far v (dropped-spent far v g)
+
+  pub forgotten-absent : (far : ℕ → ℕ) (v : ℕ) → Forgotten G far v → entry G far v ≡ []
+  forgotten-absent far v g = spent-absent far v (forgotten-spent far v g)
+
+  -- Nobody above D all of whose records lead into S comes within D as S grows: there is no record left to offer anything.
+  pub hopeless-stays : (far far′ : ℕ → ℕ) → ((u : ℕ) → far u < none → far′ u ≡ far u) → G .allowed < none → (v : ℕ) → remaining G far v ≡ 0 → G .allowed < known G far v
+      → G .allowed < known G far′ v
+  unfolding remaining outside
+  hopeless-stays far far′ same small v z above =
+      ⊎-elim (λ (h : known G far′ v ≤ G .allowed). absurd (by (known-by G far′ v (G .allowed) small h))) (λ (h : G .allowed < known G far′ v). h) (le-or-lt (known G far′ v) (G .allowed))
+    where
+      by : By G far′ v (G .allowed) → ⊥
+      by (inl s) = omega (arith, known-seed G far v)
+      by (inr x) = ⊎-elim inside beyond (split (within far (G .to r)))
+        where
+          r : ℕ
+          r = x .0
+
+          inside : within far (G .to r) ≡ true → ⊥
+          inside t =
+              let w = within-is far (G .to r) t in
+              omega (arith, known-record G far v r (x .1 .0, x .1 .1, w), ap (G .offer r) (same (G .to r) w), x .2)
+
+          beyond : within far (G .to r) ≡ false → ⊥
+          beyond t = never (and-true (eq-eqb (G .from r) v (x .1 .1)) (ap not t)) (count-none (outside G far v) (G .records) z r (x .1 .0))
+
+  -- Once forgotten, always forgotten, as long as it is not settled.
+  pub forgotten-stays : (far far′ : ℕ → ℕ) → ((u : ℕ) → far u < none → far′ u ≡ far u) → G .allowed < none → (v : ℕ) → none ≤ far′ v → Forgotten G far v → Forgotten G far′ v
+  unfolding remaining
+  forgotten-stays far far′ same small v out g = (
+    out,
+    omega (arith, g .1, count-mono (outside G far′ v) (outside G far v) (G .records) (λ r l. outside-less far far′ (λ u h. omega (arith, same u h)) v r)),
+    hopeless-stays far far′ same small v (g .1) (g .2),
+  )
 
   -- ---- an entry, by its parts
   unfoldable pub slot : ℕ → ℕ → Bool → ℕ → List Held
-  slot u d state left = cond (state && eqb left 0) [] (record { vertex = u; distance = d; state = cond state 1 0; remaining = left } ∷ [])
+  slot u d state left = cond (spent (G .allowed) state d left) [] (record { vertex = u; distance = d; state = cond state 1 0; remaining = left } ∷ [])
 
   pub entry-slot : (far : ℕ → ℕ) (u : ℕ) → entry G far u ≡ cond (met G far u) (slot u (known G far u) (within far u) (remaining G far u)) []
   unfolding entry held row slot
-  entry-slot far u = go (met G far u) (within far u && eqb (remaining G far u) 0) (row G far u)
+  entry-slot far u = go (met G far u) (spent (G .allowed) (within far u) (known G far u) (remaining G far u)) (row G far u)
     where
       go : (m g : Bool) (x : Held) → cond (m && not g) (x ∷ []) [] ≡ cond m (cond g [] (x ∷ [])) []
       go true true x = refl
@@ -117,7 +177,7 @@ module _ (G : Network) where
 
   pub slot-some : (u d : ℕ) (state : Bool) (left : ℕ) → 0 < left → slot u d state left ≡ record { vertex = u; distance = d; state = cond state 1 0; remaining = left } ∷ []
   unfolding slot
-  slot-some u d state left h = cond-false [] _ (and-right state (ne-eqb left 0 (omega arith)))
+  slot-some u d state left h = cond-false [] _ (and-left (state || ltb (G .allowed) d) (ne-eqb left 0 (omega arith)))
 
   -- what a record of u to the vertex just settled does to u's entry: it makes an offer b, and one less remains; `dep` records leave u
   unfoldable pub touch : ℕ → ℕ → ℕ → List Held → List Held

@@ -20,6 +20,7 @@ pub mod Fits
 pub mod OrderLaws
 pub mod ByDistance
 pub mod Demands
+pub mod Forgetting
 pub mod Determined
 pub mod PartAnswers
 pub mod Cases

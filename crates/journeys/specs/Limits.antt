@@ -219,13 +219,13 @@ firstReasons =
 unfoldable pub roomLimits : List Case
 roomLimits =
     roomed 4 4 none
-    (0 ∷ 0 ∷ 4 ∷ 2 ∷ 1 ∷ []
-    ++ word 3 ++ word 2400 ++ word 1 ++ word 1 ++ word 4 ++ word 3300 ++ word 0 ++ word 0 ++ replicate 32 0
+    (0 ∷ 0 ∷ 4 ∷ 1 ∷ 1 ∷ []
+    ++ word 3 ++ word 2400 ++ word 1 ++ word 1 ++ replicate 48 0
     ++ word 1 ++ word 500 ++ word 0 ++ word 1500 ++ word 3 ++ word 2400 ++ word 2 ++ word 3000)
     -- the same journeys where the hop has a trip
     ∷ when (buffers (trips 7) 64 32) baseQuery none whole
-    (0 ∷ 0 ∷ 4 ∷ 2 ∷ 1 ∷ []
-    ++ word 3 ++ word 2400 ++ word 1 ++ word 1 ++ word 4 ++ word 3300 ++ word 0 ++ word 0 ++ replicate 32 0
+    (0 ∷ 0 ∷ 4 ∷ 1 ∷ 1 ∷ []
+    ++ word 3 ++ word 2400 ++ word 1 ++ word 1 ++ replicate 48 0
     ++ word 1 ++ word 500 ++ word 0 ++ word 1500 ++ word 3 ++ word 2400 ++ word 2 ++ word 3000)
     ∷ roomed 3 4 none (leaves 8 1 80 0)
     ∷ roomed 4 3 none (leaves 9 4 88 0)

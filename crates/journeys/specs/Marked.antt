@@ -104,24 +104,26 @@ parted lent room query view want = record { lent = lent; parts = replicate (12 *
 -- ---- M1 to M10, and the whole output of the base job before them
 unfoldable pub marked : List Case
 marked =
-    when base baseQuery none numbers (0 ∷ 0 ∷ 4 ∷ 2 ∷ 1 ∷ [])
+    when base baseQuery none numbers (0 ∷ 0 ∷ 4 ∷ 1 ∷ 1 ∷ [])
     ∷ when base baseQuery none settledOf (1 ∷ 500 ∷ 0 ∷ 1500 ∷ 3 ∷ 2400 ∷ 2 ∷ 3000 ∷ [])
     ∷ parted base 20 baseQuery partNumbers (0 ∷ 0 ∷ 6 ∷ [])
     ∷ parted base 20 baseQuery partsOf (1 ∷ 0 ∷ 1500 ∷ 0 ∷ 0 ∷ 500 ∷ 1 ∷ 1500 ∷ 2000 ∷ 2 ∷ 0 ∷ 2500 ∷ 0 ∷ 500 ∷ 2000 ∷ 4 ∷ 300 ∷ 900 ∷ [])
-    ∷ when base baseQuery none heldOf (3 ∷ 2400 ∷ 1 ∷ 1 ∷ 4 ∷ 3300 ∷ 0 ∷ 0 ∷ [])
+    ∷ when base baseQuery none heldOf (3 ∷ 2400 ∷ 1 ∷ 1 ∷ [])
     -- M1 to M4: limits 0 to 3
     ∷ when base baseQuery 0 heldOf (0 ∷ 1500 ∷ 0 ∷ 1 ∷ 1 ∷ 500 ∷ 0 ∷ 2 ∷ [])
     ∷ when base baseQuery 1 heldOf (0 ∷ 1500 ∷ 0 ∷ 0 ∷ 1 ∷ 500 ∷ 1 ∷ 2 ∷ 2 ∷ 3000 ∷ 0 ∷ 0 ∷ 3 ∷ 2400 ∷ 0 ∷ 1 ∷ [])
     ∷ when base baseQuery 2 heldOf (1 ∷ 500 ∷ 1 ∷ 1 ∷ 2 ∷ 3000 ∷ 0 ∷ 0 ∷ 3 ∷ 2400 ∷ 0 ∷ 1 ∷ [])
-    ∷ when base baseQuery 3 heldOf (1 ∷ 500 ∷ 1 ∷ 1 ∷ 2 ∷ 3000 ∷ 0 ∷ 0 ∷ 3 ∷ 2400 ∷ 1 ∷ 1 ∷ 4 ∷ 3300 ∷ 0 ∷ 0 ∷ [])
-    -- M5: a second less
+    ∷ when base baseQuery 3 heldOf (1 ∷ 500 ∷ 1 ∷ 1 ∷ 2 ∷ 3000 ∷ 0 ∷ 0 ∷ 3 ∷ 2400 ∷ 1 ∷ 1 ∷ [])
+    -- M5: a second less, and vertex 2 is hopeless as soon as it is met: three slots are enough
     ∷ when base (ask 1 1500 299) none settledOf (1 ∷ 500 ∷ 0 ∷ 1500 ∷ 3 ∷ 2400 ∷ [])
+    ∷ when (rooms 3 5) (ask 1 1500 299) 1 heldOf (0 ∷ 1500 ∷ 0 ∷ 0 ∷ 1 ∷ 500 ∷ 1 ∷ 2 ∷ 3 ∷ 2400 ∷ 0 ∷ 1 ∷ [])
+    ∷ when (rooms 2 5) (ask 1 1500 299) none numbers (refused 8 1)
     ∷ parted base 20 (ask 1 1500 299) partsOf (1 ∷ 0 ∷ 1500 ∷ 0 ∷ 0 ∷ 500 ∷ 1 ∷ 1500 ∷ 2000 ∷ 2 ∷ 10 ∷ 2500 ∷ 0 ∷ 510 ∷ 2000 ∷ 4 ∷ 310 ∷ 900 ∷ [])
     -- M6: a hop that is just in time, and one that is a second late
     ∷ when (hopAt 35760 35950) baseQuery none settledOf (1 ∷ 500 ∷ 0 ∷ 1500 ∷ 3 ∷ 2400 ∷ 2 ∷ 3000 ∷ [])
     ∷ when (hopAt 35760 35951) baseQuery 1 heldOf (0 ∷ 1500 ∷ 0 ∷ 0 ∷ 1 ∷ 500 ∷ 1 ∷ 2 ∷ 2 ∷ 3000 ∷ 0 ∷ 0 ∷ 3 ∷ none ∷ 0 ∷ 1 ∷ [])
     -- M7: held room
-    ∷ when (rooms 4 5) baseQuery none numbers (0 ∷ 0 ∷ 4 ∷ 2 ∷ 1 ∷ [])
+    ∷ when (rooms 4 5) baseQuery none numbers (0 ∷ 0 ∷ 4 ∷ 1 ∷ 1 ∷ [])
     ∷ when (rooms 3 5) baseQuery none numbers (refused 8 1)
     -- M8: part room, settled room
     ∷ parted base 5 baseQuery partNumbers (10 ∷ 3 ∷ 0 ∷ [])

@@ -4,7 +4,7 @@ use Prim.Native.Nat.{ℕ, _+_, _-_, min}
 use lib.Dec.{eqb, leb, ltb}
 use Rattle.journeys.specs.Counting.{none, count}
 use Rattle.journeys.specs.Tables.{Tables, Walk, Hop, walk, hop, vertexCount, walkCount, hopCount}
-use Rattle.journeys.specs.Query.{Query, before, asked, walkTicks, fromTicks, toTicks}
+use Rattle.journeys.specs.Query.{Query, allowed, before, asked, walkTicks, fromTicks, toTicks}
 use Rattle.journeys.specs.Network.{Network}
 
 pub data Record : Type 0 where
@@ -46,6 +46,7 @@ network N Q =
     record {
       vertices = vertexCount N;
       records = recordCount N;
+      allowed = allowed Q;
       from = λ r. from (recordAt N r);
       to = λ r. to (recordAt N r);
       seed = seed N Q;

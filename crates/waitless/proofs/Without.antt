@@ -105,7 +105,7 @@ module _ (N : Tables) (W : Waitless N) where
     network-same = ap₂ over (fun-ext seed-same) (fun-ext offer-same)
       where
         over : (ℕ → ℕ) → (ℕ → ℕ → ℕ) → Network
-        over seed offer = record { vertices = networkBefore N Q .vertices; records = recordCount N; from = λ r. records.from (recordAt N r); to = λ r. records.to (recordAt N r); seed = seed; offer = offer }
+        over seed offer = record { vertices = networkBefore N Q .vertices; records = recordCount N; allowed = allowed Q; from = λ r. records.from (recordAt N r); to = λ r. records.to (recordAt N r); seed = seed; offer = offer }
 
     -- ---- parts
     first-same : (i : ℕ) → firstPart N Q i ≡ firstPartBefore N Q i

@@ -79,6 +79,7 @@ module _ (N : Tables) where
         record {
           vertices = vertexCount N;
           records = recordCount N;
+          allowed = allowed Q;
           from = λ r. records.from (recordAt N r);
           to = λ r. records.to (recordAt N r);
           seed = seedBefore;
