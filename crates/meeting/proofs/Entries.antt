@@ -1,16 +1,15 @@
 -- One record and one entry: what it leaves of the records that may still be passed, and whether the vertex has an entry. Assumes nothing.
 use mathlib.Core.Path.{_≡_, refl, sym, ap, _∙_}
-use mathlib.Core.Logic.{_≢_}
-use mathlib.Core.Bool.{Bool, true, false, cond}
+use mathlib.Core.Logic.{_≢_, ⊎-elim}
+use mathlib.Core.Bool.{Bool, true, false}
 use mathlib.Core.List.{List}
-use Prim.Native.Nat.{ℕ, zero, suc, _+_, _-_, _≤_, _<_}
+use Prim.Native.Nat.{ℕ, zero, suc, _+_, _-_, _≤_, _<_, min}
 use native.Mathlib.Omega.{arith}
-use lib.Dec.{eqb}
 use lib.ListN.{getD}
-use borrow.Author.Tests.{eqb-true}
+use Rattle.journeys.proofs.Tests.{never, le-or-lt}
 use Rattle.journeys.specs.Bytes.{be16}
 use Rattle.worktable.specs.Map.{Entry, absent, known, one, touched, spent, swept, remainingOf}
-use Rattle.worktable.proofs.MapLaws.{absent-known, swept-spent, swept-kept}
+use Rattle.worktable.proofs.MapLaws.{absent-known, spent-some, swept-spent, swept-kept}
 use Rattle.meeting.specs.Passing.{missing, entered, met, left}
 
 pub missing-absent : (e : Entry) → missing e ≡ true → e ≡ absent
@@ -62,35 +61,39 @@ left-known d absent h = absurd (h refl)
 left-known d (known x s n) h = refl
 
 -- ---- what is entered, and what goes
-pub entered-new : (b d : ℕ) (e : Entry) → e ≡ absent → known b 0 (d - 1) ≡ entered b d e
+pub entered-new : (D b d : ℕ) (e : Entry) → e ≡ absent → swept D (known b 0 (d - 1)) ≡ entered D b d e
 unfolding entered
-entered-new b d e h = rw h
+entered-new D b d e h = rw h
 
-pub entered-held : (b d : ℕ) (e : Entry) → e ≢ absent → entered b d e ≡ swept e
+pub entered-held : (D b d : ℕ) (e : Entry) → e ≢ absent → entered D b d e ≡ swept D e
 unfolding entered
-entered-held b d absent h = absurd (h refl)
-entered-held b d (known x s n) h = refl
+entered-held D b d absent h = absurd (h refl)
+entered-held D b d (known x s n) h = refl
 
-pub entered-kept : (b d : ℕ) (e : Entry) → e ≢ absent → spent e ≡ false → e ≡ entered b d e
-entered-kept b d e h k = sym (entered-held b d e h ∙ swept-kept e k)
+pub entered-kept : (D b d : ℕ) (e : Entry) → e ≢ absent → spent D e ≡ false → e ≡ entered D b d e
+entered-kept D b d e h k = sym (entered-held D b d e h ∙ swept-kept D e k)
 
-pub entered-spent : (b d : ℕ) (e : Entry) → e ≢ absent → spent e ≡ true → absent ≡ entered b d e
-entered-spent b d e h k = sym (entered-held b d e h ∙ swept-spent e k)
+pub entered-spent : (D b d : ℕ) (e : Entry) → e ≢ absent → spent D e ≡ true → absent ≡ entered D b d e
+entered-spent D b d e h k = sym (entered-held D b d e h ∙ swept-spent D e k)
 
-pub met-one : (b d : ℕ) (e : Entry) → e ≡ absent → one (met b d e) ≡ 1
-unfolding one met entered touched
-met-one b d e h = rw h
+pub met-new : (D b d : ℕ) (e : Entry) → e ≡ absent → met D b d e ≡ swept D (known b 0 (d - 1))
+unfolding met entered touched
+met-new D b d e h = rw h
 
 -- one record takes one off at most
-pub met-left : (b d : ℕ) (e : Entry) → left d e ≤ suc (left d (met b d e))
-unfolding left met entered swept spent touched
-met-left b d absent = omega arith
-met-left b d (known x zero n) = omega arith
-met-left b d (known x (suc s) n) = go (eqb (n - 1) 0) refl
+swept-left : (D d e s n : ℕ) → n ≤ suc (left d (swept D (known e s (n - 1))))
+unfolding left
+swept-left D d e s n = go (spent D (known e s (n - 1))) refl
   where
-    go : (t : Bool) → eqb (n - 1) 0 ≡ t → n ≤ suc (left d (cond t absent (known x (suc s) (n - 1))))
-    go true q = omega (arith, eqb-true (n - 1) 0 q)
-    go false q = omega arith
+    go : (t : Bool) → spent D (known e s (n - 1)) ≡ t → n ≤ suc (left d (swept D (known e s (n - 1))))
+    go true q = rw (swept-spent D (known e s (n - 1)) q) (⊎-elim (λ (h : n - 1 ≤ 0). omega arith) (λ (h : 0 < n - 1). never q (spent-some D e s (n - 1) (λ z. let y : ⊥ = omega arith in y))) (le-or-lt (n - 1) 0))
+    go false q = rw (swept-kept D (known e s (n - 1)) q) (omega arith)
+
+pub met-left : (D b d : ℕ) (e : Entry) → left d e ≤ suc (left d (met D b d e))
+unfolding left met entered touched
+met-left D b d absent = swept-left D d b 0 d
+met-left D b d (known x zero n) = swept-left D d (min b x) 0 n
+met-left D b d (known x (suc s) n) = swept-left D d x (suc s) n
 
 -- a number of two bytes
 pub half-low : (b : List ℕ) (at n : ℕ) → n ≡ be16 b at → ((i : ℕ) → getD b i 0 < 256) → n - 1 < 65536

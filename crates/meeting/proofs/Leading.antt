@@ -46,18 +46,18 @@ pub stays-put : (m : Map) (u : ℕ) (e : Entry) → m u ≡ e → m ≡ put m u 
 stays-put m u e h = sym (put-id m u e h)
 
 -- an entry that has been touched, and then is entered or dropped, has been met
-pub touched-met : (t : Table) (b : List ℕ) (u x d : ℕ) {c : List ℕ} → Gives t t b c (put (mapOf t b) u (touched x (mapOf t b u)))
-    → {r : Table} {a : List ℕ} → Leads t r a (put (mapOf t c) u (entered x d (mapOf t c u))) → Leads t r a (put (mapOf t b) u (met x d (mapOf t b u)))
+pub touched-met : (D : ℕ) (t : Table) (b : List ℕ) (u x d : ℕ) {c : List ℕ} → Gives t t b c (put (mapOf t b) u (touched x (mapOf t b u)))
+    → {r : Table} {a : List ℕ} → Leads t r a (put (mapOf t c) u (entered D x d (mapOf t c u))) → Leads t r a (put (mapOf t b) u (met D x d (mapOf t b u)))
 unfolding met
-touched-met t b u x d {c} g l =
+touched-met D t b u x d {c} g l =
     leads-same l
-    (ap (λ (e : Entry). put (mapOf t c) u (entered x d e)) (gives-at u (touched x (mapOf t b u)) g)
-    ∙ gives-twice u (touched x (mapOf t b u)) (entered x d (touched x (mapOf t b u))) g)
+    (ap (λ (e : Entry). put (mapOf t c) u (entered D x d e)) (gives-at u (touched x (mapOf t b u)) g)
+    ∙ gives-twice u (touched x (mapOf t b u)) (entered D x d (touched x (mapOf t b u))) g)
 
 -- what is told of it is told of the table as it is left
-pub told-there : (t : Table) (b : List ℕ) (u x : ℕ) {c : List ℕ} → Gives t t b c (put (mapOf t b) u (touched x (mapOf t b u))) → (p : Passed)
-    → PassedIs t c u (touched x (mapOf t b u)) p → PassedIs t c u (mapOf t c u) p
-told-there t b u x {c} g p h = subst (λ (e : Entry). PassedIs t c u e p) (sym (gives-at u (touched x (mapOf t b u)) g)) h
+pub told-there : (D : ℕ) (t : Table) (b : List ℕ) (u x : ℕ) {c : List ℕ} → Gives t t b c (put (mapOf t b) u (touched x (mapOf t b u))) → (p : Passed)
+    → PassedIs D t c u (touched x (mapOf t b u)) p → PassedIs D t c u (mapOf t c u) p
+told-there D t b u x {c} g p h = subst (λ (e : Entry). PassedIs D t c u e p) (sym (gives-at u (touched x (mapOf t b u)) g)) h
 
 -- who has no entry then had none before, and the table has as many as before
 pub new-there : (t : Table) (b : List ℕ) (u x d : ℕ) {c : List ℕ} → Gives t t b c (put (mapOf t b) u (touched x (mapOf t b u))) → 0 < left d (mapOf t b u)

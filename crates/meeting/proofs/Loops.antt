@@ -57,7 +57,7 @@ pub passed-left : (R : Row) (n : ℕ) (m : Map) (j : ℕ) → j < n → {M : Map
 passed-left R n m j l {M} {u} q enough p =
     rw (p, q, goes-along (R .from) (meets R) j m (R .from j))
     (some-left (R .from) (meets R) (R .departing (R .from j)) n j
-    (λ i e x. subst (λ (v : ℕ). left (R .departing (R .from j)) x ≤ suc (left (R .departing (R .from j)) (met (R .offer i) (R .departing v) x))) (sym e) (met-left (R .offer i) (R .departing (R .from j)) x))
+    (λ i e x. subst (λ (v : ℕ). left (R .departing (R .from j)) x ≤ suc (left (R .departing (R .from j)) (met (R .allowed) (R .offer i) (R .departing v) x))) (sym e) (met-left (R .allowed) (R .offer i) (R .departing (R .from j)) x))
     (m (R .from j)) (enough (R .from j)) l)
 
 pub from-low : (v w h : List ℕ) (a : Arriving) → Leaves v w h a → (j : ℕ) → j < passes a → rowOf v w h a .from j < 65536

@@ -14,14 +14,15 @@ unfoldable pub missing : Entry → Bool
 missing absent = true
 missing (known d s n) = false
 
--- a vertex whose record with the offer b has been passed: a new one gets an entry, and that record does not remain to it; a spent one goes
-unfoldable pub entered : ℕ → ℕ → Entry → Entry
-entered b departing absent = known b 0 (departing - 1)
-entered b departing (known d s n) = swept (known d s n)
+-- a vertex whose record with the offer b has been passed, where D is allowed: a new one gets an entry, and that record does not remain to it; a spent one goes, and a new
+-- one that is spent with its first record does not come
+unfoldable pub entered : ℕ → ℕ → ℕ → Entry → Entry
+entered D b departing absent = swept D (known b 0 (departing - 1))
+entered D b departing (known d s n) = swept D (known d s n)
 
 -- what a record with the offer b does to the entry of the vertex that it leaves
-unfoldable pub met : ℕ → ℕ → Entry → Entry
-met b departing e = entered b departing (touched b e)
+unfoldable pub met : ℕ → ℕ → ℕ → Entry → Entry
+met D b departing e = entered D b departing (touched b e)
 
 -- the first j records, each by f on the entry of the vertex that it leaves
 unfoldable pub goes : (ℕ → ℕ) → (ℕ → Entry → Entry) → ℕ → Map → Map
@@ -34,7 +35,7 @@ along from f zero u e = e
 along from f (suc j) u e = cond (eqb (from j) u) (f j (along from f j u e)) (along from f j u e)
 
 abbrev pub meets : Row → ℕ → Entry → Entry
-meets R j = met (R .offer j) (R .departing (R .from j))
+meets R j = met (R .allowed) (R .offer j) (R .departing (R .from j))
 
 -- THE MAP when the first j records of the row have been passed
 abbrev pub passed : Row → ℕ → Map → Map

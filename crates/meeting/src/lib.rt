@@ -2,10 +2,10 @@
 // Promises: the table then holds exactly the map of the definitions.
 // Rests on: the row of `passing`, one look at an entry by `worktable`.
 ghost use mathlib.Core.Path.{_≡_};
-ghost use Prim.Native.Nat.{_+_, _/_, _<_, _≤_};
+ghost use Prim.Native.Nat.{_+_, _-_, _/_, _<_, _≤_};
 ghost use lib.ListN.{length};
 ghost use Rattle.journeys.specs.Tables.{vertexAt};
-ghost use Rattle.worktable.specs.Map.{absent, Figure, put, size};
+ghost use Rattle.worktable.specs.Map.{absent, known, Figure, put, swept, size};
 ghost use Rattle.worktable.specs.Table.{mapOf, InOrder, PassedIs};
 ghost use Rattle.passing.specs.Row.{passes};
 ghost use Rattle.meeting.specs.Passing.{entered, met, left, Ready};
@@ -27,34 +27,48 @@ pub enum Arrived {
     NoRoom,
 }
 
-// What is left to do for the vertex u of a record that has been passed: a new vertex gets an entry, a spent one is dropped.
+// A new vertex gets an entry, unless none of its records remains and its offer is above D: then it is hopeless, and takes no slot.
+fn enter(held: &mut [u8], t: Table, vertices: &[u8], u: usize, offer: Ticks, allowed: Ticks) -> Table
+    requires { ⌜ InOrder t (now held) × (u < length (now vertices) / 12) × (length (now vertices) / 12 ≤ 65536) × Figure (offer .0) × (mapOf t (now held) u ≡ absent) ⌝ }
+    requires { ⌜ (0 < vertexAt (now vertices) u .departing) × (size (mapOf t (now held)) < t .capacity) ⌝ }
+    ensures { λ r. ⌜ Leads t r (now (held .exit)) (put (mapOf t (now (held .entry))) u (swept (allowed .0) (known (offer .0) 0 (vertexAt (now (vertices .entry)) u .departing - 1)))) ⌝ }
+{
+    let left = half_at(vertices, 12 * u + 8) - 1;
+    if (left == 0) & (allowed.0 < offer.0) {
+        return t;
+    }
+    insert(held, t, u, offer.0, left)
+}
+
+// What is left to do for the vertex u of a record that has been passed: a new vertex is entered, a spent one is dropped.
 pub fn enter_or_drop(
     held: &mut [u8],
     t: Table,
     vertices: &[u8],
     u: usize,
     offer: Ticks,
+    allowed: Ticks,
     told: Passed,
 ) -> Table
-    requires { ⌜ InOrder t (now held) × (u < length (now vertices) / 12) × (length (now vertices) / 12 ≤ 65536) × Figure (offer .0) × PassedIs t (now held) u (mapOf t (now held) u) told ⌝ }
+    requires { ⌜ InOrder t (now held) × (u < length (now vertices) / 12) × (length (now vertices) / 12 ≤ 65536) × Figure (offer .0) × PassedIs (allowed .0) t (now held) u (mapOf t (now held) u) told ⌝ }
     requires { ⌜ (mapOf t (now held) u ≡ absent → (0 < vertexAt (now vertices) u .departing) × (size (mapOf t (now held)) < t .capacity)) ⌝ }
-    ensures { λ r. ⌜ Leads t r (now (held .exit)) (put (mapOf t (now (held .entry))) u (entered (offer .0) (vertexAt (now (vertices .entry)) u .departing) (mapOf t (now (held .entry)) u))) ⌝ }
+    ensures { λ r. ⌜ Leads t r (now (held .exit)) (put (mapOf t (now (held .entry))) u (entered (allowed .0) (offer .0) (vertexAt (now (vertices .entry)) u .departing) (mapOf t (now (held .entry)) u))) ⌝ }
 {
     match told {
-        Passed::Absent => insert(held, t, u, offer.0, half_at(vertices, 12 * u + 8) - 1),
+        Passed::Absent => enter(held, t, vertices, u, offer, allowed),
         Passed::Kept => t,
         Passed::Spent(slot) => drop(held, t, u, slot),
     }
 }
 
-// One record from u: u is newly met, or one record less remains to it. A settled vertex to which nothing remains is dropped.
-fn meet(held: &mut [u8], t: Table, vertices: &[u8], u: usize, offer: Ticks) -> Table
-    requires { ⌜ InOrder t (now held) × (u < length (now vertices) / 12) × (length (now vertices) / 12 ≤ 65536) × Figure (offer .0) ⌝ }
+// One record from u: u is newly met, or one record less remains to it. A vertex to which nothing remains is dropped where it is settled or known above D.
+fn meet(held: &mut [u8], t: Table, vertices: &[u8], u: usize, offer: Ticks, allowed: Ticks) -> Table
+    requires { ⌜ InOrder t (now held) × (u < length (now vertices) / 12) × (length (now vertices) / 12 ≤ 65536) × Figure (offer .0) × (allowed .0 < 2147483647) ⌝ }
     requires { ⌜ (0 < left (vertexAt (now vertices) u .departing) (mapOf t (now held) u)) × (mapOf t (now held) u ≡ absent → size (mapOf t (now held)) < t .capacity) ⌝ }
-    ensures { λ r. ⌜ Leads t r (now (held .exit)) (put (mapOf t (now (held .entry))) u (met (offer .0) (vertexAt (now (vertices .entry)) u .departing) (mapOf t (now (held .entry)) u))) ⌝ }
+    ensures { λ r. ⌜ Leads t r (now (held .exit)) (put (mapOf t (now (held .entry))) u (met (allowed .0) (offer .0) (vertexAt (now (vertices .entry)) u .departing) (mapOf t (now (held .entry)) u))) ⌝ }
 {
-    let told = pass(held, t, u, offer.0);
-    enter_or_drop(held, t, vertices, u, offer, told)
+    let told = pass(held, t, u, offer.0, allowed.0);
+    enter_or_drop(held, t, vertices, u, offer, allowed, told)
 }
 
 // All records, one after the other. A vertex that is dropped has no further record in the row.
@@ -75,7 +89,7 @@ pub fn meet_all(
     while j < n {
         let u = from_at(walks, hops, arriving, j);
         let offer = offer_at(walks, hops, arriving, j);
-        table = meet(held, table, vertices, u, offer);
+        table = meet(held, table, vertices, u, offer, arriving.allowed);
         j += 1;
     }
     table

@@ -12,8 +12,9 @@ use Rattle.journeys.specs.Records.{Record, walked, ridden, offer}
 use Rattle.words.specs.Quantities.{DayTime}
 use Rattle.passing.specs.declared.Arriving.{Arriving}
 
--- of each record of a row, which vertex it leaves and what it offers; of each vertex, how many records leave it
+-- of each record of a row, which vertex it leaves and what it offers; of each vertex, how many records leave it; and D
 pub record Row : Type 0 where
+  pub allowed : ℕ
   pub from : ℕ → ℕ
   pub offer : ℕ → ℕ
   pub departing : ℕ → ℕ
@@ -37,7 +38,7 @@ abbrev pub offerOf : List ℕ → List ℕ → Arriving → ℕ → ℕ
 offerOf w h a j = offer (asking (clocked (a .arrival .0)) (a .speed)) (recordOf w h a j) (a .distance .0)
 
 abbrev pub rowOf : List ℕ → List ℕ → List ℕ → Arriving → Row
-rowOf v w h a = record { from = fromOf w h a; offer = offerOf w h a; departing = λ u. vertexAt v u .departing }
+rowOf v w h a = record { allowed = a .allowed .0; from = fromOf w h a; offer = offerOf w h a; departing = λ u. vertexAt v u .departing }
 
 -- a hop that may be ridden or missed: both times within their limits, and the departure not after the arrival
 pub record Rides (size : ℕ) (h : List ℕ) (i : ℕ) : Type 0 where
@@ -58,6 +59,7 @@ pub record Sound (w h : List ℕ) (a : Arriving) : Type 0 where
   pub distance : a .distance .0 ≤ 8640000
   pub arrival : DayTime (clocked (a .arrival .0))
   pub speed : a .speed ≤ 100
+  pub allowed : a .allowed .0 ≤ 8640000
 
 -- its records leave vertices of the table v
 pub record Leaves (v w h : List ℕ) (a : Arriving) : Type 0 where

@@ -19,7 +19,7 @@ use words::not_after;
 use words::ticks_before;
 use words::word_at;
 
-// How many walks and hops arrive at the vertex, the size of a hop, the distance of the vertex, and what of the query an offer asks. The records themselves are a part of the walk table and a part of the hop table.
+// How many walks and hops arrive at the vertex, the size of a hop, the distance of the vertex, what of the query an offer asks, and D. The records themselves are a part of the walk table and a part of the hop table.
 pub struct Arriving {
     pub walks: usize,
     pub hops: usize,
@@ -27,6 +27,7 @@ pub struct Arriving {
     pub distance: Ticks,
     pub arrival: Seconds,
     pub speed: u32,
+    pub allowed: Ticks,
 }
 
 // The offer of a hop to the vertex where it is boarded, if it arrives in time.

@@ -37,20 +37,20 @@ pub find-one : (κs : _) (a : _) (z z′ : _) (e e′ : _) → find.Pre κs a �
 find-one κs a z z′ e e′ o p q = found-same _ _ _ z z′ o p q
 
 -- what `pass` and `look` answer: whether the entry is absent, kept or spent, and the slot of a spent one
-pub passed-same : (t : Table) (b : List ℕ) (u : ℕ) (x : Entry) (f g : Passed) → InOrder t b → PassedIs t b u x f → PassedIs t b u x g → f ≡ g
+pub passed-same : (D : ℕ) (t : Table) (b : List ℕ) (u : ℕ) (x : Entry) (f g : Passed) → InOrder t b → PassedIs D t b u x f → PassedIs D t b u x g → f ≡ g
 unfolding PassedIs
-passed-same t b u x Passed.Absent Passed.Absent o p q = refl
-passed-same t b u x Passed.Absent Passed.Kept o p q = absurd (q .0 p)
-passed-same t b u x Passed.Absent (Passed.Spent s) o p q = absurd (spent-held (q .1) p)
-passed-same t b u x Passed.Kept Passed.Absent o p q = absurd (p .0 q)
-passed-same t b u x Passed.Kept Passed.Kept o p q = refl
-passed-same t b u x Passed.Kept (Passed.Spent s) o p q = never (q .1) (p .1)
-passed-same t b u x (Passed.Spent s) Passed.Absent o p q = absurd (spent-held (p .1) q)
-passed-same t b u x (Passed.Spent s) Passed.Kept o p q = never (p .1) (q .1)
-passed-same t b u x (Passed.Spent s) (Passed.Spent r) o p q = ap Passed.Spent (place-one o (p .0) (q .0))
+passed-same D t b u x Passed.Absent Passed.Absent o p q = refl
+passed-same D t b u x Passed.Absent Passed.Kept o p q = absurd (q .0 p)
+passed-same D t b u x Passed.Absent (Passed.Spent s) o p q = absurd (spent-held D (q .1) p)
+passed-same D t b u x Passed.Kept Passed.Absent o p q = absurd (p .0 q)
+passed-same D t b u x Passed.Kept Passed.Kept o p q = refl
+passed-same D t b u x Passed.Kept (Passed.Spent s) o p q = never (q .1) (p .1)
+passed-same D t b u x (Passed.Spent s) Passed.Absent o p q = absurd (spent-held D (p .1) q)
+passed-same D t b u x (Passed.Spent s) Passed.Kept o p q = never (p .1) (q .1)
+passed-same D t b u x (Passed.Spent s) (Passed.Spent r) o p q = ap Passed.Spent (place-one o (p .0) (q .0))
 
 pub look-one : (κs : _) (a : _) (z z′ : _) (e e′ : _) → look.Pre κs a → look.Post κs a z e → look.Post κs a z′ e′ → z ≡ z′
-look-one κs a z z′ e e′ o p q = passed-same _ _ _ _ z z′ o p q
+look-one κs a z z′ e e′ o p q = passed-same _ _ _ _ _ z z′ (o .0) p q
 
 pub settle-at-one : (κs : _) (a : _) (z z′ : _) (e e′ : _) → settle-at.Post κs a z e → settle-at.Post κs a z′ e′ → z ≡ z′
 settle-at-one κs a z z′ e e′ p q = p .1 ∙ sym (q .1)

@@ -1,13 +1,14 @@
 -- The model map: a changed vertex, a passed record and a spent entry, how many there are, the ascending records, and the foremost one.
 use mathlib.Core.Path.{_≡_, refl, sym, ap, ap₂, fun-ext, _∙_}
-use mathlib.Core.Bool.{true, false}
+use mathlib.Core.Bool.{true, false, _&&_}
 use mathlib.Core.Logic.{_≢_, _⊎_, inl, inr}
 use mathlib.Core.List.{_++_, append-nil}
 use Prim.Native.Nat.{ℕ, zero, suc, _-_, _+_, _<_, _≤_, min}
 use native.Mathlib.Omega.{arith}
 use native.Mathlib.Decide.{ℕ-discrete}
-use borrow.Author.Tests.{eq-eqb, ne-eqb}
-use Rattle.journeys.proofs.Tests.{cond-true, cond-false, never}
+use lib.Dec.{eqb, ltb}
+use borrow.Author.Tests.{ne-eqb}
+use Rattle.journeys.proofs.Tests.{and-left, cond-true, cond-false, never}
 use lib.ListN.{length, length-append}
 use Rattle.worktable.specs.Map.{Entry, absent, known, Map, choose, put, touched, spent, swept, one, sizeTo, row, rowsTo, Foremost}
 
@@ -72,32 +73,32 @@ unfolding touched
 absent-touched b h = rw h
 
 -- ---- an entry is spent, or stays
-pub spent-open : (d s n : ℕ) → s ≡ 0 → spent (known d s n) ≡ false
+pub spent-open : (D d s n : ℕ) → s ≡ 0 → spent D (known d s n) ≡ (eqb n 0 && ltb D d)
 unfolding spent
-spent-open d zero n h = refl
-spent-open d (suc s) n h = absurd (omega arith)
+spent-open D d zero n h = refl
+spent-open D d (suc s) n h = absurd (omega arith)
 
-pub spent-some : (d s n : ℕ) → n ≢ 0 → spent (known d s n) ≡ false
+pub spent-settled : (D d s n : ℕ) → s ≢ 0 → spent D (known d s n) ≡ eqb n 0
 unfolding spent
-spent-some d zero n h = refl
-spent-some d (suc s) n h = ne-eqb n 0 h
+spent-settled D d zero n h = absurd (h refl)
+spent-settled D d (suc s) n h = refl
 
-pub spent-none : (d s n : ℕ) → s ≢ 0 → n ≡ 0 → spent (known d s n) ≡ true
+pub spent-some : (D d s n : ℕ) → n ≢ 0 → spent D (known d s n) ≡ false
 unfolding spent
-spent-none d zero n h k = absurd (h refl)
-spent-none d (suc s) n h k = eq-eqb n 0 k
+spent-some D d zero n h = and-left (ltb D d) (ne-eqb n 0 h)
+spent-some D d (suc s) n h = ne-eqb n 0 h
 
-pub spent-held : {e : Entry} → spent e ≡ true → e ≢ absent
+pub spent-held : (D : ℕ) {e : Entry} → spent D e ≡ true → e ≢ absent
 unfolding spent
-spent-held {e} h z = let k : spent e ≡ false = ap spent z in never h k
+spent-held D {e} h z = let k : spent D e ≡ false = ap (spent D) z in never h k
 
-pub swept-spent : (e : Entry) → spent e ≡ true → swept e ≡ absent
+pub swept-spent : (D : ℕ) (e : Entry) → spent D e ≡ true → swept D e ≡ absent
 unfolding swept
-swept-spent e h = cond-true absent e h
+swept-spent D e h = cond-true absent e h
 
-pub swept-kept : (e : Entry) → spent e ≡ false → swept e ≡ e
+pub swept-kept : (D : ℕ) (e : Entry) → spent D e ≡ false → swept D e ≡ e
 unfolding swept
-swept-kept e h = cond-false absent e h
+swept-kept D e h = cond-false absent e h
 
 pub size-same : (n : ℕ) (m k : Map) → ((u : ℕ) → u < n → m u ≡ k u) → sizeTo n m ≡ sizeTo n k
 unfolding sizeTo

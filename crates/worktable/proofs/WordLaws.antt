@@ -1,15 +1,19 @@
 -- Words and entries.
-use mathlib.Core.Path.{_≡_, sym, _∙_}
-use mathlib.Core.Logic.{_≢_, inl, inr}
+use mathlib.Core.Path.{_≡_, refl, sym, ap, _∙_}
+use mathlib.Core.Logic.{_≢_, inl, inr, ⊎-elim}
+use mathlib.Core.Bool.{Bool, true, false, _&&_}
 use Prim.Native.Nat.{ℕ, _-_, _+_, _*_, _/_, _%_, _<_, _≤_, min}
 use native.Mathlib.Omega.{arith}
 use native.Mathlib.Decide.{ℕ-discrete}
+use lib.Dec.{eqb, ltb}
+use borrow.Author.Tests.{ltb-true, lt-ltb}
+use Rattle.journeys.proofs.Tests.{same-test, le-or-lt}
 use Rattle.table_tree.specs.Words.{vacant, vertexIn, key}
 use Rattle.table_records.specs.Fields.{distanceIn, stateIn, remainingIn}
 use Rattle.journeys.specs.Counting.{none}
-use Rattle.worktable.specs.Map.{absent, known, Figure}
+use Rattle.worktable.specs.Map.{absent, known, Figure, spent}
 use Rattle.worktable.specs.Inside.{wordOf, entryIn}
-use Rattle.worktable.proofs.MapLaws.{choose-yes, choose-no, absent-known}
+use Rattle.worktable.proofs.MapLaws.{choose-yes, choose-no, absent-known, spent-open, spent-settled}
 
 pub entry-vacant : {w : ℕ} → w ≡ vacant → entryIn w ≡ absent
 unfolding entryIn
@@ -197,3 +201,34 @@ module _ (w d : ℕ) (open-word : stateIn w ≡ 0) (ld : Figure d) where
 
         n : remainingIn (d * 4294967296 + w % 4294967296) ≡ remainingIn w
         n = omega arith
+
+-- ---- a word tells whether its entry is spent
+-- D compares with the 31 bits of a distance as with the distance: 2147483647 and none are both above it
+above-same : (w D : ℕ) → w < 9223372036854775808 → D < 2147483647 → ltb D (distanceIn w) ≡ ltb D (w / 4294967296)
+unfolding distanceIn
+above-same w D h l =
+    let q : w / 4294967296 % 2147483648 ≡ w / 4294967296 = omega arith in
+    let low : w / 4294967296 < 2147483648 = omega arith in
+    rw q (plain (w / 4294967296) low)
+  where
+    plain : (x : ℕ) → x < 2147483648 → ltb D (x + x / 2147483647 * 2147483648) ≡ ltb D x
+    plain x k =
+        same-test (ltb D (x + x / 2147483647 * 2147483648)) (ltb D x)
+        (λ e. lt-ltb D x (omega (arith, ltb-true D (x + x / 2147483647 * 2147483648) e)))
+        (λ e. lt-ltb D (x + x / 2147483647 * 2147483648) (omega (arith, ltb-true D x e)))
+
+pub word-spent : (w D : ℕ) → D < 2147483647 → spent D (known (distanceIn w) (stateIn w) (remainingIn w)) ≡ (eqb (w % 65536) 0 && ltb D (w / 4294967296))
+unfolding remainingIn
+word-spent w D l = ⊎-elim settled fresh (le-or-lt 9223372036854775808 w)
+  where
+    settled : 9223372036854775808 ≤ w → spent D (known (distanceIn w) (stateIn w) (w % 65536)) ≡ (eqb (w % 65536) 0 && ltb D (w / 4294967296))
+    settled h =
+        let above : ltb D (w / 4294967296) ≡ true = lt-ltb D (w / 4294967296) (omega arith) in
+        spent-settled D (distanceIn w) (stateIn w) (w % 65536) (settled-high w h) ∙ rw above (plain (eqb (w % 65536) 0))
+      where
+        plain : (b : Bool) → b ≡ (b && true)
+        plain true = refl
+        plain false = refl
+
+    fresh : w < 9223372036854775808 → spent D (known (distanceIn w) (stateIn w) (w % 65536)) ≡ (eqb (w % 65536) 0 && ltb D (w / 4294967296))
+    fresh h = spent-open D (distanceIn w) (stateIn w) (w % 65536) (open-low w h) ∙ ap (λ (b : Bool). eqb (w % 65536) 0 && b) (above-same w D h l)

@@ -1,6 +1,7 @@
 -- How the table lies in the buffer. No contract of a public function speaks of this, and no caller needs it.
 use mathlib.Core.Path.{_≡_}
 use mathlib.Core.Logic.{_≢_}
+use mathlib.Core.Bool.{cond}
 use mathlib.Core.List.{List, [], _∷_}
 use Prim.Native.Nat.{ℕ, zero, suc, _+_, _*_, _<_, min}
 use native.Mathlib.Decide.{ℕ-discrete}
@@ -10,8 +11,9 @@ use Rattle.table_tree.specs.Words.{vacant, vertexIn}
 use Rattle.table_tree.specs.Tree.{Win}
 use Rattle.table_tree.specs.Chains.{Chained}
 use Rattle.table_records.specs.Fields.{distanceIn, stateIn, remainingIn}
-use Rattle.worktable.specs.Map.{Entry, absent, known, choose}
+use Rattle.worktable.specs.Map.{Entry, absent, known, choose, spent}
 use Rattle.worktable.specs.declared.Table.{Table}
+use Rattle.worktable.specs.declared.Passed.{Passed}
 
 -- the word of an unsettled vertex: state 0, distance (2147483647 stands for none), vertex, remaining.
 unfoldable pub wordOf : ℕ → ℕ → ℕ → ℕ
@@ -20,6 +22,10 @@ wordOf u d n = min d 2147483647 * 4294967296 + u * 65536 + n
 -- what a word tells of its vertex
 unfoldable pub entryIn : ℕ → Entry
 entryIn w = choose (ℕ-discrete w vacant) absent (known (distanceIn w) (stateIn w) (remainingIn w))
+
+-- what is told of an entry at the slot s, where D is allowed
+unfoldable pub toldOf : ℕ → ℕ → Entry → Passed
+toldOf D s e = cond (spent D e) (Passed.Spent s) Passed.Kept
 
 unfoldable pub select : {A : Type 0} → Dec A → ℕ → ℕ → ℕ
 select (yes p) x y = x

@@ -1,11 +1,11 @@
 -- The finite map that the table holds: for each vertex nothing, or a distance, a state (0 unsettled, 1 settled) and how many departing records remain.
 use mathlib.Core.Path.{_≡_}
-use mathlib.Core.Bool.{Bool, false, cond}
+use mathlib.Core.Bool.{Bool, false, cond, _&&_}
 use mathlib.Core.Logic.{_⊎_}
 use mathlib.Core.List.{List, [], _∷_, _++_}
 use Prim.Native.Nat.{ℕ, zero, suc, _-_, _+_, _<_, _≤_, min}
 use native.Mathlib.Decide.{ℕ-discrete}
-use lib.Dec.{eqb}
+use lib.Dec.{eqb, ltb}
 use Rattle.journeys.specs.Counting.{none}
 use Rattle.journeys.specs.Network.{Held}
 
@@ -52,15 +52,15 @@ touched b absent = absent
 touched b (known d zero n) = known (min b d) 0 (n - 1)
 touched b (known d (suc s) n) = known d (suc s) (n - 1)
 
--- THE TEST by which an entry goes: its vertex is settled, and no departing record of it remains
-unfoldable pub spent : Entry → Bool
-spent absent = false
-spent (known d zero n) = false
-spent (known d (suc s) n) = eqb n 0
+-- THE TEST by which an entry goes, where D is allowed: no departing record of its vertex remains, and it is settled or its distance is above D. None is above any D.
+unfoldable pub spent : ℕ → Entry → Bool
+spent D absent = false
+spent D (known d zero n) = eqb n 0 && ltb D d
+spent D (known d (suc s) n) = eqb n 0
 
 -- a spent entry goes
-unfoldable pub swept : Entry → Entry
-swept e = cond (spent e) absent e
+unfoldable pub swept : ℕ → Entry → Entry
+swept D e = cond (spent D e) absent e
 
 -- how many vertices are in the map, of those below n and of all
 unfoldable pub one : Entry → ℕ

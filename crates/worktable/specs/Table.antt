@@ -44,11 +44,11 @@ unfoldable pub FoundIs : Table → List ℕ → ℕ → Found → Type 0
 FoundIs t b u (Found.At s) = Place t b u s
 FoundIs t b u Found.Absent = mapOf t b u ≡ absent
 
--- the answer of `pass` and `look`, where the vertex u has the entry e: a spent one is told with its slot
-unfoldable pub PassedIs : Table → List ℕ → ℕ → Entry → Passed → Type 0
-PassedIs t b u e Passed.Absent = e ≡ absent
-PassedIs t b u e Passed.Kept = (e ≢ absent) × (spent e ≡ false)
-PassedIs t b u e (Passed.Spent s) = Place t b u s × (spent e ≡ true)
+-- the answer of `pass` and `look`, where D is allowed and the vertex u has the entry e: a spent one is told with its slot
+unfoldable pub PassedIs : ℕ → Table → List ℕ → ℕ → Entry → Passed → Type 0
+PassedIs D t b u e Passed.Absent = e ≡ absent
+PassedIs D t b u e Passed.Kept = (e ≢ absent) × (spent D e ≡ false)
+PassedIs D t b u e (Passed.Spent s) = Place t b u s × (spent D e ≡ true)
 
 -- the answer of `least`
 unfoldable pub NearestIs : Table → List ℕ → Nearest → Type 0

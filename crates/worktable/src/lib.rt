@@ -4,16 +4,18 @@
 ghost use mathlib.Core.Path.{_≡_};
 ghost use mathlib.Core.Logic.{_≢_};
 ghost use Prim.Native.Nat.{_-_, _/_, _%_, _<_, min};
+ghost use lib.Dec.{eqb};
 ghost use lib.ListN.{length};
 ghost use Rattle.table_bytes.specs.Columns.{cols};
 ghost use Rattle.table_tree.specs.Words.{vacant, Slotted};
 ghost use Rattle.table_tree.specs.Tree.{Win, Changed};
+ghost use Rattle.table_records.specs.Fields.{distanceIn, stateIn, remainingIn};
 ghost use mathlib.Core.List.{flatMap};
 ghost use Rattle.journeys.specs.Bytes.{filled};
 ghost use Rattle.journeys.specs.Answers.{heldBytes};
 ghost use Rattle.journeys.specs.Counting.{none};
-ghost use Rattle.worktable.specs.Map.{absent, known, distanceOf, stateOf, remainingOf, Figure, empty, put, settled, touched, spent, size, rows};
-ghost use Rattle.worktable.specs.Inside.{wordOf};
+ghost use Rattle.worktable.specs.Map.{absent, known, distanceOf, stateOf, remainingOf, Figure, empty, put, settled, touched, size, rows};
+ghost use Rattle.worktable.specs.Inside.{wordOf, toldOf};
 ghost use Rattle.worktable.specs.Table.{mapOf, InOrder, Holds, Place, Gives, FoundIs, PassedIs, NearestIs};
 use table_bytes::next;
 use table_bytes::set_next;
@@ -166,12 +168,23 @@ pub fn insert(b: &mut [u8], t: Table, u: usize, d: u32, n: u32) -> Table
     }
 }
 
+// What the word w of slot s tells. One comparison serves both: a settled word is above every distance.
+fn told(w: u64, s: usize, allowed: u32) -> Passed
+    requires { ⌜ allowed < 2147483647 ⌝ }
+    ensures { λ r. ⌜ r ≡ toldOf allowed s (known (distanceIn w) (stateIn w) (remainingIn w)) ⌝ }
+{
+    if (w % 65536 == 0) & ((allowed as u64) < w / 4294967296) {
+        return Passed::Spent(s);
+    }
+    Passed::Kept
+}
+
 // A record with an offer is passed, in one look at the word of the vertex u that it leaves: one less remains, and an unsettled vertex takes the lesser distance.
 // The tree compares the distance and not what remains.
-pub fn pass(b: &mut [u8], t: Table, u: usize, offer: u32) -> Passed
-    requires { ⌜ InOrder t (now b) × Figure offer × (mapOf t (now b) u ≢ absent → 0 < remainingOf (mapOf t (now b) u)) ⌝ }
+pub fn pass(b: &mut [u8], t: Table, u: usize, offer: u32, allowed: u32) -> Passed
+    requires { ⌜ InOrder t (now b) × Figure offer × (mapOf t (now b) u ≢ absent → 0 < remainingOf (mapOf t (now b) u)) × (allowed < 2147483647) ⌝ }
     ensures { λ r. ⌜ Gives t t (now (b .entry)) (now (b .exit)) (put (mapOf t (now (b .entry))) u (touched offer (mapOf t (now (b .entry)) u))) ⌝ }
-    ensures { λ r. ⌜ PassedIs t (now (b .exit)) u (touched offer (mapOf t (now (b .entry)) u)) r ⌝ }
+    ensures { λ r. ⌜ PassedIs allowed t (now (b .exit)) u (touched offer (mapOf t (now (b .entry)) u)) r ⌝ }
 {
     let Found::At(s) = find(b, t, u) else {
         return Passed::Absent;
@@ -180,41 +193,33 @@ pub fn pass(b: &mut [u8], t: Table, u: usize, offer: u32) -> Passed
     if w < SETTLED {
         let x = offer as u64;
         if x < w / 4294967296 {
-            lower_word(b, t.slots, t.capacity, s, x * 4294967296 + w % 4294967296);
-            return Passed::Kept;
+            let lower = x * 4294967296 + w % 4294967296;
+            lower_word(b, t.slots, t.capacity, s, lower);
+            return told(lower, s, allowed);
         }
         set_word(b, t.slots, s, w);
-        return Passed::Kept;
+        return told(w, s, allowed);
     }
     set_word(b, t.slots, s, w);
-    if w % 65536 == 0 {
-        return Passed::Spent(s);
-    }
-    Passed::Kept
+    told(w, s, allowed)
 }
 
 // What the vertex u has, in one look at its word.
-pub fn look(b: &[u8], t: Table, u: usize) -> Passed
-    requires { ⌜ InOrder t (now b) ⌝ }
-    ensures { λ r. ⌜ PassedIs t (now (b .entry)) u (mapOf t (now (b .entry)) u) r ⌝ }
+pub fn look(b: &[u8], t: Table, u: usize, allowed: u32) -> Passed
+    requires { ⌜ InOrder t (now b) × (allowed < 2147483647) ⌝ }
+    ensures { λ r. ⌜ PassedIs allowed t (now (b .entry)) u (mapOf t (now (b .entry)) u) r ⌝ }
 {
     let Found::At(s) = find(b, t, u) else {
         return Passed::Absent;
     };
     let w = word(b, t.slots, s);
-    if w < SETTLED {
-        return Passed::Kept;
-    }
-    if w % 65536 == 0 {
-        return Passed::Spent(s);
-    }
-    Passed::Kept
+    told(w, s, allowed)
 }
 
-// The unsettled vertex u at slot s, which has a distance, is settled; whether it is spent with that.
+// The unsettled vertex u at slot s, which has a distance, is settled; whether no record of it remains.
 pub fn settle_at(b: &mut [u8], t: Table, u: usize, s: usize) -> bool
     requires { ⌜ InOrder t (now b) × Place t (now b) u s × (stateOf (mapOf t (now b) u) ≡ 0) × (distanceOf (mapOf t (now b) u) < none) ⌝ }
-    ensures { λ r. ⌜ Gives t t (now (b .entry)) (now (b .exit)) (put (mapOf t (now (b .entry))) u (settled (mapOf t (now (b .entry)) u))) × (r ≡ spent (settled (mapOf t (now (b .entry)) u))) ⌝ }
+    ensures { λ r. ⌜ Gives t t (now (b .entry)) (now (b .exit)) (put (mapOf t (now (b .entry))) u (settled (mapOf t (now (b .entry)) u))) × (r ≡ eqb (remainingOf (mapOf t (now (b .entry)) u)) 0) ⌝ }
 {
     let w = word(b, t.slots, s);
     change_word(b, t.slots, t.capacity, s, w + SETTLED);

@@ -17,14 +17,14 @@ pass-requires c κs =
     let s = c .before .before .before in
     let a = s .args in
     let e = mapOf (a .t) (a .held .now) (a .u) in
-    (s .pre .0 .0, s .pre .0 .3, λ h. omega (arith, s .pre .1 .0, en.left-known (vertexAt (a .vertices .now) (a .u) .departing) e h))
+    (s .pre .0 .0, s .pre .0 .3, λ h. omega (arith, s .pre .1 .0, en.left-known (vertexAt (a .vertices .now) (a .u) .departing) e h), s .pre .0 .4)
 
 enter-or-drop-requires : tie.Need-enter-or-drop-requires
 enter-or-drop-requires c κs =
     let s = c .before .before .before .before .before .before .before in
     let a = s .args in
     let g = c .before .before .before .pass .ensures .0 in (
-      (g .holds .order, s .pre .0 .1, s .pre .0 .2, s .pre .0 .3, le.told-there (a .t) (a .held .now) (a .u) (a .offer .0) g (c .before .before .before .pass .result) (c .before .before .before .pass .ensures .1)),
+      (g .holds .order, s .pre .0 .1, s .pre .0 .2, s .pre .0 .3, le.told-there (a .allowed .0) (a .t) (a .held .now) (a .u) (a .offer .0) g (c .before .before .before .pass .result) (c .before .before .before .pass .ensures .1)),
       le.new-there (a .t) (a .held .now) (a .u) (a .offer .0) (vertexAt (a .vertices .now) (a .u) .departing) g (s .pre .1 .0) (s .pre .1 .1),
     )
 
@@ -32,7 +32,7 @@ returns : tie.Need-returns
 returns c =
     let s = c .before .before .before .before .before .before .before .before .before .before in
     let a = s .args in
-    le.touched-met (a .t) (a .held .now) (a .u) (a .offer .0) (vertexAt (a .vertices .now) (a .u) .departing) (c .before .before .before .before .before .before .pass .ensures .0) (c .before .before .enter-or-drop .ensures)
+    le.touched-met (a .allowed .0) (a .t) (a .held .now) (a .u) (a .offer .0) (vertexAt (a .vertices .now) (a .u) .departing) (c .before .before .before .before .before .before .pass .ensures .0) (c .before .before .enter-or-drop .ensures)
 
 pub meet-spec : {M : Type 1} → statement M
 meet-spec =

@@ -46,13 +46,13 @@ meet-requires c κs =
     let i = L .inv .leads in
     let grown = goes-size (R .from) (meets R) m (L .j) (λ k h. lo.from-low (a .vertices .now) (a .walks .now) (a .hops .now) (a .arriving) (y .leaves) k (omega (arith, l))) in
     let room : size (mapOf (L .table) (L .held)) < L .table .capacity = rw (i .holds .map, i .capacity) (omega (arith, grown, s .pre .1, l)) in
-    ((i .holds .order, rw q (y .leaves .low (L .j) l), y .leaves .vertices, c .before .offer-at .ensures .1), (lo.passed-left R (passes (a .arriving)) m (L .j) l q (y .enough) (i .holds .map), λ z. room))
+    ((i .holds .order, rw q (y .leaves .low (L .j) l), y .leaves .vertices, c .before .offer-at .ensures .1, omega (arith, y .sound .allowed)), (lo.passed-left R (passes (a .arriving)) m (L .j) l q (y .enough) (i .holds .map), λ z. room))
 
 loop-again : tie.Need-loop-again Inv-loop μ-loop
 loop-again c =
     let a = c .before .before .before .before .before .before .before .before .before .before .before .before .before .args in
     let R = rowOf (a .vertices .now) (a .walks .now) (a .hops .now) (a .arriving) in
-    lo.went-on (R .from) (R .offer) (λ u x e. met x (R .departing u) e) (c .before .before .before .before .before .before .before .loop .inv) (c .before .before .before .before .before .before .loop-test .taken) (c .before .before .meet .kept .0) (c .before .before .meet .ensures) (c .before .before .before .before .before .from-at .ensures) (c .before .before .before .before .offer-at .ensures .0)
+    lo.went-on (R .from) (R .offer) (λ u x e. met (R .allowed) x (R .departing u) e) (c .before .before .before .before .before .before .before .loop .inv) (c .before .before .before .before .before .before .loop-test .taken) (c .before .before .meet .kept .0) (c .before .before .meet .ensures) (c .before .before .before .before .before .from-at .ensures) (c .before .before .before .before .offer-at .ensures .0)
 
 same-length : tie.Need-same-length Inv-loop μ-loop
 same-length c = c .before .loop .inv .lengths

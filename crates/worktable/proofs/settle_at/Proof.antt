@@ -6,7 +6,6 @@ use Prim.Native.Nat.{ℕ, _<_}
 use lib.Dec.{eqb}
 use Rattle.table_records.specs.Fields.{stateIn, distanceIn, remainingIn}
 use Rattle.journeys.specs.Counting.{none}
-use Rattle.worktable.specs.Map.{spent}
 use Rattle.worktable.proofs.WordLaws.{known-is, settled-fits, settled-used, settled-vertex, settled-entry}
 use Rattle.worktable.proofs.TableLaws.{place-pos, place-distance, place-state, place-remaining, gives-changed}
 use Rattle.worktable.proofs.settle_at.Statement.{statement}
@@ -27,7 +26,7 @@ change-word-requires c κs =
     (start .pre .0 .slotted, start .pre .1 .slot .low, start .pre .0 .layout (place-pos (start .pre .0) (start .pre .1)) .win)
 
 returns : tie.Need-returns
-unfolding spent remainingIn
+unfolding remainingIn
 returns c =
     let start = c .before .before .before .before .before .before .before in
     let after-word = c .before .before .before .before in

@@ -1,0 +1,56 @@
+-- `meeting::enter` meets its contract: who is hopeless with its first record stays absent, and anybody else gets an entry. Assumes nothing.
+use Prim.Native.Nat.{ℕ, _+_, _-_, _*_}
+use mathlib.Core.Path.{sym, ap, _∙_}
+use native.Mathlib.Omega.{arith}
+use Rattle.journeys.specs.Tables.{vertexAt}
+use Rattle.worktable.specs.Map.{known, put, spent, swept}
+use Rattle.worktable.specs.Table.{mapOf}
+use Rattle.worktable.proofs.MapLaws.{swept-spent, swept-kept}
+use Rattle.meeting.proofs.Entries.{half-low}
+use Rattle.meeting.proofs.Leading as le
+use borrow.Author.Needs.{needs}
+use Rattle.meeting.proofs.enter.Statement.{statement}
+use Rattle.meeting.proofs.enter.Tie as tie
+
+sub-left : tie.Need-sub-left
+unfolding vertexAt
+sub-left c = omega (arith, c .before .before .before .pre .1 .0, c .half-at .ensures)
+
+returns : tie.Need-returns
+unfolding vertexAt spent
+returns c =
+    let s = c .before .before .before .before .before .before in
+    let a = s .args in
+    let n = vertexAt (a .vertices .now) (a .u) .departing - 1 in
+    let gone = swept-spent (a .allowed .0) (known (a .offer .0) 0 n) (ap (λ (k : ℕ). spent (a .allowed .0) (known (a .offer .0) 0 (k - 1))) (sym (c .before .before .before .half-at .ensures)) ∙ c .if1 .taken) in
+    le.leads-here (s .pre .0 .0) (le.stays-put (mapOf (a .t) (a .held .now)) (a .u) _ (s .pre .0 .4 ∙ sym gone))
+
+insert-requires : tie.Need-insert-requires
+insert-requires c κs =
+    let s = c .before .before .before .before .before .before .before in
+    let a = s .args in
+    let n = c .before .before .before .before .half-at in
+    (s .pre .0 .0, omega (arith, s .pre .0), s .pre .0 .3, half-low (a .vertices .now) (12 * a .u + 8) (n .result) (n .ensures) (λ i. c .before .before .before .before .before .shared-slice-known .given i .fits), s .pre .0 .4, s .pre .1 .1)
+
+returns-2 : tie.Need-returns-2
+unfolding vertexAt spent
+returns-2 c =
+    let s = c .before .before .before .before .before .before .before .before .before .before in
+    let a = s .args in
+    let n = c .before .before .before .before .before .before .before .half-at in
+    let kept = swept-kept (a .allowed .0) (known (a .offer .0) 0 (n .result - 1)) (c .before .before .before .before .if1 .left) in
+    le.leads-gives (c .before .before .insert .ensures)
+    (ap (put (mapOf (a .t) (a .held .now)) (a .u)) (sym kept ∙ ap (λ (k : ℕ). swept (a .allowed .0) (known (a .offer .0) 0 (k - 1))) (n .ensures)))
+
+pub enter-spec : {M : Type 1} → statement M
+enter-spec =
+    tie.close
+    (tie.spec
+    (λ c. search needs)
+    (λ c. search needs)
+    (λ c κs. search needs)
+    sub-left
+    returns
+    insert-requires
+    (λ c. search needs)
+    returns-2)
