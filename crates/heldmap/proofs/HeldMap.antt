@@ -5,16 +5,15 @@ use mathlib.Core.Bool.{Bool, true, false, not, cond, _&&_}
 use mathlib.Core.List.{List, [], _∷_, _++_, append-nil}
 use Prim.Native.Nat.{ℕ, zero, suc, _*_, _≤_, _<_}
 use native.Mathlib.Omega.{arith}
-use lib.Dec.{eqb}
 use lib.ListN.{length, length-append}
 use borrow.Author.Tests.{le-ltb, ne-eqb}
 use Rattle.journeys.specs.Counting.{none, joined, count}
-use Rattle.journeys.specs.Network.{Network, Held, within, into, known as knownAt, remaining, met, held, row, entry, heldList}
+use Rattle.journeys.specs.Network.{Network, Held, within, into, known as knownAt, remaining, met, spent, held, row, entry, heldList}
 use Rattle.journeys.proofs.Tests.{never, and-left, le-or-lt, same-or-below}
 use Rattle.journeys.proofs.Counting.{none-count}
 use Rattle.journeys.proofs.Known.{is-within, not-within, Next, Bound}
 use Rattle.journeys.proofs.Place.{key, key-less}
-use Rattle.journeys.proofs.Held.{held-next, known-met}
+use Rattle.journeys.proofs.Held.{held-next, near-held}
 use Rattle.worktable.specs.Map as map
 use Rattle.worktable.specs.Map.{distanceOf, stateOf, sizeTo, size, rowsTo, rows, Waits, Foremost}
 use Rattle.heldmap.specs.Model.{asEntry, heldMap}
@@ -102,26 +101,23 @@ module _ (G : Network) (far : ℕ → ℕ) (low : Bounded G) where
       go true h false q a b = (⊎-elim (λ (l : none ≤ far u). l) (λ (l : far u < none). never (is-within far u l) q) (le-or-lt none (far u)), b, h)
       go false h s q a b = absurd (let z : ⊥ = omega (arith, w .some) in z)
 
-  is-waiting : (u : ℕ) → none ≤ far u → knownAt G far u < none → Waits (heldMap G far) u (knownAt G far u)
-  unfolding heldMap entry row stateOf distanceOf held
-  is-waiting u out some =
-      let s = not-within far u out in
-      let h : (met G far u && not (within far u && eqb (remaining G far u) 0)) ≡ true = rw (known-met G far u some, s) in
-      record { unsettled = rw (h, s); at = rw h; some = some }
+  is-waiting : (u : ℕ) → none ≤ far u → knownAt G far u < none → held G far u ≡ true → Waits (heldMap G far) u (knownAt G far u)
+  unfolding heldMap entry row stateOf distanceOf
+  is-waiting u out some h = record { unsettled = rw (h, not-within far u out); at = rw h; some = some }
 
   held-low : (u : ℕ) → held G far u ≡ true → u < G .vertices
   unfolding held
   held-low u h =
-      ⊎-elim (λ (l : G .vertices ≤ u). never h (and-left (not (within far u && eqb (remaining G far u) 0)) (beyond-unmet u l))) (λ (l : u < G .vertices). l) (le-or-lt (G .vertices) u)
+      ⊎-elim (λ (l : G .vertices ≤ u). never h (and-left (not (spent (G .allowed) (within far u) (knownAt G far u) (remaining G far u))) (beyond-unmet u l))) (λ (l : u < G .vertices). l) (le-or-lt (G .vertices) u)
 
-  -- The foremost entry is the next vertex.
-  pub foremost-next : (v d : ℕ) → Foremost (heldMap G far) v d → Next G far v × (knownAt G far v ≡ d)
-  foremost-next v d f =
+  -- The foremost entry, if within D, is the next vertex.
+  pub foremost-next : (v d : ℕ) → Foremost (heldMap G far) v d → d ≤ G .allowed → Next G far v × (knownAt G far v ≡ d)
+  foremost-next v d f near =
       let w = waits-is v d (f .waits) in
       let some : knownAt G far v < none = omega (arith, f .waits .some, w .1) in (
-        held-next G far v (held-low v (w .2)) (w .0) some
+        held-next G far v (held-low v (w .2)) (w .0) some (omega (arith, w .1))
             (λ u un uo h. ⊎-elim (λ (q : none ≤ knownAt G far u). let l : knownAt G far v < knownAt G far u = omega arith in omega (arith, key-less (G .vertices) {v = v} u (held-low v (w .2)) l))
-            (λ (q : knownAt G far u < none). before u (knownAt G far u) (f .first u (knownAt G far u) (is-waiting u uo q)) (w .1))
+            (λ (q : knownAt G far u < none). before u (knownAt G far u) (f .first u (knownAt G far u) (is-waiting u uo q h)) (w .1))
             (le-or-lt none (knownAt G far u))),
         w .1,
       )
@@ -130,7 +126,10 @@ module _ (G : Network) (far : ℕ → ℕ) (low : Bounded G) where
       before u e (inl l) q = omega (arith, key-less (G .vertices) {v = v} {d = knownAt G far v} {d′ = e} u (held-low v (waits-is v d (f .waits) .2)) (let z : knownAt G far v < e = omega arith in z))
       before u e (inr x) q = key-order (G .vertices) (knownAt G far v) e v u (q ∙ x .0) (x .1)
 
-  -- Where no entry waits at D or less, nothing outside S is known within D.
-  pub none-waits : (D : ℕ) → D < none → ((u e : ℕ) → Waits (heldMap G far) u e → D < e) → Bound G far (suc D)
-  none-waits D Di h u un uo =
-      ⊎-elim (λ (q : none ≤ knownAt G far u). omega arith) (λ (q : knownAt G far u < none). h u (knownAt G far u) (is-waiting u uo q)) (le-or-lt none (knownAt G far u))
+  -- Where no entry waits at D or less, nothing outside S is known within D: whoever is known within D is held.
+  pub none-waits : G .allowed < none → ((u e : ℕ) → Waits (heldMap G far) u e → G .allowed < e) → Bound G far (suc (G .allowed))
+  none-waits small h u un uo =
+      ⊎-elim
+      (λ (q : knownAt G far u ≤ G .allowed). h u (knownAt G far u) (is-waiting u uo (omega arith) (near-held G far u uo (omega arith) q)))
+      (λ (q : G .allowed < knownAt G far u). q)
+      (le-or-lt (knownAt G far u) (G .allowed))

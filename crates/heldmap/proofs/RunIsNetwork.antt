@@ -76,6 +76,7 @@ module _ (size : ℕ) (wide : 16 ≤ size) (v w h : List ℕ) (Q : Query) (ok : 
     distance = record { 0 = d };
     arrival = A;
     speed = Q .speed;
+    allowed = record { 0 = allowed Q };
   }
 
   -- the first walk and the first hop that arrive at x
@@ -148,7 +149,7 @@ module _ (size : ℕ) (wide : 16 ≤ size) (v w h : List ℕ) (Q : Query) (ok : 
       let q : R .departing (R .from j) ≡ departs G (G .from k) = ap (R .departing) f ∙ departs-of (G .from k) (laws N Q ok .from-low k l) in
       let fit : G .offer k d ≤ none = small (offer-fits N Q ok k d l near) in
       ap₂ (λ (u : ℕ) (y : Entry). put (mid k) u y) f
-      (ap₂ (λ (b c : ℕ). passing.met b c (mid k (R .from j))) o q ∙ ap (λ (u : ℕ). passing.met (G .offer k d) (departs G (G .from k)) (mid k u)) f)
+      (ap₂ (λ (b c : ℕ). passing.met (G .allowed) b c (mid k (R .from j))) o q ∙ ap (λ (u : ℕ). passing.met (G .allowed) (G .offer k d) (departs G (G .from k)) (mid k u)) f)
       ∙ sym (midway-step G (ways N Q) (laws N Q ok) (loopless N Q ok) s x X k l t fit)
     where
       small : {z : ℕ} → Fits z → z ≤ none
@@ -322,6 +323,7 @@ module _ (size : ℕ) (wide : 16 ≤ size) (v w h : List ℕ) (Q : Query) (ok : 
         distance = omega (arith, near, allowed-high (ok .query));
         arrival = rw clock (record { low = omega (arith, ok .query .arrival-low); high = ok .query .arrival-high });
         speed = ok .query .speed-high;
+        allowed = omega (arith, allowed-high (ok .query));
       }
     where
       rides : (i : ℕ) → i < r .hops → Rides size (hopsAt size v h x) i

@@ -55,10 +55,10 @@ module _ (size : ℕ) (wide : 16 ≤ size) (v w h : List ℕ) (Q : Query) (ok : 
   s = order-state N Q ok O k
 
   X : Next G far x
-  X = foremost-next G far bounded x d F .0
+  X = foremost-next G far bounded x d F near .0
 
   at : network.known G far x ≡ d
-  at = foremost-next G far bounded x d F .1
+  at = foremost-next G far bounded x d F near .1
 
   near′ : network.known G far x ≤ allowed Q
   near′ = rw at near
@@ -76,13 +76,13 @@ module _ (size : ℕ) (wide : 16 ≤ size) (v w h : List ℕ) (Q : Query) (ok : 
   now-settled : settledNow (heldMap G far) x ≡ mid 0
   unfolding settledNow
   now-settled =
-      let left = settle-left G (ways N Q) (laws N Q ok) (loopless N Q ok) s x X in
+      let left = settle-left G (ways N Q) (laws N Q ok) (loopless N Q ok) s x X near′ in
       ⊎-elim
       (λ (z : remaining G far x ≤ 0).
       let e : remaining G far x ≡ 0 = omega arith in
       cond-true _ _ (eq-eqb (remainingOf (map.settled (heldMap G far x))) 0 (left ∙ e)) ∙ settle-drops G (ways N Q) (laws N Q ok) (loopless N Q ok) s x X e)
       (λ (z : 0 < remaining G far x).
-      cond-false _ _ (ne-eqb (remainingOf (map.settled (heldMap G far x))) 0 (λ e. absurd (let q : ⊥ = omega (arith, left) in q))) ∙ settle-keeps G (ways N Q) (laws N Q ok) (loopless N Q ok) s x X z)
+      cond-false _ _ (ne-eqb (remainingOf (map.settled (heldMap G far x))) 0 (λ e. absurd (let q : ⊥ = omega (arith, left) in q))) ∙ settle-keeps G (ways N Q) (laws N Q ok) (loopless N Q ok) s x X near′ z)
       (le-or-lt (remaining G far x) 0)
 
   -- x is not among the settled
@@ -94,7 +94,7 @@ module _ (size : ℕ) (wide : 16 ≤ size) (v w h : List ℕ) (Q : Query) (ok : 
 
   module _ (A : Seconds) (clock : clocked (A .0) ≡ Q .arrival) where
     abbrev r : ℕ → Arriving
-    r z = arrivingAt size v w h x z A (Q .speed)
+    r z = arrivingAt size v w h x z A (Q .speed) (allowed Q)
 
     -- The map after the step.
     pub map-next : passing.passed (rowAt v w h x (r d)) (passes (r d)) (settledNow (heldMap G far) x) ≡ heldMap G (distanceIn (take (suc k) l))

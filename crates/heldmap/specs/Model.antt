@@ -37,9 +37,9 @@ walksAt v w x = run 16 w (firstOf Walks (vertexAt v x)) (endOf Walks v (length w
 unfoldable pub hopsAt : ℕ → List ℕ → List ℕ → ℕ → List ℕ
 hopsAt size v h x = run size h (firstOf Hops (vertexAt v x)) (endOf Hops v (length h / size) x)
 
--- how many they are, and what they ask, where x is settled at d
-unfoldable pub arrivingAt : ℕ → List ℕ → List ℕ → List ℕ → ℕ → ℕ → Seconds → ℕ → Arriving
-arrivingAt size v w h x d arrival speed =
+-- how many they are, and what they ask, where x is settled at d and D is allowed
+unfoldable pub arrivingAt : ℕ → List ℕ → List ℕ → List ℕ → ℕ → ℕ → Seconds → ℕ → ℕ → Arriving
+arrivingAt size v w h x d arrival speed D =
     record {
       walks = endOf Walks v (length w / 16) x - firstOf Walks (vertexAt v x);
       hops = endOf Hops v (length h / size) x - firstOf Hops (vertexAt v x);
@@ -47,6 +47,7 @@ arrivingAt size v w h x d arrival speed =
       distance = record { 0 = d };
       arrival = arrival;
       speed = speed;
+      allowed = record { 0 = D };
     }
 
 -- the row of those records, with whatever they ask
