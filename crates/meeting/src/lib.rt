@@ -28,7 +28,14 @@ pub enum Arrived {
 }
 
 // A new vertex gets an entry, unless none of its records remains and its offer is above D: then it is hopeless, and takes no slot.
-fn enter(held: &mut [u8], t: Table, vertices: &[u8], u: usize, offer: Ticks, allowed: Ticks) -> Table
+fn enter(
+    held: &mut [u8],
+    t: Table,
+    vertices: &[u8],
+    u: usize,
+    offer: Ticks,
+    allowed: Ticks,
+) -> Table
     requires { ⌜ InOrder t (now held) × (u < length (now vertices) / 12) × (length (now vertices) / 12 ≤ 65536) × Figure (offer .0) × (mapOf t (now held) u ≡ absent) ⌝ }
     requires { ⌜ (0 < vertexAt (now vertices) u .departing) × (size (mapOf t (now held)) < t .capacity) ⌝ }
     ensures { λ r. ⌜ Leads t r (now (held .exit)) (put (mapOf t (now (held .entry))) u (swept (allowed .0) (known (offer .0) 0 (vertexAt (now (vertices .entry)) u .departing - 1)))) ⌝ }

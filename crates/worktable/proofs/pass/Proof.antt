@@ -55,7 +55,6 @@ returns-2 c =
     let e = pass-lower-same x o p (v .ensures) fit due h (start .pre .1) lower in
     (g, told-is (start .args .allowed) (x * 4294967296 + (v .result - 1) % 4294967296) (gives-place (touched x (mapOf (start .args .t) (start .args .b .now) (start .args .u))) g (λ z. absent-known (sym z ∙ sym e)) p) e (c .told .ensures))
 
-
 set-word-requires : tie.Need-set-word-requires
 set-word-requires c κs =
     let start = c .before .before .before .before .before .before .before .before .before .before .before in
@@ -76,7 +75,6 @@ returns-3 c =
     let e = less-is x o p (v .ensures) fit due ∙ sym (pass-open-same x o p (v .ensures) fit due h (start .pre .1) high) in
     (g, told-is (start .args .allowed) (v .result - 1) (gives-place (touched x (mapOf (start .args .t) (start .args .b .now) (start .args .u))) g (λ z. absent-known (sym z ∙ sym e)) p) e (c .told2 .ensures))
 
-
 set-word-requires-2 : tie.Need-set-word-requires-2
 set-word-requires-2 c κs =
     let start = c .before .before .before .before .before .before .before .before .before .before in
@@ -95,7 +93,6 @@ returns-4 c =
     let g = pass-settled-gives x o p (v .ensures) fit due h (c .before .before .before .set-word2 .ensures) (c .before .before .before .set-word2 .kept .0) in
     let e = less-is x o p (v .ensures) fit due ∙ sym (pass-settled x o p (v .ensures) fit due h) in
     (g, told-is (start .args .allowed) (v .result - 1) (gives-place (touched x (mapOf (start .args .t) (start .args .b .now) (start .args .u))) g (λ z. absent-known (sym z ∙ sym e)) p) e (c .told3 .ensures))
-
 
 pub pass-spec : {M : Type 1} → statement M
 pass-spec =

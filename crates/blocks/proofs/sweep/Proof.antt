@@ -1,4 +1,4 @@
--- `halves::sweep` meets its contract, record by record. Assumes nothing.
+-- `blocks::sweep` meets its contract, record by record. Assumes nothing.
 use mathlib.Core.Path.{refl}
 use mathlib.Core.Bool.{cond}
 use Prim.Native.Nat.{ℕ, _-_}
@@ -7,18 +7,18 @@ use Rattle.passing.specs.Row.{fromOf}
 use Rattle.worktable.specs.Map.{swept}
 use Rattle.meeting.proofs.Loops as lo
 use Rattle.meeting.proofs.Loops.{Went}
-use Rattle.halves.specs.Half.{inHalf, sweeps}
+use Rattle.blocks.specs.Block.{inBlock, sweeps}
 use Rattle.passing.proofs.Few.{hops-few}
 use borrow.Author.Needs.{needs}
-use Rattle.halves.proofs.sweep.Statement.{statement}
-use Rattle.halves.proofs.sweep.Tie as tie
+use Rattle.blocks.proofs.sweep.Statement.{statement}
+use Rattle.blocks.proofs.sweep.Tie as tie
 
 abbrev Inv-loop : tie.InvT-loop
-Inv-loop held₀ walks hops arriving half n table₀ j₀ held table j =
-    Went (fromOf walks hops arriving) (sweeps (fromOf walks hops arriving) half) n table₀ held₀ table held j
+Inv-loop held₀ walks hops arriving block n table₀ j₀ held table j =
+    Went (fromOf walks hops arriving) (sweeps (arriving .allowed .0) (fromOf walks hops arriving) block) n table₀ held₀ table held j
 
 abbrev μ-loop : tie.MeasureT-loop
-μ-loop held₀ walks hops arriving half n table₀ j₀ held table j = n - j
+μ-loop held₀ walks hops arriving block n table₀ j₀ held table j = n - j
 
 add-n : tie.Need-add-n Inv-loop μ-loop
 add-n c =
@@ -31,7 +31,7 @@ from-at-requires : tie.Need-from-at-requires Inv-loop μ-loop
 from-at-requires c κs = (c .before .before .before .before .before .before .pre .1, c .loop-test .taken)
 
 sweep-one-requires : tie.Need-sweep-one-requires Inv-loop μ-loop
-sweep-one-requires c κs = c .before .before .before .loop .inv .leads .holds .order
+sweep-one-requires c κs = (c .before .before .before .loop .inv .leads .holds .order, c .before .before .before .before .before .before .before .before .pre .2)
 
 add-j : tie.Need-add-j Inv-loop μ-loop
 add-j c =
@@ -41,7 +41,7 @@ add-j c =
 loop-again : tie.Need-loop-again Inv-loop μ-loop
 loop-again c =
     let a = c .before .before .before .before .before .before .before .before .before .before .before .args in
-    lo.went-on (fromOf (a .walks .now) (a .hops .now) (a .arriving)) (λ k. 0) (λ u x e. cond (inHalf (a .half) u) (swept e) e) {x = 0} (c .before .before .before .before .before .before .loop .inv) (c .before .before .before .before .before .loop-test .taken) (c .before .before .sweep-one .kept .0) (c .before .before .sweep-one .ensures) (c .before .before .before .before .from-at .ensures) refl
+    lo.went-on (fromOf (a .walks .now) (a .hops .now) (a .arriving)) (λ k. 0) (λ u x e. cond (inBlock (a .block) u) (swept (a .arriving .allowed .0) e) e) {x = 0} (c .before .before .before .before .before .before .loop .inv) (c .before .before .before .before .before .loop-test .taken) (c .before .before .sweep-one .kept .0) (c .before .before .sweep-one .ensures) (c .before .before .before .before .from-at .ensures) refl
 
 same-length : tie.Need-same-length Inv-loop μ-loop
 same-length c = c .before .loop .inv .lengths

@@ -1,9 +1,8 @@
--- `halves::add` meets its contract. Additions take no entry away, so where one has no room the end has none. Assumes nothing.
+-- `blocks::add` meets its contract. Additions take no entry away, so where one has no room the end has none. Assumes nothing.
 use mathlib.Core.Path.{_≡_, ap, _∙_}
 use mathlib.Core.Bool.{cond, _&&_}
 use Prim.Native.Nat.{ℕ, _+_, _-_, _%_}
 use native.Mathlib.Omega.{arith}
-use Rattle.marks.specs.Marks.{bit}
 use Rattle.passing.specs.Row.{rowOf, passes}
 use Rattle.worktable.specs.Map.{put, size}
 use Rattle.worktable.specs.Table.{mapOf}
@@ -12,20 +11,20 @@ use Rattle.meeting.specs.Answer.{ArrivedIs}
 use Rattle.meeting.proofs.Leading as le
 use Rattle.meeting.proofs.Loops as lo
 use Rattle.meeting.proofs.Loops.{Went}
-use Rattle.halves.specs.Half.{inHalf, adds}
-use Rattle.halves.proofs.HalfOfStep.{adds-size}
-use Rattle.halves.proofs.NextRecord as nx
+use Rattle.blocks.specs.Block.{inBlock, staysIn, adds}
+use Rattle.blocks.proofs.BlockOfStep.{adds-size}
+use Rattle.blocks.proofs.NextRecord as nx
 use Rattle.passing.proofs.Few.{hops-few}
 use borrow.Author.Needs.{needs}
-use Rattle.halves.proofs.add.Statement.{statement}
-use Rattle.halves.proofs.add.Tie as tie
+use Rattle.blocks.proofs.add.Statement.{statement}
+use Rattle.blocks.proofs.add.Tie as tie
 
 abbrev Inv-loop : tie.InvT-loop
-Inv-loop held₀ vertices walks hops arriving half marks n table₀ j₀ held table j =
-    Went (rowOf vertices walks hops arriving .from) (adds (rowOf vertices walks hops arriving) marks half) n table₀ held₀ table held j
+Inv-loop held₀ vertices walks hops arriving block counters n table₀ j₀ held table j =
+    Went (rowOf vertices walks hops arriving .from) (adds (rowOf vertices walks hops arriving) counters block) n table₀ held₀ table held j
 
 abbrev μ-loop : tie.MeasureT-loop
-μ-loop held₀ vertices walks hops arriving half marks n table₀ j₀ held table j = n - j
+μ-loop held₀ vertices walks hops arriving block counters n table₀ j₀ held table j = n - j
 
 add-n : tie.Need-add-n Inv-loop μ-loop
 add-n c =
@@ -50,7 +49,7 @@ add-one-requires c κs =
     let q = c .before .before .from-at .ensures in
     let l = c .before .before .before .loop-test .taken in
     let i = L .inv .leads in
-    ((i .holds .order, rw q (y .leaves .low (L .j) l), y .leaves .vertices, c .before .offer-at .ensures .1, s .pre .1), λ h on. nx.added-left R (passes (a .arriving)) (mapOf (a .t) (a .held .now)) (L .j) l q (a .half) (a .marks .now) (y .news) (i .holds .map) h on)
+    ((i .holds .order, rw q (y .leaves .low (L .j) l), y .leaves .vertices, c .before .offer-at .ensures .1, s .pre .1, omega (arith, y .sound .allowed)), λ h on. (nx.added-left R (passes (a .arriving)) (mapOf (a .t) (a .held .now)) (L .j) l q (a .block) (a .counters .now) (y .news) (i .holds .map) h on, nx.added-entry R (passes (a .arriving)) (mapOf (a .t) (a .held .now)) (L .j) l q (a .block) (a .counters .now) (y .news) (i .holds .map) (c .before .offer-at .ensures .0) h on))
 
 same-length : tie.Need-same-length Inv-loop μ-loop
 same-length c =
@@ -65,9 +64,9 @@ returns c =
     let R = rowOf (a .vertices .now) (a .walks .now) (a .hops .now) (a .arriving) in
     let i = L .inv .leads in
     let m = mapOf (a .t) (a .held .now) in
-    let f = lo.step-map (R .from) (R .offer) (λ u x e. cond (inHalf (a .half) u && bit (a .marks .now) (u % 32768)) (met x (R .departing u) e) e) m (L .j) (i .holds .map) (c .before .before .before .before .before .before .before .from-at .ensures) (c .before .before .before .before .before .before .offer-at .ensures .0) in
+    let f = lo.step-map (R .from) (R .offer) (λ u x e. cond (inBlock (a .block) u && staysIn (a .counters .now) (u % 2048)) (met (R .allowed) x (R .departing u) e) e) m (L .j) (i .holds .map) (c .before .before .before .before .before .before .before .from-at .ensures) (c .before .before .before .before .before .before .offer-at .ensures .0) in
     let z = le.none-fits (L .table) (c .before .before .before .before .add-one .last .0) _ (c .before .before .before .before .add-one .ensures) (c .enum-told .given .1) in
-    omega (arith, z, i .capacity, ap size f, adds-size R (passes (a .arriving)) (a .half) (a .marks .now) m (s .pre .0 .news) (L .j + 1) (passes (a .arriving)) (omega (arith, c .before .before .before .before .before .before .before .before .loop-test .taken)))
+    omega (arith, z, i .capacity, ap size f, adds-size R (passes (a .arriving)) (a .block) (a .counters .now) m (s .pre .0 .news) (L .j + 1) (passes (a .arriving)) (omega (arith, c .before .before .before .before .before .before .before .before .loop-test .taken)) (omega arith))
 
 add-j : tie.Need-add-j Inv-loop μ-loop
 add-j c =
@@ -81,7 +80,7 @@ loop-again : tie.Need-loop-again Inv-loop μ-loop
 loop-again c =
     let a = c .before .before .before .before .before .before .before .before .before .before .before .before .before .before .before .before .before .args in
     let R = rowOf (a .vertices .now) (a .walks .now) (a .hops .now) (a .arriving) in
-    lo.went-on (R .from) (R .offer) (λ u x e. cond (inHalf (a .half) u && bit (a .marks .now) (u % 32768)) (met x (R .departing u) e) e) (c .before .before .before .before .before .before .before .before .before .before .loop .inv) (c .before .before .before .before .before .before .before .before .before .loop-test .taken) (c .before .before .before .before .before .add-one .kept .0)
+    lo.went-on (R .from) (R .offer) (λ u x e. cond (inBlock (a .block) u && staysIn (a .counters .now) (u % 2048)) (met (R .allowed) x (R .departing u) e) e) (c .before .before .before .before .before .before .before .before .before .before .loop .inv) (c .before .before .before .before .before .before .before .before .before .loop-test .taken) (c .before .before .before .before .before .add-one .kept .0)
     (le.fits-leads (c .before .before .before .before .before .add-one .ensures) (c .before .next .given .1)) (c .before .before .before .before .before .before .before .before .from-at .ensures) (c .before .before .before .before .before .before .before .offer-at .ensures .0)
 
 same-length-2 : tie.Need-same-length-2 Inv-loop μ-loop

@@ -1,4 +1,4 @@
--- `halves::lacks_slot` meets its contract: only a new vertex asks for a slot. Assumes nothing.
+-- `blocks::lacks_slot` meets its contract: only a new vertex asks for a slot. Assumes nothing.
 use mathlib.Core.Path.{sym, ap, _∙_}
 use mathlib.Core.Bool.{Bool, _&&_}
 use Prim.Native.Nat.{ℕ, _-_}
@@ -6,10 +6,10 @@ use lib.Dec.{eqb}
 use Rattle.worktable.specs.Map.{size}
 use Rattle.worktable.specs.Table.{mapOf}
 use Rattle.worktable.specs.declared.Passed.{Passed}
-use Rattle.halves.specs.Lack.{isNew}
+use Rattle.blocks.specs.Lack.{isNew}
 use borrow.Author.Needs.{needs}
-use Rattle.halves.proofs.lacks_slot.Statement.{statement}
-use Rattle.halves.proofs.lacks_slot.Tie as tie
+use Rattle.blocks.proofs.lacks_slot.Statement.{statement}
+use Rattle.blocks.proofs.lacks_slot.Tie as tie
 
 returns : tie.Need-returns
 unfolding isNew

@@ -1,0 +1,3 @@
+pub mod Chances
+pub mod BlockOfStep
+pub mod NextRecord

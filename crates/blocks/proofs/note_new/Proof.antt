@@ -1,0 +1,84 @@
+-- `blocks::note_new` meets its contract: the counters are those after the first j records. Assumes nothing.
+use mathlib.Core.Path.{_≡_, refl, ap, _∙_}
+use Prim.Native.Nat.{ℕ, _-_, _/_, _≤_, _<_}
+use native.Mathlib.Omega.{arith}
+use lib.ListN.{length, getD}
+use Rattle.passing.specs.Row.{rowOf, passes}
+use Rattle.passing.proofs.Few.{hops-few}
+use Rattle.worktable.specs.Table.{mapOf}
+use Rattle.blocks.specs.Block.{noting}
+use Rattle.blocks.proofs.NextRecord as nx
+use borrow.Author.Needs.{needs}
+use Rattle.blocks.proofs.note_new.Statement.{statement}
+use Rattle.blocks.proofs.note_new.Tie as tie
+
+abbrev Inv-loop : tie.InvT-loop
+Inv-loop held t vertices walks hops arriving block counters₀ n j₀ counters j =
+    (j ≤ n) × (length counters ≡ length counters₀) × ((k : ℕ) → k < 2048 → getD counters k 0 ≡ noting (rowOf vertices walks hops arriving) block (mapOf t held) j k)
+
+abbrev μ-loop : tie.MeasureT-loop
+μ-loop held t vertices walks hops arriving block counters₀ n j₀ counters j = n - j
+
+add-n : tie.Need-add-n Inv-loop μ-loop
+add-n c = let s = c .before .before .before .before .before .before in record { fits = omega (arith, s .pre .0 .sound .counted .walks, hops-few (s .pre .0 .sound .counted), s .good) }
+
+loop-holds : tie.Need-loop-holds Inv-loop μ-loop
+unfolding noting
+loop-holds c = let s = c .before .before .before .before .before .before in (omega arith, refl, λ k h. nx.zero-counter (s .args .counters .now) (s .pre .1) k h)
+
+from-at-requires : tie.Need-from-at-requires Inv-loop μ-loop
+from-at-requires c κs = (c .before .before .before .before .before .before .before .before .pre .0 .sound .counted, c .loop-test .taken)
+
+offer-at-requires : tie.Need-offer-at-requires Inv-loop μ-loop
+offer-at-requires c κs = (c .before .before .before .before .before .before .before .before .before .pre .0 .sound, c .before .loop-test .taken)
+
+note-one-requires : tie.Need-note-one-requires Inv-loop μ-loop
+note-one-requires c κs =
+    let s = c .before .before .before .before .before .before .before .before .before .before .before in
+    let a = s .args in
+    let y = s .pre .0 in
+    let L = c .before .before .before .before .loop in
+    let R = rowOf (a .vertices .now) (a .walks .now) (a .hops .now) (a .arriving) in
+    let q = c .before .before .from-at .ensures in
+    let l = c .before .before .before .loop-test .taken in
+    (y .order, rw q (y .leaves .low (L .j) l), L .inv .1 ∙ nx.zero-length (s .pre .1), λ h z. nx.new-departs R (passes (a .arriving)) (mapOf (a .t) (a .held .now)) (L .j) l q (y .fresh _ h) z)
+
+add-j : tie.Need-add-j Inv-loop μ-loop
+add-j c =
+    let s = c .before .before .before .before .before .before .before .before .before .before .before .before .before .before in
+    record { fits = omega (arith, c .before .before .before .before .before .before .loop-test .taken, s .pre .0 .sound .counted .walks, hops-few (s .pre .0 .sound .counted), s .good) }
+
+loop-again : tie.Need-loop-again Inv-loop μ-loop
+loop-again c =
+    let a = c .before .before .before .before .before .before .before .before .before .before .before .before .before .before .args in
+    let L = c .before .before .before .before .before .before .before .loop in
+    let R = rowOf (a .vertices .now) (a .walks .now) (a .hops .now) (a .arriving) in
+    (omega arith, c .before .before .note-one .kept .1 .1 .1 .1 .1 .1 .1 .0 ∙ L .inv .1, λ k h. nx.noting-step R (a .block) (mapOf (a .t) (a .held .now)) (L .j) k (c .before .before .before .before .before .from-at .ensures) (c .before .before .before .before .offer-at .ensures .0) (L .inv .2 k h) (c .before .before .note-one .ensures k h))
+
+same-length : tie.Need-same-length Inv-loop μ-loop
+same-length c = c .before .loop .inv .1
+
+returns : tie.Need-returns Inv-loop μ-loop
+returns c =
+    let a = c .before .before .before .before .before .before .before .before .args in
+    let L = c .before .loop in
+    let R = rowOf (a .vertices .now) (a .walks .now) (a .hops .now) (a .arriving) in
+    let e : L .j ≡ passes (a .arriving) = omega (arith, L .inv .0, c .loop-test .left) in
+    λ k h. L .inv .2 k h ∙ ap (λ (j : ℕ). noting R (a .block) (mapOf (a .t) (a .held .now)) j k) e
+
+pub note-new-spec : {M : Type 1} → statement M
+note-new-spec =
+    tie.close
+    (tie.spec
+    Inv-loop
+    μ-loop
+    add-n
+    loop-holds
+    from-at-requires
+    offer-at-requires
+    note-one-requires
+    add-j
+    (λ c. search needs)
+    loop-again
+    same-length
+    returns)

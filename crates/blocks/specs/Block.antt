@@ -1,0 +1,91 @@
+-- One block of 2,048 vertices where room is scarce: who of its new vertices stays, and the end of the step for it. Assumes nothing.
+use mathlib.Core.Path.{_≡_}
+use mathlib.Core.Bool.{Bool, true, not, cond, _&&_}
+use mathlib.Core.List.{List}
+use Prim.Native.Nat.{ℕ, zero, suc, _-_, _/_, _%_, _≤_, _<_}
+use lib.Dec.{eqb, ltb}
+use lib.ListN.{getD}
+use Rattle.journeys.specs.Counting.{one}
+use Rattle.passing.specs.Row.{Row, passes, fromOf, rowOf, Sound, Leaves}
+use Rattle.passing.specs.declared.Arriving.{Arriving}
+use Rattle.worktable.specs.Map as map
+use Rattle.worktable.specs.Map.{Entry, absent, known, Map, swept}
+use Rattle.worktable.specs.Table.{mapOf, InOrder}
+use Rattle.worktable.specs.declared.Table.{Table}
+use Rattle.meeting.specs.Passing.{missing, meets, goes, along, leaving}
+
+abbrev pub inBlock : ℕ → ℕ → Bool
+inBlock block u = eqb (u / 2048) block
+
+-- a counter that is not 0 says that its vertex stays
+unfoldable pub staysIn : List ℕ → ℕ → Bool
+staysIn s k = not (eqb (getD s k 0) 0)
+
+-- the counter c of a new vertex after a record with the offer b: it starts at the departing records, and each offer above D takes one off
+unfoldable pub chance : ℕ → ℕ → ℕ → ℕ → ℕ
+chance D b departing c = cond (eqb c 0) departing c - one (ltb D b)
+
+-- those of a block that are spent are dropped
+abbrev pub sweeps : ℕ → (ℕ → ℕ) → ℕ → ℕ → Entry → Entry
+sweeps D from block j e = cond (inBlock block (from j)) (swept D e) e
+
+module _ (R : Row) where
+  -- counter k of the block when the first j records have been noted; m tells who is new
+  unfoldable pub noting : ℕ → Map → ℕ → ℕ → ℕ
+  noting block m zero k = 0
+  noting block m (suc j) k =
+      cond (inBlock block (R .from j) && (missing (m (R .from j)) && eqb (R .from j % 2048) k))
+      (chance (R .allowed) (R .offer j) (R .departing (R .from j)) (noting block m j k)) (noting block m j k)
+
+  -- those of a block that stay are met
+  abbrev pub adds : List ℕ → ℕ → ℕ → Entry → Entry
+  adds s block j e = cond (inBlock block (R .from j) && staysIn s (R .from j % 2048)) (meets R j e) e
+
+  -- the entry of u, which has been touched, when the step is over
+  unfoldable pub ended : ℕ → ℕ → Entry → Entry
+  ended n u absent = along (R .from) (meets R) n u absent
+  ended n u (known d s r) = along (R .from) (λ j. swept (R .allowed)) n u (known d s r)
+
+  -- the step is over for one block
+  unfoldable pub over : ℕ → ℕ → Map → Map
+  over n block m u = cond (inBlock block u) (ended n u (m u)) (m u)
+
+  -- a new vertex of the block has no more records in the row than leave it
+  abbrev pub Fresh : ℕ → ℕ → Map → Type 0
+  Fresh n block m = (u : ℕ) → u / 2048 ≡ block → m u ≡ absent → leaving R u n ≤ R .departing u
+
+  -- who stays by the counters s is not held, has no more records in the row than leave it, and has an entry from its first record on
+  abbrev pub News : ℕ → ℕ → List ℕ → Map → Type 0
+  News n block s m = (u : ℕ) → u / 2048 ≡ block → staysIn s (u % 2048) ≡ true
+      → (m u ≡ absent) × (leaving R u n ≤ R .departing u) × ((j : ℕ) → j < n → R .from j ≡ u → map.one (along (R .from) (meets R) (suc j) u absent) ≡ 1)
+
+-- ---- what the contracts say of a row
+module _ (w h : List ℕ) (a : Arriving) (block : ℕ) where
+  abbrev pub sweptBlock : Map → Map
+  sweptBlock m = goes (fromOf w h a) (sweeps (a .allowed .0) (fromOf w h a) block) (passes a) m
+
+module _ (v w h : List ℕ) (a : Arriving) (block : ℕ) where
+  -- the counters s are those of the block
+  abbrev pub Noted : Map → List ℕ → Type 0
+  Noted m s = (k : ℕ) → k < 2048 → getD s k 0 ≡ noting (rowOf v w h a) block m (passes a) k
+
+  abbrev pub addedBlock : List ℕ → Map → Map
+  addedBlock s m = goes (fromOf w h a) (adds (rowOf v w h a) s block) (passes a) m
+
+  -- the map when the step is over for the block
+  abbrev pub blockOver : Map → Map
+  blockOver m = over (rowOf v w h a) (passes a) block m
+
+  -- what the end of a block starts from
+  pub record Touched (t : Table) (b : List ℕ) : Type 0 where
+    pub order : InOrder t b
+    pub sound : Sound w h a
+    pub leaves : Leaves v w h a
+    pub fresh : Fresh (rowOf v w h a) (passes a) block (mapOf t b)
+
+  -- what its additions start from, with the counters s
+  pub record Swept (s : List ℕ) (t : Table) (b : List ℕ) : Type 0 where
+    pub order : InOrder t b
+    pub sound : Sound w h a
+    pub leaves : Leaves v w h a
+    pub news : News (rowOf v w h a) (passes a) block s (mapOf t b)

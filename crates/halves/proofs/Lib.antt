@@ -1,2 +1,0 @@
-pub mod HalfOfStep
-pub mod NextRecord
