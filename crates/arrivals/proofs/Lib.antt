@@ -1,4 +1,2 @@
-pub mod TouchThenSweep
-pub mod HalvesAreStep
-pub mod TallyIsGrowth
+pub mod BlocksAreStep
 pub mod Determined

@@ -1,2 +1,1 @@
-pub mod Survey
-pub mod BothHalves
+pub mod Range

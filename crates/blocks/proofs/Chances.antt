@@ -161,7 +161,7 @@ module _ (R : Row) (block : ℕ) (m : Map) (u : ℕ) (here : u / 2048 ≡ block)
       off (no q) (yes b) = and-right (inBlock block (R .from j)) (and-right (missing (m (R .from j))) (ne-eqb (R .from j % 2048) (u % 2048) (λ r. q (omega arith))))
       off (no q) (no b) = and-left (missing (m (R .from j)) && eqb (R .from j % 2048) (u % 2048)) (ne-eqb (R .from j / 2048) block b)
 
-  noting-here : (j : ℕ) → R .from j ≡ u → m u ≡ absent → noting R block m (suc j) (u % 2048) ≡ chance (R .allowed) (R .offer j) (R .departing u) (noting R block m j (u % 2048))
+  pub noting-here : (j : ℕ) → R .from j ≡ u → m u ≡ absent → noting R block m (suc j) (u % 2048) ≡ chance (R .allowed) (R .offer j) (R .departing u) (noting R block m j (u % 2048))
   unfolding noting missing
   noting-here j q z =
       let a : inBlock block (R .from j) ≡ true = eq-eqb (R .from j / 2048) block (ap (λ (v : ℕ). v / 2048) q ∙ here) in

@@ -1,0 +1,4 @@
+pub mod TouchThenSweep
+pub mod TallyIsGrowth
+pub mod Mixed
+pub mod BlockByBlock
