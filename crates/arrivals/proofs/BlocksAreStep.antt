@@ -166,13 +166,13 @@ module _ (R : Row) (n : ℕ) (m : Map) (enough : Enough R n m) (low : (j : ℕ) 
   fresh-lower {k} e u l z = fresh-touched refl u (sym (lower u l) ∙ ap (λ (x : Map). x u) (sym e) ∙ z)
 
 -- ---- answers
-pub range-fits : {R : Row} {n lo hi : ℕ} {t r : Table} {c : List ℕ} {m : Map} {x : Arrived} → RangeIs R n lo hi t c m x → x ≡ Fits r → Leads t r c (overTo R n lo hi m)
+pub range-fits : (R : Row) (n lo hi : ℕ) (t : Table) (c : List ℕ) (m : Map) {r : Table} {x : Arrived} → RangeIs R n lo hi t c m x → x ≡ Fits r → Leads t r c (overTo R n lo hi m)
 unfolding RangeIs
-range-fits {R} {n} {lo} {hi} {t} {r} {c} {m} h e = subst (RangeIs R n lo hi t c m) e h
+range-fits R n lo hi t c m h e = subst (RangeIs R n lo hi t c m) e h
 
-pub range-full : {R : Row} {n lo hi : ℕ} {t : Table} {c : List ℕ} {m : Map} {x : Arrived} → RangeIs R n lo hi t c m x → x ≡ NoRoom → (i : ℕ) × (lo ≤ i) × (i ≤ hi) × (t .capacity < size (overTo R n lo i m))
+pub range-full : (R : Row) (n lo hi : ℕ) (t : Table) (c : List ℕ) (m : Map) {x : Arrived} → RangeIs R n lo hi t c m x → x ≡ NoRoom → (i : ℕ) × (lo ≤ i) × (i ≤ hi) × (t .capacity < size (overTo R n lo i m))
 unfolding RangeIs
-range-full {R} {n} {lo} {hi} {t} {c} {m} h e = subst (RangeIs R n lo hi t c m) e h
+range-full R n lo hi t c m h e = subst (RangeIs R n lo hi t c m) e h
 
 -- the second range ends the step
 pub step-over : (R : Row) (n hi : ℕ) (t r : Table) (c : List ℕ) (x : Arrived) {k U F : Map} → r .capacity ≡ t .capacity → k ≡ U → overTo R n 0 hi U ≡ F → ((i : ℕ) → i ≤ hi → size (overTo R n 0 i U) ≤ size F)

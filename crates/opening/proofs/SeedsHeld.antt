@@ -1,26 +1,27 @@
 -- Before the first step the working table holds the seeds. Assumes nothing.
-use mathlib.Core.Path.{_≡_, refl, sym, ap, ap₂, _∙_}
-use mathlib.Core.Logic.{_≢_}
+use mathlib.Core.Path.{_≡_, refl, sym, ap, ap₂, subst, _∙_}
+use mathlib.Core.Logic.{_≢_, _⊎_, inl, inr, ⊎-elim}
 use mathlib.Core.Bool.{Bool, true, false, not, cond, _||_}
 use mathlib.Core.List.{[]}
 use Prim.Native.Nat.{ℕ, _-_, _≤_, _<_, min}
 use native.Mathlib.Omega.{arith}
 use native.Mathlib.Decide.{ℕ-discrete}
-use lib.Dec.{eqb}
-use borrow.Author.Tests.{eq-eqb, ne-eqb, lt-ltb, le-ltb}
+use lib.Dec.{eqb, ltb}
+use borrow.Author.Tests.{eqb-true, eqb-false, eq-eqb, ne-eqb, lt-ltb, le-ltb, not-true}
 use Rattle.journeys.specs.Counting.{none, count}
-use Rattle.journeys.specs.Tables.{Tables, Walk}
-use Rattle.journeys.specs.Query.{Query, asked, fromTicks, toTicks}
+use Rattle.journeys.specs.Tables.{Tables, Walk, walk, walkCount}
+use Rattle.journeys.specs.Query.{Query, allowed, asked, fromTicks, toTicks}
 use Rattle.journeys.specs.Network as network
 use Rattle.journeys.specs.Network.{Network, distanceIn, within, into, offered, remaining, met, held, row, entry}
 use Rattle.journeys.specs.Records.{seed, departing}
 use Rattle.journeys.specs.Records as records
-use Rattle.journeys.proofs.Tests.{and-right, cond-false}
-use Rattle.journeys.proofs.Counting.{least-skip, least-empty, none-count}
+use Rattle.journeys.proofs.Tests.{and-true, and-left, and-right, or-left, or-cases, cond-false}
+use Rattle.journeys.proofs.Counting.{least-skip, least-empty, none-count, some-count}
 use Rattle.journeys.proofs.Known.{not-within}
-use Rattle.journeys.proofs.Held.{departs, departs-is}
+use Rattle.journeys.proofs.Held.{departs, departs-is, near-held}
 use Rattle.journeys.proofs.Fits.{from-fits, to-fits}
-use Rattle.journeys.proofs.Valid.{GoodWalk, good-walk}
+use Rattle.journeys.proofs.Document.{walk-record, to-zero}
+use Rattle.journeys.proofs.Valid.{GoodWalk, good-walk, paired}
 use Rattle.journeys.specs.Valid.{Valid}
 use Rattle.worktable.specs.Map.{Entry, absent, known, Map, empty, put}
 use Rattle.worktable.proofs.MapLaws.{put-same, put-other}
@@ -32,6 +33,10 @@ use Rattle.opening.specs.Seeds.{seedMap}
 nothing : (v : ℕ) → within (distanceIn []) v ≡ false
 unfolding distanceIn
 nothing v = not-within (distanceIn []) v (omega arith)
+
+none-far : (v : ℕ) → none ≤ distanceIn [] v
+unfolding distanceIn
+none-far v = omega arith
 
 module _ (G : Network) where
   none-into : (u r : ℕ) → into G (distanceIn []) u r ≡ false
@@ -53,10 +58,21 @@ module _ (G : Network) where
   remaining-first : (u : ℕ) → remaining G (distanceIn []) u ≡ departs G u
   remaining-first u = omega (arith, departs-is G (distanceIn []) u, into-first u)
 
-  -- a seed is held with all its departing records, and nothing else is held
-  first-seed : (u : ℕ) → G .seed u < none → heldMap G (distanceIn []) u ≡ known (G .seed u) 0 (departs G u)
-  unfolding heldMap entry held met row
-  first-seed u h = rw (into-first u, lt-ltb (G .seed u) none h, nothing u, known-first u (omega arith), remaining-first u)
+  -- a seed that has departing records, or is within D, is not hopeless
+  first-held : (u : ℕ) → G .seed u < none → (0 < departs G u) ⊎ (G .seed u ≤ G .allowed) → held G (distanceIn []) u ≡ true
+  unfolding held met
+  first-held u h (inl some) =
+      and-true (or-left (ltb 0 (count (into G (distanceIn []) u) (G .records))) (lt-ltb (G .seed u) none h))
+      (ap not (and-left (within (distanceIn []) u || ltb (G .allowed) (network.known G (distanceIn []) u)) (ne-eqb (remaining G (distanceIn []) u) 0 (λ z. let y : ⊥ = omega (arith, z, remaining-first u) in y))))
+  first-held u h (inr near) = near-held G (distanceIn []) u outside-all (omega (arith, known-first u (omega arith))) (omega (arith, known-first u (omega arith)))
+    where
+      outside-all : none ≤ distanceIn [] u
+      outside-all = none-far u
+
+  -- it is held with all its departing records, and nothing else is held
+  first-seed : (u : ℕ) → G .seed u < none → (0 < departs G u) ⊎ (G .seed u ≤ G .allowed) → heldMap G (distanceIn []) u ≡ known (G .seed u) 0 (departs G u)
+  unfolding heldMap entry row
+  first-seed u h hope = rw (first-held u h hope, nothing u, known-first u (omega arith), remaining-first u)
 
   first-other : (u : ℕ) → none ≤ G .seed u → heldMap G (distanceIn []) u ≡ absent
   unfolding heldMap entry held met
@@ -97,15 +113,32 @@ module _ (N : Tables) (Q : Query) (ok : Valid N Q) where
   abbrev pub toEntry : Entry
   toEntry = known (toTicks N Q) 0 (departing N (e .to))
 
+  -- the walk i leaves its "from"
+  walk-departs : (i : ℕ) → i < walkCount N → 0 < departs (records.network N Q) (walk N i .from)
+  unfolding departs
+  walk-departs i l =
+      some-count (λ r. eqb (records.from (records.recordAt N r)) (walk N i .from)) (records.recordCount N) i (omega arith)
+      (eq-eqb (records.from (records.recordAt N i)) (walk N i .from) (ap records.from (walk-record N i l)))
+
+  -- No seed is hopeless before the first step: e leaves "from"; its twin leaves "to", or "to" is the place itself.
+  to-hopes : two ≡ true → (0 < departs (records.network N Q) (e .to)) ⊎ (toTicks N Q ≤ allowed Q)
+  to-hopes t =
+      ⊎-elim
+      (λ (q : not (eqb (e .twin) none) ≡ true).
+      let p = paired N (ok .tables) (Q .walk) (ok .query .walk-low) (eqb-false (e .twin) none (not-true (eqb (e .twin) none) q)) in
+      inl (subst (λ (u : ℕ). 0 < departs (records.network N Q) u) (p .1 .from) (walk-departs (e .twin) (p .0))))
+      (λ (q : eqb (Q .offset) (e .len) ≡ true). inr (omega (arith, to-zero N Q ok (eqb-true (Q .offset) (e .len) q))))
+      (or-cases (not (eqb (e .twin) none)) (eqb (Q .offset) (e .len)) t)
+
   at-from : heldMap (records.network N Q) (distanceIn []) (e .from) ≡ known (fromTicks N Q) 0 (departing N (e .from))
   at-from =
-      first-seed (records.network N Q) (e .from) (omega (arith, seed-from, from-fits N Q ok))
+      first-seed (records.network N Q) (e .from) (omega (arith, seed-from, from-fits N Q ok)) (inl (walk-departs (Q .walk) (ok .query .walk-low)))
       ∙ ap₂ (λ (d r : ℕ). known d 0 r) seed-from (departs-field N Q (e .from))
 
   at-to : (t : Bool) → two ≡ t → heldMap (records.network N Q) (distanceIn []) (e .to) ≡ cond t (known (toTicks N Q) 0 (departing N (e .to))) absent
   at-to true q =
       let s : seed N Q (e .to) ≡ toTicks N Q = seed-to ∙ ap (λ (b : Bool). cond b (toTicks N Q) none) q in
-      first-seed (records.network N Q) (e .to) (omega (arith, s, to-fits N Q ok)) ∙ ap₂ (λ (d r : ℕ). known d 0 r) s (departs-field N Q (e .to))
+      first-seed (records.network N Q) (e .to) (omega (arith, s, to-fits N Q ok)) (⊎-elim (λ (h : 0 < departs (records.network N Q) (e .to)). inl h) (λ (h : toTicks N Q ≤ allowed Q). inr (omega (arith, s))) (to-hopes q)) ∙ ap₂ (λ (d r : ℕ). known d 0 r) s (departs-field N Q (e .to))
   at-to false q =
       let s : seed N Q (e .to) ≡ none = seed-to ∙ ap (λ (b : Bool). cond b (toTicks N Q) none) q in
       first-other (records.network N Q) (e .to) (omega (arith, s))

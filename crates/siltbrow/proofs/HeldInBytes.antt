@@ -1,4 +1,4 @@
--- The third demand, of the held bytes: which vertices an accepted call holds at its limit, what each record says, and that a dropped vertex does not come back.
+-- The third demand, of the held bytes: which vertices an accepted call holds at its limit, what each record says, and that a dropped or forgotten vertex does not come back.
 -- Assumes nothing.
 use mathlib.Core.Path.{_≡_, refl, sym, ap, subst, _∙_}
 use mathlib.Core.Logic.{_⊎_, inl, inr, ⊎-elim, _↔_}
@@ -11,24 +11,24 @@ use lib.ListN.{take}
 use Rattle.journeys.specs.Counting.{none, In}
 use Rattle.journeys.specs.Bytes.{be32}
 use Rattle.journeys.specs.Tables.{Tables, vertexCount}
-use Rattle.journeys.specs.Query.{Query}
+use Rattle.journeys.specs.Query.{Query, allowed}
 use Rattle.journeys.specs.Journeys.{Distance}
 use Rattle.journeys.specs.Order as order
 use Rattle.journeys.specs.Order.{Settled, IsOrder}
-use Rattle.journeys.specs.Network.{Network, Held, distanceIn, within, known, remaining, met, held, row, entry, heldList, Dropped}
+use Rattle.journeys.specs.Network.{Network, Held, distanceIn, within, known, remaining, met, held, row, entry, heldList, Dropped, Forgotten}
 use Rattle.journeys.specs.Records.{network}
 use Rattle.journeys.specs.Answers.{heldBytes}
-use Rattle.journeys.proofs.Tests.{split}
+use Rattle.journeys.proofs.Tests.{split, le-or-lt}
 use Rattle.journeys.proofs.Counting.{joined-in}
 use Rattle.journeys.proofs.Known.{within-is, within-not}
 use Rattle.journeys.proofs.Firsts.{distance-in}
 use Rattle.journeys.proofs.Greedy.{State}
 use Rattle.journeys.proofs.OrderLaws.{order-each, order-state, order-grows}
-use Rattle.journeys.proofs.Held.{known-met, dropped-stays}
+use Rattle.journeys.proofs.Held.{known-met, dropped-stays, forgotten-stays}
 use Rattle.journeys.specs.Valid.{Valid}
 use Rattle.journeys.proofs.Ways.{arrives-low}
-use Rattle.journeys.proofs.Document.{ways, laws, journey-arrives}
-use Rattle.journeys.proofs.Demands.{held-exactly, held-means, known-settled}
+use Rattle.journeys.proofs.Document.{ways, laws, journey-arrives, allowed-low}
+use Rattle.journeys.proofs.Demands.{held-exactly, held-means, known-settled, forgotten-unsettled}
 use Rattle.records.proofs.RecordBytes.{length-held, held-back}
 use Rattle.siltbrow.specs.Call.{Call, Completed, refusal, heldCount, read, Orders, steps, S}
 use Rattle.siltbrow.proofs.RecordsInBytes.{Stands, stands-front, record-listed, listed-record}
@@ -91,6 +91,11 @@ module _ (N : Tables) (Q : Query) (ok : Valid N Q) (l : List Settled) (O : IsOrd
       dropped-stays (network N Q) far′ (distanceIn (take k′ l))
       (λ u s. omega (arith, order-grows N Q ok O k k′ h u s))
 
+  still-forgotten : (k′ : ℕ) → k ≤ k′ → (v : ℕ) → Forgotten (network N Q) far′ v → Forgotten (network N Q) (distanceIn (take k′ l)) v
+  still-forgotten k′ h v g =
+      forgotten-stays (network N Q) far′ (distanceIn (take k′ l)) (λ u s. order-grows N Q ok O k k′ h u s) (allowed-low N Q ok) v
+      (forgotten-unsettled N Q ok O k k′ h v g) g
+
 module _ (c : Call) (E : Completed c) (accepted : refusal c ≡ 0) (l : List Settled) (O : Orders c l) where
   abbrev N : Tables
   N = read c
@@ -129,17 +134,17 @@ module _ (c : Call) (E : Completed c) (accepted : refusal c ≡ 0) (l : List Set
       let p : z .0 ≡ row G far v = y .1 ∙ ap (row G far) q in
       (subst (λ (w : ℕ). w < vertexCount N) q (y .0), subst (λ (x : Held). In x (heldList G far)) p (z .1), subst (Spells (c .held) i) p (z .2))
 
-  -- At any limit that fits the room some counted record of the held bytes names a vertex exactly if it is one of the table's, has been met, and is not settled with all
-  -- its departing records leading into S.
-  pub held-named : (v : ℕ) → HeldNames c v ↔ ((v < vertexCount N) × (met G far v ≡ true) × ¬ Dropped G far v)
+  -- At any limit that fits the room some counted record of the held bytes names a vertex exactly if it is one of the table's, has been met, and is neither settled with all
+  -- its departing records leading into S nor unsettled with all of them leading into S and known above D.
+  pub held-named : (v : ℕ) → HeldNames c v ↔ ((v < vertexCount N) × (met G far v ≡ true) × ¬ Dropped G far v × ¬ Forgotten G far v)
   unfolding row
   held-named v = (
     λ p.
         let z = named-row (p .0) v (p .1) (p .2) in
         let m = held-means N Q ok O (steps c l) v .0 (held-exactly N Q ok O (steps c l) v (z .0) .0 (z .1)) in
-        (z .0, m .0, m .1),
+        (z .0, m .0, m .1, m .2),
     λ p.
-        let m = held-exactly N Q ok O (steps c l) v (p .0) .1 (held-means N Q ok O (steps c l) v .1 (p .1, p .2)) in
+        let m = held-exactly N Q ok O (steps c l) v (p .0) .1 (held-means N Q ok O (steps c l) v .1 (p .1, p .2, p .3)) in
         let z = to-record (row G far v) m in
         (z .0, z .1, z .2 .0),
   )
@@ -182,7 +187,37 @@ module _ (c : Call) (E : Completed c) (accepted : refusal c ≡ 0) (l : List Set
     where
       back : far v < none → ¬ HeldNames c v → Dec (remaining G far v ≡ 0) → Dropped G far v
       back h n (yes e) = (h, e)
-      back h n (no q) = absurd (n (held-named v .1 (far-low N Q ok l O (steps c l) v h, far-met N Q ok l O (steps c l) v h, λ d. q (d .1))))
+      back h n (no q) = absurd (n (held-named v .1 (far-low N Q ok l O (steps c l) v h, far-met N Q ok l O (steps c l) v h, (λ d. q (d .1)), λ f. q (f .1))))
+
+  -- A vertex of the table that has been met is forgotten exactly if neither the settled bytes nor the held bytes name it.
+  pub forgotten-exactly : (v : ℕ) → v < vertexCount N → met G far v ≡ true → Forgotten G far v ↔ (¬ SettledNames c v × ¬ HeldNames c v)
+  forgotten-exactly v vn m = (
+    λ f. ((λ p. let z : ⊥ = omega (arith, listed-far v p, f .0) in z), λ p. held-named v .0 p .3 f),
+    λ p. back (λ h. p .0 (far-listed v h)) (p .1) (forgotten-dec (ℕ-discrete (remaining G far v) 0) (le-or-lt (known G far v) (allowed Q))),
+  )
+    where
+      forgotten-dec : Dec (remaining G far v ≡ 0) → (known G far v ≤ allowed Q) ⊎ (allowed Q < known G far v) → ((remaining G far v ≡ 0) × (allowed Q < known G far v)) ⊎ (((remaining G far v ≡ 0) × (allowed Q < known G far v)) → ⊥)
+      forgotten-dec (yes e) (inr l) = inl (e, l)
+      forgotten-dec (yes e) (inl l) = inr (λ p. let z : ⊥ = omega (arith, p .1) in z)
+      forgotten-dec (no q) l = inr (λ p. q (p .0))
+
+      back : (far v < none → ⊥) → ¬ HeldNames c v → ((remaining G far v ≡ 0) × (allowed Q < known G far v)) ⊎ (((remaining G far v ≡ 0) × (allowed Q < known G far v)) → ⊥) → Forgotten G far v
+      back out n (inl e) = (⊎-elim (λ (h : none ≤ far v). h) (λ (h : far v < none). absurd (out h)) (le-or-lt none (far v)), e .0, e .1)
+      back out n (inr q) = absurd (n (held-named v .1 (vn, m, (λ d. out (d .0)), λ f. q (f .1, f .2))))
+
+-- Forgotten stays forgotten: a vertex that one accepted call has met and neither settled nor held, no counted record of the settled bytes or of the held bytes names after any
+-- accepted call over the same tables and query that may go at least as far, with whatever room.
+pub forgotten-for-good : (c c₂ : Call) → (E : Completed c) → Completed c₂ → (a : refusal c ≡ 0) → refusal c₂ ≡ 0 → read c ≡ read c₂ → c .query ≡ c₂ .query → c .limit ≤ c₂ .limit → (v : ℕ)
+    → v < vertexCount (read c) → met (network (read c) (c .query)) (distanceIn (S c (theOrder c E a))) v ≡ true → ¬ SettledNames c v → ¬ HeldNames c v → ¬ SettledNames c₂ v × ¬ HeldNames c₂ v
+forgotten-for-good c c₂ E E₂ a a₂ same asked more v vn m out gone =
+    let l = theOrder c E a in
+    let O = is-order c E a in
+    let O₂ : Orders c₂ l =
+    subst (λ (q : Query). IsOrder (read c₂) q l) asked (subst (λ (n : Tables). IsOrder n (c .query) l) same O) in
+    let f = still-forgotten (read c) (c .query) (valid c E a) l O (steps c l) (steps c₂ l) (omega arith) v (forgotten-exactly c E a l O v vn m .1 (out, gone)) in
+    let f₂ : Forgotten (network (read c₂) (c₂ .query)) (distanceIn (S c₂ l)) v =
+    subst (λ (q : Query). Forgotten (network (read c₂) q) (distanceIn (S c₂ l)) v) asked (subst (λ (n : Tables). Forgotten (network n (c .query)) (distanceIn (S c₂ l)) v) same f) in
+    ((λ p. let z : ⊥ = omega (arith, listed-far c₂ E₂ a₂ l O₂ v p, f₂ .0) in z), λ p. held-named c₂ E₂ a₂ l O₂ v .0 p .3 f₂)
 
 -- Dropped stays dropped: what one accepted call has settled and no longer holds, no counted record of the held bytes names after any accepted call over the same tables and
 -- query that may go at least as far, with whatever room.

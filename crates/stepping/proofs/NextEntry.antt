@@ -46,10 +46,10 @@ module _ (t : Table) (b : List ℕ) (D D′ : ℕ) (q : D ≡ D′) (r : Nearest
   next-found e = as-next e
 
 -- how many records arrive, from the firsts and the ends as they are read
-pub arriving-is : (size : ℕ) (v w h : List ℕ) (x d : ℕ) (A : Seconds) (speed fw ew fh eh : ℕ) → fw ≡ firstOf Walks (vertexAt v x) → ew ≡ endOf Walks v (length w / 16) x → fh ≡ firstOf Hops (vertexAt v x)
-    → eh ≡ endOf Hops v (length h / size) x → record { walks = ew - fw; hops = eh - fh; size = size; distance = record { 0 = d }; arrival = A; speed = speed } ≡ arrivingAt size v w h x d A speed
+pub arriving-is : (size : ℕ) (v w h : List ℕ) (x d : ℕ) (A : Seconds) (speed D fw ew fh eh : ℕ) → fw ≡ firstOf Walks (vertexAt v x) → ew ≡ endOf Walks v (length w / 16) x → fh ≡ firstOf Hops (vertexAt v x)
+    → eh ≡ endOf Hops v (length h / size) x → record { walks = ew - fw; hops = eh - fh; size = size; distance = record { 0 = d }; arrival = A; speed = speed; allowed = record { 0 = D } } ≡ arrivingAt size v w h x d A speed D
 unfolding arrivingAt
-arriving-is size v w h x d A speed fw ew fh eh a b c e = rw (a, b, c, e) refl
+arriving-is size v w h x d A speed D fw ew fh eh a b c e = rw (a, b, c, e) refl
 
 -- the part of a table from its first and its end as they are read
 pub walks-are : (size : ℕ) (v w h : List ℕ) (x first end : ℕ) {part : List ℕ} → first ≡ firstOf Walks (vertexAt v x) → end ≡ endOf Walks v (length w / 16) x → part ≡ run (sizeOf Walks size) (tableOf Walks w h) first end → part ≡ walksAt v w x

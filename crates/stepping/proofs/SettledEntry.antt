@@ -6,7 +6,7 @@ use mathlib.Core.List.{List}
 use Prim.Native.Nat.{ℕ}
 use lib.Dec.{eqb}
 use Rattle.journeys.proofs.Tests.{cond-true, cond-false}
-use Rattle.worktable.specs.Map.{absent, Map, put, settled, spent, remainingOf}
+use Rattle.worktable.specs.Map.{absent, Map, put, settled, remainingOf}
 use Rattle.worktable.specs.Table.{mapOf, InOrder, Place, Gives}
 use Rattle.worktable.specs.declared.Table.{Table}
 use Rattle.worktable.proofs.MapLaws.{put-same, absent-known}
@@ -20,21 +20,21 @@ module _ (t : Table) (b b1 : List ℕ) (v : ℕ) (g : Gives t t b b1 (put (mapOf
   pub still-there : (s : ℕ) → Place t b v s → InOrder t b1 × Place t b1 v s
   still-there s p = (g .holds .order, g .stays v s there p)
 
-  spent-is : spent (settled (mapOf t b v)) ≡ eqb (remainingOf (settled (mapOf t b v))) 0
-  unfolding spent remainingOf
-  spent-is = refl
+  left-is : eqb (remainingOf (settled (mapOf t b v))) 0 ≡ eqb (remainingOf (mapOf t b v)) 0
+  unfolding remainingOf
+  left-is = refl
 
-  pub settled-gone : (r : Table) (b2 : List ℕ) → spent (settled (mapOf t b v)) ≡ true → Gives t r b1 b2 (put (mapOf t b1) v absent) → Leads t r b2 (settledNow (mapOf t b) v)
+  pub settled-gone : (r : Table) (b2 : List ℕ) → eqb (remainingOf (mapOf t b v)) 0 ≡ true → Gives t r b1 b2 (put (mapOf t b1) v absent) → Leads t r b2 (settledNow (mapOf t b) v)
   unfolding settledNow
   settled-gone r b2 e k =
-      let q = cond-true (put (put (mapOf t b) v (settled (mapOf t b v))) v absent) (put (mapOf t b) v (settled (mapOf t b v))) (sym spent-is ∙ e) in
+      let q = cond-true (put (put (mapOf t b) v (settled (mapOf t b v))) v absent) (put (mapOf t b) v (settled (mapOf t b v))) (left-is ∙ e) in
       record {
         holds = record { order = k .holds .order; map = k .holds .map ∙ ap (λ (m : Map). put m v absent) (g .holds .map) ∙ sym q };
         capacity = k .capacity;
       }
 
-  pub settled-stays : spent (settled (mapOf t b v)) ≡ false → Leads t t b1 (settledNow (mapOf t b) v)
+  pub settled-stays : eqb (remainingOf (mapOf t b v)) 0 ≡ false → Leads t t b1 (settledNow (mapOf t b) v)
   unfolding settledNow
   settled-stays e =
-      let q = cond-false (put (put (mapOf t b) v (settled (mapOf t b v))) v absent) (put (mapOf t b) v (settled (mapOf t b v))) (sym spent-is ∙ e) in
+      let q = cond-false (put (put (mapOf t b) v (settled (mapOf t b v))) v absent) (put (mapOf t b) v (settled (mapOf t b v))) (left-is ∙ e) in
       record { holds = record { order = g .holds .order; map = g .holds .map ∙ sym q }; capacity = refl }

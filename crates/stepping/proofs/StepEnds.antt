@@ -16,7 +16,7 @@ use Rattle.passing.specs.declared.Arriving.{Arriving}
 use Rattle.meeting.specs.Passing.{passed, Enough, Ready}
 use Rattle.meeting.specs.Answer.{Leads, ArrivedIs, Passed}
 use Rattle.meeting.specs.declared.Arrived.{Arrived}
-use Rattle.halves.proofs.NextRecord.{ends-at}
+use Rattle.blocks.proofs.NextRecord.{ends-at}
 use Rattle.heldmap.specs.Model.{walksAt, hopsAt, rowAt, settledNow}
 use Rattle.stepping.specs.Taken.{StepIs, Begins}
 use Rattle.stepping.specs.declared.Progress.{Progress}

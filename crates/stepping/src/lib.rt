@@ -149,9 +149,10 @@ pub fn arriving_at(
     d: u32,
     arrival: Seconds,
     speed: u32,
+    allowed: Ticks,
 ) -> Arriving
     requires { ⌜ Standing «hop_size» (now vertices) (now walks) (now hops) x × (0 < «hop_size») ⌝ }
-    ensures { λ r. ⌜ r ≡ arrivingAt «hop_size» (now (vertices .entry)) (now (walks .entry)) (now (hops .entry)) x d arrival speed ⌝ }
+    ensures { λ r. ⌜ r ≡ arrivingAt «hop_size» (now (vertices .entry)) (now (walks .entry)) (now (hops .entry)) x d arrival speed (allowed .0) ⌝ }
 {
     let first_walk = records::first_arriving(vertices, Kind::Walks, x);
     let first_hop = records::first_arriving(vertices, Kind::Hops, x);
@@ -162,5 +163,6 @@ pub fn arriving_at(
         distance: Ticks(d),
         arrival: arrival,
         speed: speed,
+        allowed: allowed,
     }
 }

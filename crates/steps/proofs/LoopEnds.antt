@@ -80,7 +80,7 @@ module _ (size : ℕ) (wide : 16 ≤ size) (v w h : List ℕ) (heldLong settledL
       let waits : (u e : ℕ) → Waits (heldMap G (distanceIn (take (p .settled) l))) u e → allowed Q < e = λ u e w. n u e (subst (λ (m : Map). Waits m u e) (sym (R .table .map)) w) in
       let all : length l ≤ p .settled =
       all-settled N Q ok O (p .settled) .0
-      (none-waits G (distanceIn (take (p .settled) l)) (bounded-is N Q ok) (allowed Q) (allowed-low N Q ok) waits) in
+      (none-waits G (distanceIn (take (p .settled) l)) (bounded-is N Q ok) (allowed-low N Q ok) waits) in
       record { running = R; steps = omega (arith, R .made); finished-is = sym (cond-true 1 0 (le-leb (length l) (p .settled) all)) }
 
   module _ (s x d : ℕ) (n : NextIs (p .table) held (allowed Q) (Nearest.At s x d)) where
@@ -108,7 +108,7 @@ module _ (size : ℕ) (wide : 16 ≤ size) (v w h : List ℕ) (heldLong settledL
         record { running = R; steps = omega (arith, f .0); finished-is = sym (cond-false 1 0 (lt-leb (length l) (p .settled) (f .0))) }
 
     pub x-low : x < length v / 12
-    x-low = rw (vertex-count size v w h) at (foremost-next G (distanceIn (take (p .settled) (orderOf N Q ok))) (bounded-is N Q ok) x d (ahead stand) .0 .low)
+    x-low = rw (vertex-count size v w h) at (foremost-next G (distanceIn (take (p .settled) (orderOf N Q ok))) (bounded-is N Q ok) x d (ahead stand) near .0 .low)
 
     -- its arriving records are a run of each table
     pub run-fits : Standing size v w h x
@@ -116,7 +116,7 @@ module _ (size : ℕ) (wide : 16 ≤ size) (v w h : List ℕ) (heldLong settledL
 
     module _ (A : Seconds) (clock : clocked (A .0) ≡ Q .arrival) where
       abbrev r : Arriving
-      r = arrivingAt size v w h x d A (Q .speed)
+      r = arrivingAt size v w h x d A (Q .speed) (allowed Q)
 
       -- the step may begin
       pub begins : Begins v w h x s r (p .table) held

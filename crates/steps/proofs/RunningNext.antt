@@ -61,7 +61,7 @@ module _ (b : Lent) (wide : 16 ≤ b .hopSize) (Q : Query) (ok : Valid (tables b
   further = one-further (b .hopSize) wide (b .vertices) (b .walks) (b .hops) Q ok O bounded k (H .made) x d F′ near
 
   abbrev r : Arriving
-  r = arrivingAt (b .hopSize) (b .vertices) (b .walks) (b .hops) x d A (Q .speed)
+  r = arrivingAt (b .hopSize) (b .vertices) (b .walks) (b .hops) x d A (Q .speed) (allowed Q)
 
   -- the map that the step makes
   abbrev M : Map

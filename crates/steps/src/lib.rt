@@ -68,6 +68,7 @@ pub fn steps<'a>(
             d,
             q.arrival,
             q.speed,
+            allowed,
         );
         match stepping::step(
             vertices,
