@@ -35,7 +35,14 @@ fn end_range(
     let mut block = next_block(walks, hops, arriving, first, end);
     while block < end {
         let Arrived::Fits(next) = end_block(
-            held, table, vertices, walks, hops, arriving, block, counters,
+            held,
+            table,
+            vertices,
+            walks,
+            hops,
+            arriving,
+            block,
+            counters,
         ) else {
             return Arrived::NoRoom;
         };
@@ -61,12 +68,28 @@ fn scarce(
 {
     let start = survey_all(held, t, vertices, walks, hops, arriving, counters);
     let Arrived::Fits(table) = end_range(
-        held, t, vertices, walks, hops, arriving, start, 32, counters,
+        held,
+        t,
+        vertices,
+        walks,
+        hops,
+        arriving,
+        start,
+        32,
+        counters,
     ) else {
         return Arrived::NoRoom;
     };
     end_range(
-        held, table, vertices, walks, hops, arriving, 0, start, counters,
+        held,
+        table,
+        vertices,
+        walks,
+        hops,
+        arriving,
+        0,
+        start,
+        counters,
     )
 }
 

@@ -1,5 +1,5 @@
 -- Where the run stands, for the order of settling whichever list that is: what a step asks and what it leads to. Assumes nothing.
-use mathlib.Core.Path.{_≡_, sym, subst}
+use mathlib.Core.Path.{_≡_, sym, ap, subst, _∙_}
 use mathlib.Core.Bool.{Bool, true, false}
 use mathlib.Core.List.{List}
 use Prim.Native.Nat.{ℕ, suc, _+_, _/_, _≤_, _<_}
@@ -40,6 +40,10 @@ use Rattle.heldmap.proofs.StepIsNext.{bounded-is, one-further, enough-next, sou
 use Rattle.steps.proofs.RunningNext.{onward, onward-short}
 
 -- what `waits` has from `next`
+-- the records that arrive at x, where D is written in another way
+pub arriving-allowed : (size : ℕ) (v w h : List ℕ) (x d : ℕ) (A : Seconds) (speed : ℕ) {D D′ : ℕ} {a : Arriving} → D ≡ D′ → a ≡ arrivingAt size v w h x d A speed D → a ≡ arrivingAt size v w h x d A speed D′
+arriving-allowed size v w h x d A speed q e = e ∙ ap (arrivingAt size v w h x d A speed) q
+
 module _ (t : Table) (b : List ℕ) (D : ℕ) (r : Nearest) (h : NextIs t b D r) where
   pub waits-at : {s v d : ℕ} → r ≡ Nearest.At s v d → WaitsIs t b D true
   unfolding WaitsIs

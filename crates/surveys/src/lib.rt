@@ -143,13 +143,7 @@ fn nearer(next: usize, block: usize, first: usize) -> usize
 }
 
 // The lowest block from first on, and below end, that a record of the row leaves; or end. Blocks that no record leaves are left alone.
-pub fn next_block(
-    walks: &[u8],
-    hops: &[u8],
-    arriving: Arriving,
-    first: usize,
-    end: usize,
-) -> usize
+pub fn next_block(walks: &[u8], hops: &[u8], arriving: Arriving, first: usize, end: usize) -> usize
     requires { ⌜ Counted (now walks) (now hops) arriving × (first ≤ «end») ⌝ }
     ensures { λ r. ⌜ (first ≤ r) × (r ≤ «end») × Gap (now (walks .entry)) (now (hops .entry)) arriving first r ⌝ }
 {
@@ -202,9 +196,7 @@ pub fn survey_all(
     let mut start = 0;
     let mut block = next_block(walks, hops, arriving, 0, 32);
     while block < 32 {
-        let tally = survey(
-            held, t, vertices, walks, hops, arriving, block, counters,
-        );
+        let tally = survey(held, t, vertices, walks, hops, arriving, block, counters);
         total = total + tally - n;
         start = better(best, total, start, block + 1);
         best = greater(best, total);

@@ -51,13 +51,15 @@ end-block-requires c κs =
     let R = rowOf (a .vertices .now) (a .walks .now) (a .hops .now) (a .arriving) in
     let n = passes (a .arriving) in
     let m = mapOf (a .t) (a .held .now) in
-    let w = L .inv .2 in
-    (record {
-      order = w .holds .order;
-      sound = y .sound;
-      leaves = y .leaves;
-      fresh = λ u q z. y .fresh u (omega (arith, L .inv .0)) (omega (arith, l)) (sym (bs.above R n m (a .first) (L .block) u (omega arith)) ∙ ap (λ (M : Map). M u) (sym (w .holds .map)) ∙ z);
-    }, L .inv .3)
+    let w = L .inv .2 in (
+      record {
+        order = w .holds .order;
+        sound = y .sound;
+        leaves = y .leaves;
+        fresh = λ u q z. y .fresh u (omega (arith, L .inv .0)) (omega (arith, l)) (sym (bs.above R n m (a .first) (L .block) u (omega arith)) ∙ ap (λ (M : Map). M u) (sym (w .holds .map)) ∙ z);
+      },
+      L .inv .3,
+    )
 
 same-length : tie.Need-same-length Inv-loop μ-loop
 same-length c = c .before .before .before .before .before .before .end-block .kept .0 ∙ c .before .before .before .before .before .before .before .before .before .before .loop .inv .4

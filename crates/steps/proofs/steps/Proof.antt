@@ -7,7 +7,7 @@ use Rattle.records.specs.Asked.{queryOf}
 use Rattle.stepping.specs.Taken.{StepIs}
 use Rattle.steps.specs.Running.{Stands}
 use Rattle.stepping.proofs.NextEntry.{next-nothing, next-found}
-use Rattle.steps.proofs.LoopEnds.{table-order, counts-fit, whole, some-wait, none-wait, run-fits, begins-as, step-as, one-counted, stands-on, stops}
+use Rattle.steps.proofs.LoopEnds.{arriving-allowed, table-order, counts-fit, whole, some-wait, none-wait, run-fits, begins-as, step-as, one-counted, stands-on, stops}
 use Rattle.steps.proofs.steps.Statement.{statement}
 use Rattle.steps.proofs.steps.Tie as tie
 
@@ -50,14 +50,14 @@ step-requires c κs =
     let a = c .before .before .before .before .before .before .before .before .before .before .before .before .before .before .before .before .before .before .before .pre .0 in
     let i = c .before .before .before .before .before .before .before .before .before .before .before .before .loop .inv in
     let n = next-found _ _ _ _ (a .1) _ (c .before .before .before .before .before .before .before .next .ensures) (c .before .before .before .before .before .slot .given .1) in
-    ((begins-as _ (a .4) _ _ _ _ _ _ (a .0) _ _ _ (i .0) _ _ _ n _ refl _ (c .before .before .before .arriving-at .ensures), i .2), counts-fit _ (a .4) _ _ _ _ _ _ (a .0) _ _ _ (i .0))
+    ((begins-as _ (a .4) _ _ _ _ _ _ (a .0) _ _ _ (i .0) _ _ _ n _ refl _ (arriving-allowed _ _ _ _ _ _ _ _ (a .1) (c .before .before .before .arriving-at .ensures)), i .2), counts-fit _ (a .4) _ _ _ _ _ _ (a .0) _ _ _ (i .0))
 
 loop-less : tie.Need-loop-less Inv-loop μ-loop
 loop-less c =
     let a = c .before .before .before .before .before .before .before .before .before .before .before .before .before .before .before .before .before .before .before .before .before .before .before .before .before .before .before .before .before .pre .0 in
     let i = c .before .before .before .before .before .before .before .before .before .before .before .before .before .before .before .before .before .before .before .before .before .before .loop .inv in
     let n = next-found _ _ _ _ (a .1) _ (c .before .before .before .before .before .before .before .before .before .before .before .before .before .before .before .before .before .next .ensures) (c .before .before .before .before .before .before .before .before .before .before .before .before .before .before .before .slot .given .1) in
-    let t = subst (StepIs _ _ _ _ _ _ _) (c .before .more .given .1) (step-as _ (a .4) _ _ _ _ _ _ (a .0) _ _ _ (i .0) _ _ _ n _ refl _ _ _ (c .before .before .before .before .before .before .before .before .before .before .before .before .before .arriving-at .ensures) _ (c .before .before .before .before .before .before .before .before .before .step .ensures .0)) in
+    let t = subst (StepIs _ _ _ _ _ _ _) (c .before .more .given .1) (step-as _ (a .4) _ _ _ _ _ _ (a .0) _ _ _ (i .0) _ _ _ n _ refl _ _ _ (arriving-allowed _ _ _ _ _ _ _ _ (a .1) (c .before .before .before .before .before .before .before .before .before .before .before .before .before .arriving-at .ensures)) _ (c .before .before .before .before .before .before .before .before .before .step .ensures .0)) in
     omega (arith, one-counted _ (a .4) _ _ _ _ _ _ (a .0) _ _ _ (i .0) _ _ _ n _ refl _ _ _ t, c .before .before .before .before .before .before .before .before .before .before .before .before .before .before .before .before .before .before .before .before .if1 .taken)
 
 loop-again : tie.Need-loop-again Inv-loop μ-loop
@@ -65,7 +65,7 @@ loop-again c =
     let a = c .before .before .before .before .before .before .before .before .before .before .before .before .before .before .before .before .before .before .before .before .before .before .before .before .before .before .before .before .before .pre .0 in
     let i = c .before .before .before .before .before .before .before .before .before .before .before .before .before .before .before .before .before .before .before .before .before .before .loop .inv in
     let n = next-found _ _ _ _ (a .1) _ (c .before .before .before .before .before .before .before .before .before .before .before .before .before .before .before .before .before .next .ensures) (c .before .before .before .before .before .before .before .before .before .before .before .before .before .before .before .slot .given .1) in
-    let t = subst (StepIs _ _ _ _ _ _ _) (c .before .more .given .1) (step-as _ (a .4) _ _ _ _ _ _ (a .0) _ _ _ (i .0) _ _ _ n _ refl _ _ _ (c .before .before .before .before .before .before .before .before .before .before .before .before .before .arriving-at .ensures) _ (c .before .before .before .before .before .before .before .before .before .step .ensures .0)) in (
+    let t = subst (StepIs _ _ _ _ _ _ _) (c .before .more .given .1) (step-as _ (a .4) _ _ _ _ _ _ (a .0) _ _ _ (i .0) _ _ _ n _ refl _ _ _ (arriving-allowed _ _ _ _ _ _ _ _ (a .1) (c .before .before .before .before .before .before .before .before .before .before .before .before .before .arriving-at .ensures)) _ (c .before .before .before .before .before .before .before .before .before .step .ensures .0)) in (
       stands-on _ (a .4) _ _ _ _ _ _ (a .0) _ _ _ (i .0) _ _ _ n _ refl _ _ _ t,
       omega (arith, one-counted _ (a .4) _ _ _ _ _ _ (a .0) _ _ _ (i .0) _ _ _ n _ refl _ _ _ t, c .before .before .before .before .before .before .before .before .before .before .before .before .before .before .before .before .before .before .before .before .if1 .taken),
       c .before .before .before .before .before .before .before .before .before .step .ensures .1,
@@ -91,7 +91,7 @@ returns-2 c =
     let a = c .before .before .before .before .before .before .before .before .before .before .before .before .before .before .before .before .before .before .before .before .before .before .before .before .before .before .before .before .before .before .pre .0 in
     let i = c .before .before .before .before .before .before .before .before .before .before .before .before .before .before .before .before .before .before .before .before .before .before .before .loop .inv in
     let n = next-found _ _ _ _ (a .1) _ (c .before .before .before .before .before .before .before .before .before .before .before .before .before .before .before .before .before .before .next .ensures) (c .before .before .before .before .before .before .before .before .before .before .before .before .before .before .before .before .slot .given .1) in
-    let t = subst (StepIs _ _ _ _ _ _ _) (c .before .before .n .given .1) (step-as _ (a .4) _ _ _ _ _ _ (a .0) _ _ _ (i .0) _ _ _ n _ refl _ _ _ (c .before .before .before .before .before .before .before .before .before .before .before .before .before .before .arriving-at .ensures) _ (c .before .before .before .before .before .before .before .before .before .before .step .ensures .0)) in
+    let t = subst (StepIs _ _ _ _ _ _ _) (c .before .before .n .given .1) (step-as _ (a .4) _ _ _ _ _ _ (a .0) _ _ _ (i .0) _ _ _ n _ refl _ _ _ (arriving-allowed _ _ _ _ _ _ _ _ (a .1) (c .before .before .before .before .before .before .before .before .before .before .before .before .before .before .arriving-at .ensures)) _ (c .before .before .before .before .before .before .before .before .before .before .step .ensures .0)) in
     (stops _ (a .4) _ _ _ _ _ _ (a .0) _ _ _ (i .0) _ _ _ n _ refl _ _ _ _ (c .before .before .before .before .before .before .before .before .before .before .before .before .before .before .before .before .before .before .before .before .before .if1 .taken) t, c .before .before .before .before .before .before .before .before .before .before .step .ensures .1)
 
 waits-requires : tie.Need-waits-requires Inv-loop μ-loop

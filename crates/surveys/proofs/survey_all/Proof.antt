@@ -141,12 +141,14 @@ returns c =
     let n = passes (a .arriving) in
     let m = mapOf (a .t) (a .held .now) in
     let e : L .block ≡ 32 = omega (arith, L .inv .0, c .loop-test .left) in
-    let low = from-low (a .vertices .now) (a .walks .now) (a .hops .now) (a .arriving) (s .pre .0 .leaves) in
-    (record {
-      touched = leads-same (L .inv .1) (ap (λ (k : ℕ). touchedTo R n k m) e ∙ bb.touched-all R n m low);
-      low = omega (arith, L .inv .3 .below, e);
-      best = λ i h. L .inv .3 .most i (omega (arith, e));
-    }, L .inv .2)
+    let low = from-low (a .vertices .now) (a .walks .now) (a .hops .now) (a .arriving) (s .pre .0 .leaves) in (
+      record {
+        touched = leads-same (L .inv .1) (ap (λ (k : ℕ). touchedTo R n k m) e ∙ bb.touched-all R n m low);
+        low = omega (arith, L .inv .3 .below, e);
+        best = λ i h. L .inv .3 .most i (omega (arith, e));
+      },
+      L .inv .2,
+    )
 
 pub survey-all-spec : {M : Type 1} → statement M
 survey-all-spec =
