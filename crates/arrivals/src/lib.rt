@@ -1,15 +1,20 @@
 // A vertex has just been settled: the records that arrive at it are passed, and the entries of the vertices that they leave are brought up to date.
 // Promises: the table then holds exactly the map of the definitions, or that map has no room; the room is that after the whole step.
-// Rests on: `meeting` where the free slots suffice for all records, `surveys` and `blocks` where they do not, the map of `worktable`.
+// Rests on: `meeting` where the free slots suffice for all records that may bring an entry, `surveys` and `blocks` where they do not, the map of `worktable`.
 ghost use mathlib.Core.Path.{_≡_};
-ghost use Prim.Native.Nat.{_≤_};
+ghost use mathlib.Core.Bool.{true};
+ghost use Prim.Native.Nat.{_+_, _≤_};
 ghost use lib.ListN.{replicate};
-ghost use Rattle.meeting.specs.Passing.{Ready};
+ghost use Rattle.worktable.specs.Map.{size};
+ghost use Rattle.worktable.specs.Table.{mapOf};
+ghost use Rattle.passing.specs.Row.{passes, rowOf};
+ghost use Rattle.meeting.specs.Passing.{comers, Ready};
 ghost use Rattle.meeting.specs.Answer.{Passed};
 ghost use Rattle.arrivals.specs.Range.{RangeTouched, RangeOver};
 use blocks::end_block;
 use meeting::Arrived;
 use meeting::meet_all;
+use meeting::most_comers;
 use passing::Arriving;
 use surveys::next_block;
 use surveys::survey_all;
@@ -93,6 +98,26 @@ fn scarce(
     )
 }
 
+// Whether the free slots are known to suffice for every record that may bring a new entry. The records are counted by what they bring only where there are more of them than free slots:
+// at a hub most may be the only ones of vertices that are hopeless.
+fn suffices(
+    held: &[u8],
+    t: Table,
+    vertices: &[u8],
+    walks: &[u8],
+    hops: &[u8],
+    arriving: Arriving,
+) -> bool
+    requires { ⌜ Ready (now vertices) (now walks) (now hops) arriving t (now held) ⌝ }
+    ensures { λ r. ⌜ (r ≡ true → size (mapOf t (now (held .entry))) + comers (rowOf (now (vertices .entry)) (now (walks .entry)) (now (hops .entry)) arriving) (passes arriving) ≤ t .capacity) ⌝ }
+{
+    let room = free(held, t);
+    if arriving.walks + arriving.hops <= room {
+        return true;
+    }
+    most_comers(vertices, walks, hops, arriving) <= room
+}
+
 // The step: each arriving record brings its offer to the vertex that it leaves.
 pub fn arrive(
     held: &mut [u8],
@@ -106,7 +131,7 @@ pub fn arrive(
     requires { ⌜ Ready (now vertices) (now walks) (now hops) arriving t (now held) × (now counters ≡ replicate 2048 0) ⌝ }
     ensures { λ r. ⌜ Passed (now (vertices .entry)) (now (walks .entry)) (now (hops .entry)) arriving t (now (held .entry)) (now (held .exit)) r × (now (counters .exit) ≡ replicate 2048 0) ⌝ }
 {
-    if arriving.walks + arriving.hops <= free(held, t) {
+    if suffices(held, t, vertices, walks, hops, arriving) {
         return Arrived::Fits(meet_all(held, t, vertices, walks, hops, arriving));
     }
     scarce(held, t, vertices, walks, hops, arriving, counters)

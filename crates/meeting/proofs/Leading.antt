@@ -59,13 +59,13 @@ pub told-there : (D : ℕ) (t : Table) (b : List ℕ) (u x : ℕ) {c : List ℕ}
     → PassedIs D t c u (touched x (mapOf t b u)) p → PassedIs D t c u (mapOf t c u) p
 told-there D t b u x {c} g p h = subst (λ (e : Entry). PassedIs D t c u e p) (sym (gives-at u (touched x (mapOf t b u)) g)) h
 
--- who has no entry then had none before, and the table has as many as before
-pub new-there : (t : Table) (b : List ℕ) (u x d : ℕ) {c : List ℕ} → Gives t t b c (put (mapOf t b) u (touched x (mapOf t b u))) → 0 < left d (mapOf t b u)
-    → (mapOf t b u ≡ absent → size (mapOf t b) < t .capacity) → mapOf t c u ≡ absent → (0 < d) × (size (mapOf t c) < t .capacity)
-new-there t b u x d {c} g l room z =
+-- who has no entry then had none before, and the table has as many as before, so also a slot, if one is needed
+pub new-there : (P : Type 0) (t : Table) (b : List ℕ) (u x d : ℕ) {c : List ℕ} → Gives t t b c (put (mapOf t b) u (touched x (mapOf t b u))) → 0 < left d (mapOf t b u)
+    → (mapOf t b u ≡ absent → P → size (mapOf t b) < t .capacity) → mapOf t c u ≡ absent → (0 < d) × (P → size (mapOf t c) < t .capacity)
+new-there P t b u x d {c} g l room z =
     let a : mapOf t b u ≡ absent = touched-absent x (mapOf t b u) (sym (gives-at u (touched x (mapOf t b u)) g) ∙ z) in
     let e : mapOf t c ≡ mapOf t b = g .holds .map ∙ put-id (mapOf t b) u (touched x (mapOf t b u)) (a ∙ sym (absent-touched x a)) in
-    (omega (arith, l, left-absent d (mapOf t b u) a), subst (λ (m : Map). size m < t .capacity) (sym e) (room a))
+    (omega (arith, l, left-absent d (mapOf t b u) a), λ p. subst (λ (m : Map). size m < t .capacity) (sym e) (room a p))
 
 -- ---- answers
 pub fits-is : {t r : Table} {c : List ℕ} {m : Map} → Leads t r c m → ArrivedIs t c m (Fits r)

@@ -1,11 +1,17 @@
--- How many entries a map has: after a record, and in each half. Assumes nothing.
-use mathlib.Core.Path.{_≡_, refl}
+-- How many entries a map has: after a record, and in each part of the vertices. Assumes nothing.
+use mathlib.Core.Path.{_≡_, refl, ap}
+use mathlib.Core.Bool.{Bool, false, not}
 use Prim.Native.Nat.{ℕ, zero, suc, _+_, _≤_, _<_}
+use native.Mathlib.Numerals.{add-one}
 use native.Mathlib.Omega.{arith}
 use Rattle.worktable.specs.Map.{Entry, Map, put, one, sizeTo, size}
 use Rattle.worktable.proofs.MapLaws.{put-other, size-same, size-put}
-use Rattle.meeting.specs.Passing.{goes}
-use Rattle.meeting.proofs.Entries.{one-most}
+use Rattle.journeys.specs.Counting as counting
+use Rattle.journeys.specs.Counting.{count}
+use Rattle.journeys.proofs.Counting.{count-grows}
+use Rattle.passing.specs.Row.{Row}
+use Rattle.meeting.specs.Passing.{goes, meets, met, passed, futile, comers}
+use Rattle.meeting.proofs.Entries.{met-one}
 
 pub size-le : (n : ℕ) (a b : Map) → ((u : ℕ) → u < n → one (a u) ≤ one (b u)) → sizeTo n a ≤ sizeTo n b
 unfolding sizeTo
@@ -37,18 +43,31 @@ size-upper k (suc i) a b h = let e : suc i + k ≡ suc (i + k) = omega arith in 
     more : sizeTo (i + k) a + sizeTo k b ≡ sizeTo (i + k) b + sizeTo k a → sizeTo (suc (i + k)) a + sizeTo k b ≡ sizeTo (suc (i + k)) b + sizeTo k a
     more ih = omega (arith, size-suc (i + k) a, size-suc (i + k) b, h (i + k) (omega arith))
 
--- each record adds one entry at most
 pub put-size : (m : Map) (u : ℕ) (e : Entry) → u < 65536 → size (put m u e) + one (m u) ≡ size m + one e
 unfolding size
 put-size m u e l = size-put 65536 m u e l
 
-pub goes-size : (from : ℕ → ℕ) (f : ℕ → Entry → Entry) (m : Map) (j : ℕ) → ((i : ℕ) → i < j → from i < 65536) → size (goes from f j m) ≤ size m + j
-unfolding goes
-goes-size from f m zero h = omega arith
-goes-size from f m (suc j) h =
+-- each record adds one entry at most, and a futile one none
+pub passed-size : (R : Row) (m : Map) (j : ℕ) → ((i : ℕ) → i < j → R .from i < 65536) → size (passed R j m) ≤ size m + comers R j
+unfolding goes count
+passed-size R m zero h = omega arith
+passed-size R m (suc j) h =
     omega (
       arith,
-      goes-size from f m j (λ i l. h i (omega arith)),
-      put-size (goes from f j m) (from j) (f j (goes from f j m (from j))) (h j (omega arith)),
-      one-most (f j (goes from f j m (from j))),
+      passed-size R m j (λ i l. h i (omega arith)),
+      put-size (passed R j m) (R .from j) (meets R j (passed R j m (R .from j))) (h j (omega arith)),
+      met-one (R .allowed) (R .offer j) (R .departing (R .from j)) (passed R j m (R .from j)),
     )
+
+-- a record that is not futile is one comer more
+pub one-comer : (R : Row) (n j : ℕ) → j < n → futile (R .allowed) (R .offer j) (R .departing (R .from j)) ≡ false → comers R j + 1 ≤ comers R n
+unfolding count
+one-comer R n j l f =
+    let p : ℕ → Bool = λ i. not (futile (R .allowed) (R .offer i) (R .departing (R .from i))) in
+    let e : counting.one (not (futile (R .allowed) (R .offer j) (R .departing (R .from j)))) ≡ 1 = ap (λ (t : Bool). counting.one (not t)) f in
+    omega (arith, count-grows p (suc j) n (omega arith), e)
+
+-- a pass over the records counts them
+pub comers-more : (R : Row) (j : ℕ) {k u x d r : ℕ} → k ≡ comers R j → u ≡ R .from j → x ≡ R .offer j → d ≡ R .departing u → r ≡ counting.one (not (futile (R .allowed) x d)) → k + r ≡ comers R (j + 1)
+unfolding count
+comers-more R j e q p o z = rw (add-one j, e, z, o, q, p)

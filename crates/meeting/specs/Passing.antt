@@ -1,12 +1,12 @@
 -- What the records that arrive at a vertex do to the entries of the vertices that they leave. Assumes nothing.
-use mathlib.Core.Bool.{Bool, true, false, cond}
+use mathlib.Core.Bool.{Bool, true, false, not, cond}
 use mathlib.Core.List.{List}
 use Prim.Native.Nat.{ℕ, zero, suc, _-_, _≤_}
 use lib.Dec.{eqb}
 use Rattle.journeys.specs.Counting.{count}
 use Rattle.passing.specs.Row.{Row, passes, rowOf, Sound, Leaves}
 use Rattle.passing.specs.declared.Arriving.{Arriving}
-use Rattle.worktable.specs.Map.{Entry, absent, known, Map, put, touched, swept}
+use Rattle.worktable.specs.Map.{Entry, absent, known, Map, put, touched, spent, swept}
 use Rattle.worktable.specs.Table.{mapOf, InOrder}
 use Rattle.worktable.specs.declared.Table.{Table}
 
@@ -40,6 +40,14 @@ meets R j = met (R .allowed) (R .offer j) (R .departing (R .from j))
 -- THE MAP when the first j records of the row have been passed
 abbrev pub passed : Row → ℕ → Map → Map
 passed R j m = goes (R .from) (meets R) j m
+
+-- a new vertex is hopeless with a record that offers b: it has no other, and b is above D
+abbrev pub futile : ℕ → ℕ → ℕ → Bool
+futile D b departing = spent D (known b 0 (departing - 1))
+
+-- how many of the first n records may bring a new entry: all but the futile ones
+abbrev pub comers : Row → ℕ → ℕ
+comers R n = count (λ j. not (futile (R .allowed) (R .offer j) (R .departing (R .from j)))) n
 
 -- how many records of a vertex may still be passed
 unfoldable pub left : ℕ → Entry → ℕ

@@ -2,13 +2,15 @@
 // Promises: the table then holds exactly the map of the definitions.
 // Rests on: the row of `passing`, one look at an entry by `worktable`.
 ghost use mathlib.Core.Path.{_≡_};
+ghost use mathlib.Core.Bool.{false, not};
 ghost use Prim.Native.Nat.{_+_, _-_, _/_, _<_, _≤_};
 ghost use lib.ListN.{length};
+ghost use Rattle.journeys.specs.Counting.{one};
 ghost use Rattle.journeys.specs.Tables.{vertexAt};
 ghost use Rattle.worktable.specs.Map.{absent, known, Figure, put, swept, size};
 ghost use Rattle.worktable.specs.Table.{mapOf, InOrder, PassedIs};
-ghost use Rattle.passing.specs.Row.{passes};
-ghost use Rattle.meeting.specs.Passing.{entered, met, left, Ready};
+ghost use Rattle.passing.specs.Row.{passes, rowOf, Sound, Leaves};
+ghost use Rattle.meeting.specs.Passing.{entered, met, futile, comers, left, Ready};
 ghost use Rattle.meeting.specs.Answer.{Leads, AllMet};
 use passing::Arriving;
 use passing::from_at;
@@ -27,7 +29,14 @@ pub enum Arrived {
     NoRoom,
 }
 
-// A new vertex gets an entry, unless none of its records remains and its offer is above D: then it is hopeless, and takes no slot.
+// Whether a new vertex with so many departing records is hopeless with a record: it has no other, and the offer is above D.
+fn hopeless(departing: u32, offer: Ticks, allowed: Ticks) -> bool
+    ensures { λ r. ⌜ r ≡ futile (allowed .0) (offer .0) departing ⌝ }
+{
+    (departing < 2) & (allowed.0 < offer.0)
+}
+
+// A new vertex gets an entry, unless it is hopeless with its only record: then it takes no slot.
 fn enter(
     held: &mut [u8],
     t: Table,
@@ -37,14 +46,14 @@ fn enter(
     allowed: Ticks,
 ) -> Table
     requires { ⌜ InOrder t (now held) × (u < length (now vertices) / 12) × (length (now vertices) / 12 ≤ 65536) × Figure (offer .0) × (mapOf t (now held) u ≡ absent) ⌝ }
-    requires { ⌜ (0 < vertexAt (now vertices) u .departing) × (size (mapOf t (now held)) < t .capacity) ⌝ }
+    requires { ⌜ (0 < vertexAt (now vertices) u .departing) × (futile (allowed .0) (offer .0) (vertexAt (now vertices) u .departing) ≡ false → size (mapOf t (now held)) < t .capacity) ⌝ }
     ensures { λ r. ⌜ Leads t r (now (held .exit)) (put (mapOf t (now (held .entry))) u (swept (allowed .0) (known (offer .0) 0 (vertexAt (now (vertices .entry)) u .departing - 1)))) ⌝ }
 {
-    let left = half_at(vertices, 12 * u + 8) - 1;
-    if (left == 0) & (allowed.0 < offer.0) {
+    let departing = half_at(vertices, 12 * u + 8);
+    if hopeless(departing, offer, allowed) {
         return t;
     }
-    insert(held, t, u, offer.0, left)
+    insert(held, t, u, offer.0, departing - 1)
 }
 
 // What is left to do for the vertex u of a record that has been passed: a new vertex is entered, a spent one is dropped.
@@ -58,7 +67,7 @@ pub fn enter_or_drop(
     told: Passed,
 ) -> Table
     requires { ⌜ InOrder t (now held) × (u < length (now vertices) / 12) × (length (now vertices) / 12 ≤ 65536) × Figure (offer .0) × PassedIs (allowed .0) t (now held) u (mapOf t (now held) u) told ⌝ }
-    requires { ⌜ (mapOf t (now held) u ≡ absent → (0 < vertexAt (now vertices) u .departing) × (size (mapOf t (now held)) < t .capacity)) ⌝ }
+    requires { ⌜ (mapOf t (now held) u ≡ absent → (0 < vertexAt (now vertices) u .departing) × (futile (allowed .0) (offer .0) (vertexAt (now vertices) u .departing) ≡ false → size (mapOf t (now held)) < t .capacity)) ⌝ }
     ensures { λ r. ⌜ Leads t r (now (held .exit)) (put (mapOf t (now (held .entry))) u (entered (allowed .0) (offer .0) (vertexAt (now (vertices .entry)) u .departing) (mapOf t (now (held .entry)) u))) ⌝ }
 {
     match told {
@@ -71,11 +80,39 @@ pub fn enter_or_drop(
 // One record from u: u is newly met, or one record less remains to it. A vertex to which nothing remains is dropped where it is settled or known above D.
 fn meet(held: &mut [u8], t: Table, vertices: &[u8], u: usize, offer: Ticks, allowed: Ticks) -> Table
     requires { ⌜ InOrder t (now held) × (u < length (now vertices) / 12) × (length (now vertices) / 12 ≤ 65536) × Figure (offer .0) × (allowed .0 < 2147483647) ⌝ }
-    requires { ⌜ (0 < left (vertexAt (now vertices) u .departing) (mapOf t (now held) u)) × (mapOf t (now held) u ≡ absent → size (mapOf t (now held)) < t .capacity) ⌝ }
+    requires { ⌜ (0 < left (vertexAt (now vertices) u .departing) (mapOf t (now held) u)) × (mapOf t (now held) u ≡ absent → futile (allowed .0) (offer .0) (vertexAt (now vertices) u .departing) ≡ false → size (mapOf t (now held)) < t .capacity) ⌝ }
     ensures { λ r. ⌜ Leads t r (now (held .exit)) (put (mapOf t (now (held .entry))) u (met (allowed .0) (offer .0) (vertexAt (now (vertices .entry)) u .departing) (mapOf t (now (held .entry)) u))) ⌝ }
 {
     let told = pass(held, t, u, offer.0, allowed.0);
     enter_or_drop(held, t, vertices, u, offer, allowed, told)
+}
+
+// 1 for a record that may bring a new entry.
+fn comes(departing: u32, offer: Ticks, allowed: Ticks) -> usize
+    ensures { λ r. ⌜ r ≡ one (not (futile (allowed .0) (offer .0) departing)) ⌝ }
+{
+    if hopeless(departing, offer, allowed) {
+        return 0;
+    }
+    1
+}
+
+// How many records of the row may bring a new entry.
+pub fn most_comers(vertices: &[u8], walks: &[u8], hops: &[u8], arriving: Arriving) -> usize
+    requires { ⌜ Sound (now walks) (now hops) arriving × Leaves (now vertices) (now walks) (now hops) arriving ⌝ }
+    ensures { λ r. ⌜ r ≡ comers (rowOf (now (vertices .entry)) (now (walks .entry)) (now (hops .entry)) arriving) (passes arriving) ⌝ }
+{
+    let n = arriving.walks + arriving.hops;
+    let mut come = 0;
+    let mut i = 0;
+    while i < n {
+        let u = from_at(walks, hops, arriving, i);
+        let offer = offer_at(walks, hops, arriving, i);
+        let departing = half_at(vertices, 12 * u + 8);
+        come += comes(departing, offer, arriving.allowed);
+        i += 1;
+    }
+    come
 }
 
 // All records, one after the other. A vertex that is dropped has no further record in the row.
@@ -87,7 +124,7 @@ pub fn meet_all(
     hops: &[u8],
     arriving: Arriving,
 ) -> Table
-    requires { ⌜ Ready (now vertices) (now walks) (now hops) arriving t (now held) × (size (mapOf t (now held)) + passes arriving ≤ t .capacity) ⌝ }
+    requires { ⌜ Ready (now vertices) (now walks) (now hops) arriving t (now held) × (size (mapOf t (now held)) + comers (rowOf (now vertices) (now walks) (now hops) arriving) (passes arriving) ≤ t .capacity) ⌝ }
     ensures { λ r. ⌜ AllMet (now (vertices .entry)) (now (walks .entry)) (now (hops .entry)) arriving t (now (held .entry)) (now (held .exit)) r ⌝ }
 {
     let n = arriving.walks + arriving.hops;

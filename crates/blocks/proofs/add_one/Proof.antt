@@ -1,6 +1,6 @@
 -- `blocks::add_one` meets its contract: a marked vertex of the block is met, and it lacks room only where it is new and no slot is free. Assumes nothing.
 use mathlib.Core.Path.{_≡_, sym, ap, _∙_}
-use mathlib.Core.Bool.{true, cond, _&&_}
+use mathlib.Core.Bool.{true, false, cond, _&&_}
 use Prim.Native.Nat.{_/_, _%_}
 use native.Mathlib.Omega.{arith}
 use borrow.Author.Tests.{eq-eqb, ne-eqb}
@@ -8,7 +8,7 @@ use Rattle.journeys.specs.Tables.{vertexAt}
 use Rattle.journeys.proofs.Tests.{and-true, and-left, and-right, cond-true, cond-false}
 use Rattle.worktable.specs.Map.{put}
 use Rattle.worktable.specs.Table.{mapOf}
-use Rattle.meeting.specs.Passing.{met}
+use Rattle.meeting.specs.Passing.{met, futile}
 use Rattle.meeting.specs.Answer.{ArrivedIs}
 use Rattle.meeting.proofs.Entries as en
 use Rattle.meeting.proofs.Leading as le
@@ -53,7 +53,7 @@ enter-or-drop-requires c κs =
     let some = s .pre .1 (c .before .before .before .before .before .before .before .before .before .before .if1 .taken) (sym (c .before .before .before .before .before .before .before .before .before .stays .ensures) ∙ c .before .before .before .before .before .before .before .before .if2 .taken) in
     let x = a .offer .0 in (
       (p .ensures .0 .holds .order, s .pre .0 .1, s .pre .0 .2, s .pre .0 .3, le.told-there (a .allowed .0) (a .t) (a .held .now) (a .u) x (p .ensures .0) (p .result) (p .ensures .1)),
-      le.new-there (a .t) (a .held .now) (a .u) x d (p .ensures .0) (some .0) (nx.has-slot (a .allowed .0) (a .t) (a .held .now) (a .u) x (p .ensures .0) (p .result) (p .ensures .1) (sym (c .before .before .lacks-slot .ensures) ∙ c .before .if3 .left)),
+      le.new-there (futile (a .allowed .0) x d ≡ false) (a .t) (a .held .now) (a .u) x d (p .ensures .0) (some .0) (λ z q. nx.has-slot (a .allowed .0) (a .t) (a .held .now) (a .u) x (p .ensures .0) (p .result) (p .ensures .1) (sym (c .before .before .lacks-slot .ensures) ∙ c .before .if3 .left) z),
     )
 
 returns-2 : tie.Need-returns-2

@@ -1,11 +1,13 @@
 -- `meeting::meet` meets its contract: what is touched, and then entered or dropped, is met. Assumes nothing.
-use mathlib.Core.Path.{sym, _∙_}
+use mathlib.Core.Path.{_≡_, sym, _∙_}
+use mathlib.Core.Bool.{false}
 use native.Mathlib.Omega.{arith}
 use lib.ListN.{length}
 use Rattle.journeys.specs.Tables.{vertexAt}
 use Rattle.worktable.specs.Map.{touched, size}
 use Rattle.worktable.specs.Table.{mapOf, PassedIs}
 use Rattle.worktable.proofs.PassLaws.{gives-at}
+use Rattle.meeting.specs.Passing.{futile}
 use Rattle.meeting.proofs.Entries as en
 use Rattle.meeting.proofs.Leading as le
 use borrow.Author.Needs.{needs}
@@ -25,7 +27,7 @@ enter-or-drop-requires c κs =
     let a = s .args in
     let g = c .before .before .before .pass .ensures .0 in (
       (g .holds .order, s .pre .0 .1, s .pre .0 .2, s .pre .0 .3, le.told-there (a .allowed .0) (a .t) (a .held .now) (a .u) (a .offer .0) g (c .before .before .before .pass .result) (c .before .before .before .pass .ensures .1)),
-      le.new-there (a .t) (a .held .now) (a .u) (a .offer .0) (vertexAt (a .vertices .now) (a .u) .departing) g (s .pre .1 .0) (s .pre .1 .1),
+      le.new-there (futile (a .allowed .0) (a .offer .0) (vertexAt (a .vertices .now) (a .u) .departing) ≡ false) (a .t) (a .held .now) (a .u) (a .offer .0) (vertexAt (a .vertices .now) (a .u) .departing) g (s .pre .1 .0) (s .pre .1 .1),
     )
 
 returns : tie.Need-returns

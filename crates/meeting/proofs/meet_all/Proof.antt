@@ -1,13 +1,15 @@
--- `meeting::meet_all` meets its contract. The loop has passed the first j records, each of which took one free slot at most. Assumes nothing.
+-- `meeting::meet_all` meets its contract. The loop has passed the first j records, each of which took one free slot at most, and a futile one none. Assumes nothing.
+use mathlib.Core.Path.{_≡_, sym, ap₂, _∙_}
+use mathlib.Core.Bool.{false}
 use Prim.Native.Nat.{ℕ, _-_, _<_}
 use native.Mathlib.Omega.{arith}
 use Rattle.worktable.specs.Map.{size}
 use Rattle.worktable.specs.Table.{mapOf}
 use Rattle.passing.specs.Row.{rowOf, passes}
-use Rattle.meeting.specs.Passing.{met, meets}
+use Rattle.meeting.specs.Passing.{met, meets, futile}
 use Rattle.meeting.proofs.Loops as lo
 use Rattle.meeting.proofs.Loops.{Went}
-use Rattle.meeting.proofs.Sizes.{goes-size}
+use Rattle.meeting.proofs.Sizes.{passed-size, one-comer}
 use Rattle.passing.proofs.Few.{hops-few}
 use borrow.Author.Needs.{needs}
 use Rattle.meeting.proofs.meet_all.Statement.{statement}
@@ -44,9 +46,13 @@ meet-requires c κs =
     let q = c .before .before .from-at .ensures in
     let l = c .before .before .before .loop-test .taken in
     let i = L .inv .leads in
-    let grown = goes-size (R .from) (meets R) m (L .j) (λ k h. lo.from-low (a .vertices .now) (a .walks .now) (a .hops .now) (a .arriving) (y .leaves) k (omega (arith, l))) in
-    let room : size (mapOf (L .table) (L .held)) < L .table .capacity = rw (i .holds .map, i .capacity) (omega (arith, grown, s .pre .1, l)) in
-    ((i .holds .order, rw q (y .leaves .low (L .j) l), y .leaves .vertices, c .before .offer-at .ensures .1, omega (arith, y .sound .allowed)), (lo.passed-left R (passes (a .arriving)) m (L .j) l q (y .enough) (i .holds .map), λ z. room))
+    let grown = passed-size R m (L .j) (λ k h. lo.from-low (a .vertices .now) (a .walks .now) (a .hops .now) (a .arriving) (y .leaves) k (omega (arith, l))) in
+    let room : futile (R .allowed) (R .offer (L .j)) (R .departing (R .from (L .j))) ≡ false → size (mapOf (L .table) (L .held)) < L .table .capacity = λ f.
+    rw (i .holds .map, i .capacity) (omega (arith, grown, s .pre .1, one-comer R (passes (a .arriving)) (L .j) l f)) in
+    ((i .holds .order, rw q (y .leaves .low (L .j) l), y .leaves .vertices, c .before .offer-at .ensures .1, omega (arith, y .sound .allowed)), (lo.passed-left R (passes (a .arriving)) m (L .j) l q (y .enough) (i .holds .map), λ z f. room (ap₂ (λ (x u : ℕ). futile (R .allowed) x (R .departing u)) (sym (c .before .offer-at .ensures .0)) (sym q) ∙ f)))
+
+add-j : tie.Need-add-j Inv-loop μ-loop
+add-j c = let s = c .before .before .before .before .before .before .before .before .before .before .before .before .before in record { fits = omega (arith, c .before .before .before .before .before .before .loop-test .taken, s .pre .0 .sound .counted .walks, hops-few (s .pre .0 .sound .counted), s .good) }
 
 loop-again : tie.Need-loop-again Inv-loop μ-loop
 loop-again c =
@@ -71,7 +77,7 @@ meet-all-spec =
     from-at-requires
     offer-at-requires
     meet-requires
-    (λ c. search needs)
+    add-j
     (λ c. search needs)
     loop-again
     same-length
