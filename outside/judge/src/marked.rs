@@ -1,9 +1,10 @@
 //! The marked cases M1 to M10 and the base job: what RULES 15 and 16 say of each,
 //! as one table. `fast`, `slow` and the library are held against it. The cases
-//! are pairs: a run, and the parts of its own list. Behind them stand lists of
-//! all kinds, for the parts operation alone, then hops with trips and moves,
-//! rides of no minutes, and waits.
+//! are pairs: a run, and the parts of its own list. Behind them stand vertices
+//! that are forgotten, lists of all kinds, for the parts operation alone, then
+//! hops with trips and moves, rides of no minutes, and waits.
 
+mod forgetting;
 mod lists;
 mod moments;
 mod trips;
@@ -53,11 +54,11 @@ const fn marked(name: &'static str, make: fn() -> Case, wanted: &'static [Wanted
     Marked { name, make, wanted }
 }
 
-/// Every row: the marked cases, the lists, trips and moves, rides of no minutes,
-/// waits.
+/// Every row: the marked cases, forgotten vertices, the lists, trips and moves,
+/// rides of no minutes, waits.
 pub fn all() -> impl Iterator<Item = &'static Marked> {
-    let rows = MARKED.iter().chain(lists::ALL).chain(trips::ALL);
-    rows.chain(moments::ALL).chain(waits::ALL)
+    let rows = MARKED.iter().chain(forgetting::ALL).chain(lists::ALL);
+    rows.chain(trips::ALL).chain(moments::ALL).chain(waits::ALL)
 }
 
 const MARKED: &[Marked] = &[
@@ -89,7 +90,6 @@ const MARKED: &[Marked] = &[
             (1, 500, 1, 1),
             (2, 3000, 0, 0),
             (3, 2400, 1, 1),
-            (4, 3300, 0, 0),
         ])],
     ),
     marked(
@@ -188,7 +188,7 @@ const BASE_PARTS: &[(u32, u32, u32)] = &[
     (4, 300, 900),
 ];
 
-const BASE_HELD: &[(u32, u32, u32, u32)] = &[(3, 2400, 1, 1), (4, 3300, 0, 0)];
+const BASE_HELD: &[(u32, u32, u32, u32)] = &[(3, 2400, 1, 1)];
 
 fn vertex((first_walk, first_hop, departing): (u32, u32, u16)) -> Vertex {
     Vertex {
@@ -295,6 +295,13 @@ fn filled(mut case: Case) -> Case {
     for buffer in lent {
         buffer.fill(9);
     }
+    case
+}
+
+/// A run and its parts with so many held slots, and room for all else.
+fn held_in(scene: Scene, limit: u32, slots: usize) -> Case {
+    let mut case = lent(scene, limit);
+    case.held = vec![9; slots * HELD];
     case
 }
 
@@ -426,7 +433,7 @@ fn parts(after: &Outcome) -> Vec<(u32, u32, u32)> {
 
 #[cfg(test)]
 mod tests {
-    use super::{all, base, MARKED};
+    use super::{all, base, Marked, MARKED};
     use crate::commands::jobtext::encode;
     use crate::mutant::{Mutant, Sound};
     use crate::{cases, fast, slow};
@@ -443,8 +450,7 @@ part 2 0 2500
 part 0 500 2000
 part 4 300 900
 held 3 2400 1 1
-held 4 3300 0 0
-end 4 6 2 1
+end 4 6 1 1
 ";
 
     #[test]
@@ -476,6 +482,9 @@ end 4 6 2 1
         Mutant::DropNever,
         Mutant::StateZero,
         Mutant::HeldReversed,
+        Mutant::ForgetNever,
+        Mutant::ForgetAtD,
+        Mutant::ForgetNewKept,
         Mutant::PartFar,
         Mutant::PartOtherEnd,
         Mutant::PartOnce,
@@ -504,15 +513,29 @@ end 4 6 2 1
         Mutant::ListDistanceTight,
     ];
 
-    #[test]
-    fn the_table_tells_wrong_versions() {
-        for &mutant in WRONG {
-            let caught = MARKED.iter().any(|marked| {
+    fn tell(rows: &[Marked], wrong: &[Mutant]) {
+        for &mutant in wrong {
+            let caught = rows.iter().any(|marked| {
                 let case = (marked.make)();
                 !marked.fits(&case, &case.fast(mutant))
             });
             assert!(caught, "{mutant:?}");
         }
+    }
+
+    #[test]
+    fn the_table_tells_wrong_versions() {
+        tell(MARKED, WRONG);
+    }
+
+    /// All wrong versions of forgetting but those that need a larger network.
+    #[test]
+    fn forgotten_vertices_tell_wrong_versions() {
+        let large = [Mutant::ForgetUpperKept, Mutant::ForgetHalves];
+        let forget = |m: &&Mutant| format!("{m:?}").starts_with("Forget") && !large.contains(m);
+        let wrong: Vec<Mutant> = Mutant::ALL.iter().filter(forget).copied().collect();
+        assert_eq!(wrong.len(), 13);
+        tell(super::forgetting::ALL, &wrong);
     }
 
     #[test]

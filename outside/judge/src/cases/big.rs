@@ -2,6 +2,7 @@
 
 use super::big_lists as lists;
 use super::big_trips as trips;
+use super::hubs;
 use crate::network::{full_scene, Network, Plan, Scene};
 use crate::outcome::Case;
 use crate::records::{Query, Vertex, NONE};
@@ -86,6 +87,54 @@ pub const ALL: &[Big] = &[
         || moment().pair_case(NONE),
         0,
         0,
+    ),
+    big(
+        "65,535 hopeless walks, one slot",
+        || hubs::one_step(hubs::walks(), 0),
+        0,
+        0,
+    ),
+    big(
+        "65,535 hopeless walks, no slot",
+        || hubs::one_step(hubs::walks(), 1),
+        8,
+        0,
+    ),
+    big(
+        "a hopeless walk and hop each, one slot",
+        || hubs::one_step(hubs::walks_and_hops(), 0),
+        0,
+        0,
+    ),
+    big(
+        "two late hops each, one slot",
+        || hubs::one_step(hubs::late_hops(), 0),
+        0,
+        0,
+    ),
+    big(
+        "every other neighbour stays, room exact",
+        || hubs::one_step(hubs::every_other_stays(), 0),
+        0,
+        0,
+    ),
+    big(
+        "every other neighbour stays, one slot less",
+        || hubs::one_step(hubs::every_other_stays(), 1),
+        8,
+        1,
+    ),
+    big(
+        "every other neighbour rides, room exact",
+        || hubs::one_step(hubs::every_other_rides(), 0),
+        0,
+        0,
+    ),
+    big(
+        "every other neighbour rides, one slot less",
+        || hubs::one_step(hubs::every_other_rides(), 1),
+        8,
+        1,
     ),
     big("65,536 entries", || lists::listed(|list| list), 0, 0),
     big(

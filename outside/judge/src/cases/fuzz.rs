@@ -2,7 +2,7 @@
 //! rooms and jobs are changed without a plan. Some are mended afterwards, so
 //! that what was changed comes as far as the search.
 
-use super::{jobs, small, trips};
+use super::{hopeless, jobs, small, trips};
 use crate::mutant::Sound;
 use crate::network::{Network, Scene};
 use crate::outcome::{Call, Case};
@@ -17,8 +17,12 @@ pub fn case(seed: u64, index: u64) -> Case {
     let mut rng = Rng::new(seed ^ 0x6675_7a7a, index);
     let rng = &mut rng;
     let scene = match rng.below(1_000) {
-        0 => small::spread(rng),
+        0 => {
+            let scene = small::scene(rng);
+            small::spread(scene, rng)
+        }
         1..=30 => small::town(rng),
+        31..=200 => hopeless::scene(rng),
         _ => small::scene(rng),
     };
     let limit = match rng.below(4) {

@@ -3,7 +3,7 @@
 use std::collections::BTreeSet;
 
 use super::damage::{any, several, sweep};
-use super::{lists, small, trips};
+use super::{hopeless, lists, small, trips};
 use crate::mutant::Sound;
 use crate::network::Scene;
 use crate::outcome::{Call, Case};
@@ -17,11 +17,23 @@ pub fn group(seed: u64, index: u64) -> Vec<Case> {
     let cases = if index % 80 == 79 {
         few(&small::town(rng), rng)
     } else if index % 240 == 119 {
-        few(&small::spread(rng), rng)
+        let scene = small::scene(rng);
+        few(&small::spread(scene, rng), rng)
+    } else if index % 240 == 199 {
+        let scene = hopeless::scene(rng);
+        few(&small::spread(scene, rng), rng)
+    } else if forgets(index) {
+        varied(index, &hopeless::scene(rng), rng)
     } else {
         varied(index, &small::scene(rng), rng)
     };
     cases.into_iter().map(|case| dress(case, rng)).collect()
+}
+
+/// Whether the group has a network with hopeless vertices: every other one of
+/// those about room, and some of those about limits.
+fn forgets(index: u64) -> bool {
+    (2..8).contains(&(index % 26)) && index / 26 % 2 == 1
 }
 
 /// Twelve groups about the run and its pair, twelve about lists, one about the
@@ -148,6 +160,9 @@ fn rooms(scene: &Scene, rng: &mut Rng) -> Vec<Case> {
             cases.push(with_room(scene, limit, lent));
         }
     }
+    // Settled room is short from the first step on, held room mostly later.
+    let later = [need[0].saturating_sub(1), 0, need[2]];
+    cases.push(with_room(scene, limit, later));
     for _ in 0..12 {
         let fewer = need.map(|n| rng.range(0, n as i64 + 1) as usize);
         cases.push(with_room(scene, limit, fewer));

@@ -7,6 +7,8 @@ mod big_trips;
 pub mod damage;
 pub mod fuzz;
 pub mod groups;
+mod hopeless;
+pub mod hubs;
 pub mod jobs;
 pub mod lists;
 pub mod small;

@@ -71,10 +71,9 @@ pub fn town(rng: &mut Rng) -> Scene {
     scene
 }
 
-/// A small network whose vertices lie far apart in the largest table there is,
-/// on both sides of its middle.
-pub fn spread(rng: &mut Rng) -> Scene {
-    let mut scene = scene(rng);
+/// The same small network, but its vertices lie far apart in the largest table
+/// there is, on both sides of its middle.
+pub fn spread(mut scene: Scene, rng: &mut Rng) -> Scene {
     let mut numbers = BTreeSet::new();
     while numbers.len() < scene.network.vertices.len() {
         numbers.insert(match rng.below(4) {
@@ -190,7 +189,11 @@ fn add_roads(plan: &mut Plan, speed: u32, rng: &mut Rng) {
             }
         }
     }
-    // Records into one vertex keep the order of the plan, so mix it.
+    mix_walks(plan, rng);
+}
+
+/// Records into one vertex keep the order of the plan, so mix it.
+fn mix_walks(plan: &mut Plan, rng: &mut Rng) {
     for i in (1..plan.walks.len()).rev() {
         swap(plan, i, rng.below(i + 1));
     }
@@ -205,6 +208,23 @@ fn waits(plan: &mut Plan, rng: &mut Rng) {
             8 => rng.pick(&[1, 119, 120]),
             _ => rng.range(1, 120) as u32,
         };
+    }
+}
+
+/// Numbers the vertices at random, and puts the records in any order.
+pub fn mix(plan: &mut Plan, rng: &mut Rng) {
+    let mut numbers: Vec<u32> = (0..plan.vertices as u32).collect();
+    for i in (1..numbers.len()).rev() {
+        numbers.swap(i, rng.below(i + 1));
+    }
+    let walks = plan.walks.iter_mut().map(|w| [&mut w.from, &mut w.to]);
+    let hops = plan.hops.iter_mut().map(|h| [&mut h.from, &mut h.to]);
+    for end in walks.chain(hops).flatten() {
+        *end = numbers[*end as usize];
+    }
+    mix_walks(plan, rng);
+    for i in (1..plan.hops.len()).rev() {
+        plan.hops.swap(i, rng.below(i + 1));
     }
 }
 
@@ -245,7 +265,7 @@ fn times(arrival: i64, rng: &mut Rng) -> (i32, i32) {
 }
 
 /// Puts the query on a walk: at either end or between.
-fn place(scene: &mut Scene, rng: &mut Rng) {
+pub fn place(scene: &mut Scene, rng: &mut Rng) {
     if scene.network.walks.is_empty() {
         return;
     }
@@ -271,7 +291,7 @@ fn distances(scene: &Scene) -> Vec<Settled> {
 }
 
 /// Makes D the distance of some vertex, or one second off it.
-fn window_at_distance(scene: &mut Scene, rng: &mut Rng) {
+pub fn window_at_distance(scene: &mut Scene, rng: &mut Rng) {
     let list = distances(scene);
     if list.is_empty() {
         return;

@@ -2,7 +2,7 @@
 
 use std::collections::{BTreeMap, BTreeSet};
 
-use super::{big, fuzz, groups, jobs, stream};
+use super::{big, fuzz, groups, hopeless, jobs, stream};
 use crate::fast;
 use crate::mutant::{Mutant, Sound};
 use crate::outcome::{Call, Case, Outcome};
@@ -11,6 +11,7 @@ use crate::records::{
     trip, Answer, Held, Hop, Part, PartsAnswer, Settled, Walk, Way, HELD, HOP, NONE, SETTLED,
     TRIP_HOP, VERTEX, WALK,
 };
+use crate::rng::Rng;
 use crate::slow;
 
 const CASES: usize = 40_000;
@@ -438,12 +439,87 @@ fn other_bytes_are_noticed() {
         Mutant::ClipTwin,
     ];
     for mutant in wrong {
-        let told = stream(3).take(4_000).any(|case| {
+        let told = stream(3).take(12_000).any(|case| {
             let outcome = case.fast(mutant);
             pair::gives_old_bytes(&case, &outcome, case.small()) == Some(false)
         });
         assert!(told, "{mutant:?}");
     }
+}
+
+/// The wrong versions of forgetting, and how many cases tell each at least.
+const FORGETTING: &[(Mutant, usize)] = &[
+    (Mutant::ForgetNever, 100),
+    (Mutant::ForgetAtD, 5),
+    (Mutant::ForgetFloor, 3),
+    (Mutant::ForgetRemaining, 100),
+    (Mutant::ForgetOneLeft, 100),
+    (Mutant::ForgetNoneKept, 20),
+    (Mutant::ForgetNoneAlone, 100),
+    (Mutant::ForgetSeedKept, 20),
+    (Mutant::ForgetUpperKept, 1),
+    (Mutant::ForgetNewKept, 50),
+    (Mutant::ForgetNewAlone, 50),
+    (Mutant::ForgetFirstOffer, 5),
+    (Mutant::ForgetSlotFirst, 5),
+    (Mutant::ForgetSeveral, 3),
+];
+
+#[test]
+fn every_kind_of_forgetting_arises() {
+    let mut seen = vec![0; FORGETTING.len()];
+    let cases = stream(1).take(CASES / 4);
+    for case in cases.filter(|case| case.call.runs()) {
+        let right = case.fast(Sound);
+        for (count, (mutant, _)) in seen.iter_mut().zip(FORGETTING) {
+            *count += usize::from(case.fast(*mutant) != right);
+        }
+    }
+    for (count, (mutant, least)) in seen.iter().zip(FORGETTING) {
+        assert!(count >= least, "{mutant:?}: {count}");
+    }
+}
+
+/// The held records of an accepted run.
+fn held_rows(after: &Outcome) -> Vec<Held> {
+    let count = Answer::read(&after.answer).held as usize;
+    (0..count).map(|i| Held::read(&after.held, i)).collect()
+}
+
+/// Settled list, parts and finished are those of a run that forgets nothing;
+/// the held table is part of its table, and lacks the hopeless alone. What is
+/// forgotten at one limit is absent at every larger one, and never settled.
+#[test]
+fn forgetting_takes_the_hopeless_alone() {
+    let mut forgotten = 0;
+    for index in 0..400 {
+        let scene = hopeless::scene(&mut Rng::new(5, index));
+        let window = scene.query.duration * scene.query.speed;
+        let mut gone: BTreeSet<u32> = BTreeSet::new();
+        for limit in 0..=scene.network.vertices.len() as u32 {
+            let case = scene.pair_case(limit);
+            let (new, old) = (case.slow(), case.fast(Mutant::ForgetNever));
+            assert_eq!(
+                (&new.settled, &new.parts, &new.parts_answer),
+                (&old.settled, &old.parts, &old.parts_answer)
+            );
+            let six = |after: &Outcome| Answer {
+                held: 0,
+                ..Answer::read(&after.answer)
+            };
+            assert_eq!(six(&new), six(&old));
+            let stays = |row: &Held| row.state == 1 || row.remaining > 0 || row.distance <= window;
+            let (hold, lose) = held_rows(&old).into_iter().partition::<Vec<Held>, _>(stays);
+            assert_eq!(held_rows(&new), hold);
+            let lose: BTreeSet<u32> = lose.iter().map(|row| row.vertex).collect();
+            assert!(lose.is_superset(&gone));
+            gone = lose;
+            let list = (0..six(&new).settled as usize).map(|i| Settled::read(&new.settled, i));
+            assert!(list.into_iter().all(|entry| !gone.contains(&entry.vertex)));
+        }
+        forgotten += gone.len();
+    }
+    assert!(forgotten >= 400, "{forgotten}");
 }
 
 /// What `every_room` is for: at each limit the first case has room, no other
@@ -454,7 +530,7 @@ fn exact_room_is_tried_at_every_limit() {
     // Every 80th group is a town, and in some the vertices lie far apart.
     for index in (7..2_600)
         .step_by(26)
-        .filter(|index| index % 80 != 79 && index % 240 != 119)
+        .filter(|index| index % 80 != 79 && ![119, 199].contains(&(index % 240)))
     {
         let cases = groups::group(1, index);
         let given = |case: &Case| (case.limit, case.refusal(&case.fast(Sound)).0);

@@ -1,10 +1,12 @@
 //! The rules with a binary heap and ordinary arrays: judge and speed baseline.
 
 mod check;
+mod held;
 mod hops;
 mod job;
 mod list;
 mod moves;
+mod newcomers;
 mod order;
 mod parts;
 mod run;

@@ -112,7 +112,7 @@ impl<F: Fault> Search<'_, '_, F> {
     /// The number of the first buffer too small for the state after a step.
     fn lack(&self) -> Option<u32> {
         let (fault, lent) = (self.fault, &self.lent);
-        let mut held = self.held;
+        let mut held = self.held + self.passing();
         if fault.is(Mutant::AddBeforeDrop) {
             held += self.dropped;
         }

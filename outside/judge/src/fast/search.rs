@@ -5,6 +5,7 @@ use std::collections::BinaryHeap;
 use std::ops::Range;
 
 use super::hops;
+use super::newcomers::Newcomers;
 use super::order;
 use super::parts::Parts;
 use super::waits;
@@ -50,12 +51,14 @@ pub struct Search<'a, 'b, F> {
     pub parts: Option<Parts<'a, F>>,
     pub settled: usize,
     pub held: usize,
-    /// Entries dropped by the step under way; only a mutant looks at it.
+    /// Entries that the step under way lets go; only a mutant looks at it.
     pub dropped: usize,
     /// The vertex settled last; only a mutant looks at it.
     last: Option<Settled>,
     /// What the right version settles; only mutants with another order have it.
     pub own: Vec<Settled>,
+    /// Only wrong versions look at it.
+    pub newcomers: Newcomers,
 }
 
 impl<'a, 'b, F: Fault> Search<'a, 'b, F> {
@@ -88,6 +91,7 @@ impl<'a, 'b, F: Fault> Search<'a, 'b, F> {
             dropped: 0,
             last: None,
             own: order::own(tables, query, fault),
+            newcomers: Newcomers::default(),
         }
     }
 
@@ -152,13 +156,12 @@ impl<'a, 'b, F: Fault> Search<'a, 'b, F> {
     /// One step: the vertex joins S, and every record into it is passed on.
     pub fn settle(&mut self, vertex: u32) {
         self.dropped = 0;
+        self.newcomers.next_step();
         self.bring(vertex);
         let distance = self.entries[vertex as usize].known;
+        let held = self.is_held(vertex);
         self.entries[vertex as usize].settled = true;
-        if !self.is_held(vertex) && !self.fault.is(Mutant::DropUnsettled) {
-            self.held -= 1;
-            self.dropped += 1;
-        }
+        self.count(vertex, held);
         let record = Settled { vertex, distance };
         self.last = Some(record);
         let mut slots = self.lent.settled.chunks_exact_mut(SETTLED);
@@ -235,10 +238,13 @@ impl<'a, 'b, F: Fault> Search<'a, 'b, F> {
             return;
         }
         let held = self.is_held(vertex);
+        let offer = offer.unwrap_or(NONE);
+        if Newcomers::matter(self.fault) {
+            self.newcomers.meet(vertex, offer, record);
+        }
         let (window, fault) = (self.window, self.fault);
         let entry = &mut self.entries[vertex as usize];
         entry.met = true;
-        let offer = offer.unwrap_or(NONE);
         let late = fault.is(Mutant::FirstOffer) && entry.known != NONE;
         let better = offer < entry.known && !late;
         if better {
@@ -274,24 +280,5 @@ impl<'a, 'b, F: Fault> Search<'a, 'b, F> {
         }
         let key = u64::from(distance) << 32 | u64::from(low);
         self.heap.push(Reverse(key));
-    }
-
-    /// Keeps the number of held entries after one of them was touched.
-    fn count(&mut self, vertex: u32, before: bool) {
-        match (before, self.is_held(vertex)) {
-            (false, true) => self.held += 1,
-            (true, false) => {
-                self.held -= 1;
-                self.dropped += 1;
-            }
-            _ => {}
-        }
-    }
-
-    pub fn is_held(&self, vertex: u32) -> bool {
-        let entry = self.entries[vertex as usize];
-        let settled = entry.settled || self.fault.is(Mutant::DropUnsettled);
-        let gone = settled && entry.remaining == 0 && !self.fault.is(Mutant::DropNever);
-        entry.met && !gone
     }
 }

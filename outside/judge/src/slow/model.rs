@@ -210,7 +210,10 @@ impl Model {
                 outside[from] += 1;
             }
         }
-        let held = |v: &usize| met[*v] && !(inside[*v] && outside[*v] == 0);
+        let dropped = |v: usize| inside[v] && outside[v] == 0;
+        let late = |v: usize| known[v].is_none_or(|d: i64| d > self.window());
+        let forgotten = |v: usize| !inside[v] && outside[v] == 0 && late(v);
+        let held = |v: &usize| met[*v] && !dropped(*v) && !forgotten(*v);
         let record = |v: usize| Held {
             vertex: v as u32,
             distance: known[v].map_or(NONE, |d: i64| d as u32),
