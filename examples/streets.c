@@ -100,7 +100,7 @@ int main(int words, char **word)
         print_vertex(settled + SILTBROW_SETTLED_SIZE * i);
     for (unsigned i = 0; i < covered.parts; i++)
         print_part(parts + SILTBROW_PART_SIZE * i);
-    printf("%u vertices still held, %s\n", answer.held,
+    printf("still held: %u; %s\n", answer.held,
            answer.finished ? "nothing is left to settle" : "the limit came first");
     return 0;
 }

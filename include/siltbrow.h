@@ -81,7 +81,10 @@
  *                      1 settled), remaining: how many of its departing
  *                      records do not lead to a settled vertex; in ascending
  *                      order of vertex. These are the vertices that the search
- *                      has met and still needs.
+ *                      has met and still needs: with none remaining a vertex
+ *                      goes once it is settled, and one that is not settled
+ *                      goes if its distance is above the duration in ticks, or
+ *                      none, since it can then never be settled.
  *   settled,  8 bytes: vertex, distance; in the order of settling
  *
  * One held and one settled record for each vertex are always enough. Less may
