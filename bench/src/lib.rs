@@ -6,6 +6,7 @@ pub mod checks;
 pub mod figures;
 pub mod frames;
 pub mod hard;
+pub mod hubs;
 pub mod machine;
 pub mod moves;
 pub mod networks;

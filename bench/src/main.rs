@@ -5,7 +5,7 @@ mod linked;
 use std::fs::{read_to_string, write};
 use std::process::ExitCode;
 
-use bench::{checks, figures, frames, moves, page, speed};
+use bench::{checks, figures, frames, hubs, moves, page, speed};
 use linked::Linked;
 
 const USAGE: &str = "usage:
@@ -43,6 +43,7 @@ fn main() -> ExitCode {
 fn measure(rounds: usize, page: Option<&str>) -> Result<(), String> {
     let report = [
         speed::report(&Linked, CODE, rounds)?,
+        hubs::table(&Linked, rounds)?,
         checks::table(&Linked, rounds)?,
         frames::table(&Linked, rounds)?,
         moves::table(&Linked, rounds)?,

@@ -37,7 +37,7 @@ impl Spent {
     }
 
     /// What is left when a part is taken off.
-    fn less(&self, part: &Spent) -> Spent {
+    pub fn less(&self, part: &Spent) -> Spent {
         let left = |whole: [Duration; 2], part: [Duration; 2]| {
             [0, 1].map(|index| whole[index].saturating_sub(part[index]))
         };
@@ -51,6 +51,11 @@ impl Spent {
     pub fn cells(&self) -> [String; 4] {
         let [median, least] = [0, 1].map(|index| ratio(self.library[index], self.rust[index]));
         [millis(self.library[0]), millis(self.rust[0]), median, least]
+    }
+
+    /// The library's least time by that of another call.
+    pub fn beside(&self, other: &Spent) -> String {
+        ratio(self.library[1], other.library[1])
     }
 
     /// Nanoseconds for each of so many, library and Rust.
@@ -75,15 +80,15 @@ fn ratio(library: Duration, rust: Duration) -> String {
 }
 
 /// One kind of call, with buffers for each program.
-struct Stand {
+pub struct Stand {
     case: Case,
     library: Outcome,
     rust: Outcome,
-    times: Times,
+    pub times: Times,
 }
 
 impl Stand {
-    fn new(case: Case) -> Self {
+    pub fn new(case: Case) -> Self {
         Stand {
             library: case.before(),
             rust: case.before(),
@@ -94,7 +99,7 @@ impl Stand {
 
     /// Calls both; who begins changes from round to round. A byte that differs
     /// in any buffer ends the whole measurement.
-    fn round<P: Program, R: Program>(
+    pub fn round<P: Program, R: Program>(
         &mut self,
         library: &P,
         rust: &R,
@@ -190,7 +195,7 @@ fn measure<P: Program>(library: &P, scene: &Scene, rounds: usize) -> Result<Meas
     })
 }
 
-const COLUMNS: [&str; 4] = ["library ms", "Rust ms", "ratio", "ratio of the least"];
+pub const COLUMNS: [&str; 4] = ["library ms", "Rust ms", "ratio", "ratio of the least"];
 
 /// Every part of the work on the city grid and on the largest network.
 fn city_table<P: Program>(library: &P, rounds: usize) -> Result<String, String> {
