@@ -1,15 +1,18 @@
 //! How many vertices are held at most, by duration and by size, beside what
 //! the paper says of its search.
 
+use outside::mutant::Mutant;
 use outside::network::Plan;
 use outside::outcome::Outcome;
 use outside::records::{Answer, Held};
 
-use crate::networks::{around, even_grid, shuffled, spider, uneven_grid};
+use crate::networks::{
+    around, even_grid, grid_with_houses, shuffled, spider, timetable, uneven_grid,
+};
 use crate::page::{grouped, head, row};
 use crate::picture::{Kind, Line, Picture};
 use crate::program::{agreed, Program};
-use crate::room::{least_room, run_in};
+use crate::room::{least_room, room_without_forgetting, run_in};
 
 /// No duration reaches the border of a grid or the end of a spider's line.
 const GRID_MINUTES: &[u32] = &[
@@ -17,31 +20,57 @@ const GRID_MINUTES: &[u32] = &[
 ];
 /// In five minutes even the longest road is walked.
 const UNEVEN_MINUTES: &[u32] = &[5, 10, 20, 30, 40, 50, 60, 70, 80, 90, 100, 110, 120];
+const HOUSES_MINUTES: &[u32] = &[5, 10, 20, 30, 40, 50, 60];
+/// The longest reaches every vertex.
+const TIMETABLE_MINUTES: &[u32] = &[10, 20, 30, 40, 50, 60, 75, 90, 105, 120, 150, 180];
 const SPIDER_MINUTES: &[u32] = &[1, 2, 3, 5, 10, 20, 50, 100, 200, 300, 400, 500, 700, 900];
 
 const BLUE: &str = "#1f5fa8";
 const BROWN: &str = "#b3530f";
+
+/// What each number is called, in a table and in a file.
+const COLUMNS: [&str; 7] = [
+    "minutes",
+    "settled",
+    "met in all",
+    "held at most",
+    "without forgetting",
+    "held at the end",
+    "the paper",
+];
+const FIELDS: [&str; 7] = [
+    "minutes",
+    "settled",
+    "met",
+    "held_most",
+    "held_most_without_forgetting",
+    "held_end",
+    "paper",
+];
 
 /// What was counted at one duration.
 #[derive(Clone, Copy, Debug, PartialEq)]
 struct Count {
     minutes: u32,
     settled: usize,
-    /// Every vertex met: what a search that drops none holds at the end.
+    /// Every vertex met: what a search that lets none go holds at the end.
     met: usize,
-    /// The most held after any step, and what is held after the last one.
+    /// The most held after any step, the same of a search that holds on to the
+    /// hopeless, and what is held after the last step.
     most: usize,
+    before: usize,
     end: usize,
 }
 
-/// A network, the vertex where the place is, and the paper's number for it.
+/// A network, the vertex where the place is, and the paper's number for it if
+/// the paper has one.
 struct Network {
     name: &'static str,
     colour: &'static str,
     plan: Plan,
     centre: usize,
     minutes: &'static [u32],
-    paper: fn(Count) -> usize,
+    paper: Option<fn(Count) -> usize>,
 }
 
 /// A network's counts.
@@ -74,8 +103,8 @@ fn middle(plan: Plan) -> (Plan, usize) {
     (plan, middle)
 }
 
-fn networks() -> [Network; 5] {
-    let network = |name, colour, (plan, centre), minutes, paper| Network {
+fn networks() -> [Network; 7] {
+    let network = |name, colour, (plan, centre), minutes, paper: Option<_>| Network {
         name,
         colour,
         plan,
@@ -86,15 +115,19 @@ fn networks() -> [Network; 5] {
     let (grid, centre) = middle(even_grid(255));
     let mixed = shuffled(grid.clone(), centre);
     let uneven = middle(uneven_grid(255));
+    let houses = (grid_with_houses(127), 127 * 127 / 2);
     let (few, many) = ((spider(8, 1_000), 0), (spider(32, 1_000), 0));
-    let roads: fn(Count) -> usize = |c| paper_grid(c.minutes as usize);
-    let size: fn(Count) -> usize = |c| paper_grid_by_size(c.settled);
+    let roads: Option<fn(Count) -> usize> = Some(|c| paper_grid(c.minutes as usize));
+    let size: Option<fn(Count) -> usize> = Some(|c| paper_grid_by_size(c.settled));
+    let [eight, more]: [Option<fn(Count) -> usize>; 2] = [Some(|_| 2 * 8), Some(|_| 2 * 32)];
     [
         network("grid", BLUE, (grid, centre), GRID_MINUTES, roads),
         network("shuffled-grid", BROWN, mixed, GRID_MINUTES, roads),
         network("uneven-grid", BROWN, uneven, UNEVEN_MINUTES, size),
-        network("spider-8", BLUE, few, SPIDER_MINUTES, |_| 2 * 8),
-        network("spider-32", BROWN, many, SPIDER_MINUTES, |_| 2 * 32),
+        network("spider-8", BLUE, few, SPIDER_MINUTES, eight),
+        network("spider-32", BROWN, many, SPIDER_MINUTES, more),
+        network("grid-with-houses", BLUE, houses, HOUSES_MINUTES, None),
+        network("timetable", BLUE, timetable(), TIMETABLE_MINUTES, None),
     ]
 }
 
@@ -113,17 +146,21 @@ fn count<P: Program>(
         return Err("the run is not finished".to_string());
     }
     let (settled, end) = (answer.settled as usize, answer.held as usize);
+    let before = room_without_forgetting(&scene)?;
+    let all = run_in(&scene, before).fast(Mutant::ForgetNever);
     Ok(Count {
         minutes,
         settled,
-        met: settled + waiting(&after, end),
+        met: settled + waiting(&all),
         most,
+        before,
         end,
     })
 }
 
 /// The held vertices that are not settled.
-fn waiting(after: &Outcome, held: usize) -> usize {
+fn waiting(after: &Outcome) -> usize {
+    let held = Answer::read(&after.answer).held as usize;
     let state = |index| Held::read(&after.held, index).state;
     (0..held).filter(|&index| state(index) == 0).count()
 }
@@ -138,39 +175,49 @@ fn counted<P: Program>(library: &P, network: Network) -> Result<Row, String> {
 }
 
 impl Row {
-    fn numbers(&self) -> impl Iterator<Item = [usize; 6]> + '_ {
+    /// What is counted, in the order of `COLUMNS`; the paper's number is last.
+    fn numbers(&self) -> impl Iterator<Item = Vec<usize>> + '_ {
         self.counts.iter().map(|&c| {
-            let paper = (self.network.paper)(c);
-            [c.minutes as usize, c.settled, c.met, c.most, c.end, paper]
+            let counted = [
+                c.minutes as usize,
+                c.settled,
+                c.met,
+                c.most,
+                c.before,
+                c.end,
+            ];
+            let paper = self.network.paper.map(|paper| paper(c));
+            counted.into_iter().chain(paper).collect()
         })
     }
 
+    /// The names of the numbers there are.
+    fn columns(&self, names: [&'static str; 7]) -> Vec<&'static str> {
+        let count = 6 + usize::from(self.network.paper.is_some());
+        names[..count].to_vec()
+    }
+
     fn csv(&self) -> String {
-        let mut text = "minutes,settled,met,held_most,held_end,paper\n".to_string();
+        let mut text = self.columns(FIELDS).join(",") + "\n";
         for numbers in self.numbers() {
-            text += &numbers.map(|n| n.to_string()).join(",");
+            let cells: Vec<String> = numbers.iter().map(usize::to_string).collect();
+            text += &cells.join(",");
             text.push('\n');
         }
         text
     }
 
     fn table(&self) -> String {
-        let names = [
-            "minutes",
-            "settled",
-            "met in all",
-            "held at most",
-            "held at the end",
-            "the paper",
-        ];
+        let names = self.columns(COLUMNS);
         self.numbers().fold(head(0, &names), |table, numbers| {
-            table + &row(&numbers.map(grouped))
+            let cells: Vec<String> = numbers.into_iter().map(grouped).collect();
+            table + &row(&cells)
         })
     }
 
     /// A line of the picture: one number of each count over another.
     fn line(&self, what: &str, kind: Kind, across: usize, up: usize) -> Line {
-        let point = |n: [usize; 6]| (n[across] as f64, n[up] as f64);
+        let point = |n: Vec<usize>| (n[across] as f64, n[up] as f64);
         Line {
             name: format!("{}: {what}", self.network.name),
             colour: self.network.colour,
@@ -186,7 +233,7 @@ fn picture(title: &'static str, across: (&'static str, usize), rows: &[&Row]) ->
     for row in rows {
         lines.push(row.line("met in all", Kind::Hollow, across.1, 2));
         lines.push(row.line("held at most", Kind::Full, across.1, 3));
-        lines.push(row.line("the paper", Kind::Formula, across.1, 5));
+        lines.push(row.line("the paper", Kind::Formula, across.1, 6));
     }
     Picture {
         title,
@@ -235,8 +282,6 @@ pub fn draw<P: Program>(library: &P) -> Result<Drawn, String> {
 
 #[cfg(test)]
 mod tests {
-    use outside::mutant::Mutant;
-
     use super::*;
     use crate::program::{Rust, RUST};
 
@@ -292,6 +337,27 @@ mod tests {
             assert_eq!(counted.settled, 1 + lines * minutes as usize);
             assert_eq!((counted.most, counted.end), (2 * lines, 2 * lines));
         }
+    }
+
+    /// Beyond D every vertex of a grid or a spider has a road on.
+    #[test]
+    fn grids_and_spiders_forget_nothing() {
+        let (plan, centre) = grid();
+        let (mixed, moved) = shuffled(plan.clone(), centre);
+        for (plan, centre) in [(plan, centre), (mixed, moved), (spider(9, 6), 0)] {
+            let counted = count(&RUST, &plan, centre, 4).unwrap();
+            assert_eq!(counted.before, counted.most);
+        }
+    }
+
+    /// A house beyond D has its corner in S as soon as it is met.
+    #[test]
+    fn houses_are_forgotten() {
+        let counted = count(&RUST, &grid_with_houses(17), 17 * 17 / 2, 6).unwrap();
+        assert!(counted.before > counted.most && counted.met > counted.before);
+        let (plan, centre) = timetable();
+        let counted = count(&RUST, &plan, centre, 10).unwrap();
+        assert!(counted.before > 5 * counted.most);
     }
 
     #[test]

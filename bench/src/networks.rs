@@ -1,5 +1,5 @@
-//! The networks on which the vertices held are counted. Roads go both ways,
-//! there are no hops, and the place is a vertex in the middle.
+//! The networks on which the vertices held are counted. Roads go both ways and
+//! the place is a vertex in the middle; only the timetable has hops.
 
 use outside::network::{grid, Plan, Scene};
 use outside::records::{Query, Walk};
@@ -48,6 +48,35 @@ pub fn uneven_grid(width: usize) -> Plan {
     grid(width, width * width, &mut Rng::new(7, width as u64))
 }
 
+/// The same with three houses at each corner: from each a road of 10 to 150 m
+/// leads to the corner and nowhere else.
+pub fn grid_with_houses(width: usize) -> Plan {
+    let mut rng = Rng::new(8, width as u64);
+    let mut plan = uneven_grid(width);
+    for corner in 0..width * width {
+        add_houses(&mut plan, corner, 3, (100, 1_500), &mut rng);
+    }
+    plan
+}
+
+fn add_houses(
+    plan: &mut Plan,
+    corner: usize,
+    count: usize,
+    (near, far): (i64, i64),
+    rng: &mut Rng,
+) {
+    for _ in 0..count {
+        let house = new_vertex(plan);
+        plan.road(corner, house, rng.range(near, far) as u32);
+    }
+}
+
+fn new_vertex(plan: &mut Plan) -> usize {
+    plan.vertices += 1;
+    plan.vertices - 1
+}
+
 /// Lines of even roads that meet in vertex 0 and nowhere else, numbered
 /// outwards, around and around.
 pub fn spider(lines: usize, length: usize) -> Plan {
@@ -61,6 +90,55 @@ pub fn spider(lines: usize, length: usize) -> Plan {
     plan
 }
 
+/// When the place has to be reached.
+const ARRIVAL: i32 = 36_000;
+
+const TOWN: usize = 61;
+const LINES: usize = 100;
+const STOPS: usize = 12;
+const HOUSES: usize = 5;
+const STATIONS: usize = 400;
+
+/// A town of uneven streets, lines of stops that lead out of it with houses at
+/// each stop, and distant stations with trains to the middle of the town; and
+/// that middle.
+pub fn timetable() -> (Plan, usize) {
+    let mut rng = Rng::new(7, TOWN as u64);
+    let mut plan = uneven_grid(TOWN);
+    let middle = plan.vertices / 2;
+    for line in 0..LINES {
+        let terminus = line * (TOWN * TOWN / LINES);
+        add_line(&mut plan, terminus, &mut rng);
+    }
+    for _ in 0..STATIONS {
+        let station = new_vertex(&mut plan);
+        for hour in 4..14 {
+            let departure = 3_600 * hour + rng.range(0, 3_599) as i32;
+            let ride = rng.range(1_200, 5_400) as i32;
+            plan.hop(station, middle, departure, departure + ride);
+        }
+    }
+    (plan, middle)
+}
+
+/// A line of stops with a bus each way every half hour of the morning. From
+/// each stop, roads lead to houses and end there.
+fn add_line(plan: &mut Plan, terminus: usize, rng: &mut Rng) {
+    let minute = rng.range(0, 29) as i32;
+    let mut before = terminus;
+    for place in 0..STOPS as i32 {
+        let stop = new_vertex(plan);
+        add_houses(plan, stop, HOUSES, (500, 9_000), rng);
+        for bus in 0..16 {
+            let leaves = 4 * 3_600 + 60 * (30 * bus + minute);
+            let (inward, outward) = (240 * (STOPS as i32 - place), 240 * place);
+            plan.hop(stop, before, leaves + inward, leaves + inward + 210);
+            plan.hop(before, stop, leaves + outward, leaves + outward + 210);
+        }
+        before = stop;
+    }
+}
+
 /// A query whose place is the vertex `centre` itself: offset 0 on a road that
 /// leaves it.
 pub fn around(plan: &Plan, centre: usize, minutes: u32) -> Scene {
@@ -70,7 +148,7 @@ pub fn around(plan: &Plan, centre: usize, minutes: u32) -> Scene {
     let query = Query {
         record,
         offset: 0,
-        arrival: 36_000,
+        arrival: ARRIVAL,
         duration: 60 * minutes,
         speed: SPEED,
     };

@@ -1,7 +1,8 @@
 //! The most vertices held after any step, asked of the library itself.
 
+use outside::mutant::Mutant;
 use outside::network::Scene;
-use outside::outcome::Case;
+use outside::outcome::{Case, Outcome};
 use outside::records::{Answer, HELD};
 
 use crate::program::{agreed, Program};
@@ -36,11 +37,23 @@ pub fn filled(mut case: Case) -> Case {
 /// is held after some step, so this is the most that is held after any step;
 /// reading the count at every step limit would take a run for each.
 pub fn least_room<P: Program>(program: &P, scene: &Scene) -> Result<usize, String> {
+    least_room_of(scene, |case| agreed(program, case))
+}
+
+/// The same of a run that holds on to the hopeless, by the Rust program alone.
+pub fn room_without_forgetting(scene: &Scene) -> Result<usize, String> {
+    least_room_of(scene, |case| Ok(case.fast(Mutant::ForgetNever)))
+}
+
+fn least_room_of(
+    scene: &Scene,
+    run: impl Fn(&Case) -> Result<Outcome, String>,
+) -> Result<usize, String> {
     let mut case = run_in(scene, scene.network.vertices.len());
-    let end = Answer::read(&agreed(program, &case)?.answer).held as usize;
+    let end = Answer::read(&run(&case)?.answer).held as usize;
     let mut refused = |room| {
         case.held = vec![LENT; room * HELD];
-        let after = agreed(program, &case)?;
+        let after = run(&case)?;
         match Answer::read(&after.answer).refusal {
             0 => Ok(false),
             8 => Ok(true),
@@ -68,7 +81,6 @@ pub fn least_room<P: Program>(program: &P, scene: &Scene) -> Result<usize, Strin
 
 #[cfg(test)]
 mod tests {
-    use outside::mutant::Mutant;
     use outside::network::grid_scene;
     use outside::records::word;
 
