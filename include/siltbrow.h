@@ -234,6 +234,9 @@
 /* The second number moves where a call changes, the third where only the
  * inside does; the first becomes 1 when all calls are there.
  *
+ * 0.7: siltbrow_run no longer holds a vertex that can never be settled. Its held
+ *      list, and the room that it needs for that, can be smaller; what is
+ *      settled and covered stays.
  * 0.6: the first byte of a walk's length is a wait at its "to" end; tables in
  *      which it is 0 mean what they meant. siltbrow_get_length,
  *      siltbrow_get_wait and siltbrow_put_length are new: a caller that reads
@@ -249,9 +252,9 @@
  *      refusal 10 is gone from it; siltbrow_parts makes the parts. A page that
  *      shows streets calls it with the records that the run has settled.
  * 0.2: siltbrow_frame is new. */
-#define SILTBROW_VERSION "0.6.0"
+#define SILTBROW_VERSION "0.7.0"
 #define SILTBROW_VERSION_MAJOR 0
-#define SILTBROW_VERSION_MINOR 6
+#define SILTBROW_VERSION_MINOR 7
 #define SILTBROW_VERSION_PATCH 0
 
 #ifdef __cplusplus
