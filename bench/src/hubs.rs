@@ -12,9 +12,13 @@ use crate::speed::{Spent, Stand, COLUMNS};
 /// What the run in the least room may take at most, beside that with free room.
 const AT_MOST: &str = "3.0";
 
-const HUBS: [(&str, fn() -> Scene); 5] = [
+const HUBS: [(&str, fn() -> Scene); 6] = [
     ("a walk each, all hopeless", hubs::walks),
     ("a walk and a hop each, all hopeless", hubs::walks_and_hops),
+    (
+        "four walks and four hops each, all hopeless",
+        hubs::full_row,
+    ),
     ("two late hops each, all hopeless", hubs::late_hops),
     (
         "a walk and a hop each, every other has a road on",

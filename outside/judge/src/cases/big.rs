@@ -107,6 +107,12 @@ pub const ALL: &[Big] = &[
         0,
     ),
     big(
+        "four hopeless walks and hops each, one slot",
+        || hubs::one_step(hubs::full_row(), 0),
+        0,
+        0,
+    ),
+    big(
         "two late hops each, one slot",
         || hubs::one_step(hubs::late_hops(), 0),
         0,

@@ -63,6 +63,16 @@ pub fn walks_and_hops() -> Scene {
     })
 }
 
+/// Each has four walks and four hops to it: as many records as there can be.
+pub fn full_row() -> Scene {
+    around(|plan| {
+        for _ in 0..4 {
+            long_walks(plan);
+            useless_hops(plan);
+        }
+    })
+}
+
 /// Each has two hops to it that come too late, so that nothing is known.
 pub fn late_hops() -> Scene {
     around(|plan| {
@@ -119,6 +129,7 @@ mod tests {
         let all = [
             (walks(), 1, 1),
             (walks_and_hops(), 1, 1),
+            (full_row(), 1, 1),
             (late_hops(), 1, 1),
             (every_other_stays(), 1 + half, 1),
             (every_other_rides(), 2 + half, 2 + half),
