@@ -14,7 +14,7 @@ use crate::records::{
 use crate::rng::Rng;
 use crate::slow;
 
-const CASES: usize = 40_000;
+const CASES: usize = 60_000;
 
 /// The refusals (or 0) and places that the operations of a case answer.
 fn answers(case: &Case, after: &Outcome) -> Vec<(&'static str, (u32, u32))> {
