@@ -3,6 +3,7 @@
 //! every answer of the one is held against the other's.
 
 pub mod checks;
+pub mod clock;
 pub mod figures;
 pub mod frames;
 pub mod hard;
