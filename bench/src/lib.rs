@@ -5,8 +5,10 @@
 pub mod checks;
 pub mod clock;
 pub mod figures;
+pub mod flat;
 pub mod frames;
 pub mod hard;
+pub mod heap;
 pub mod hubs;
 pub mod machine;
 pub mod moves;
