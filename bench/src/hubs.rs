@@ -7,10 +7,10 @@ use outside::network::Scene;
 use crate::page::{grouped, head, row};
 use crate::program::{Program, RUST};
 use crate::room::{least_room, run_in};
-use crate::speed::{Spent, Stand, COLUMNS};
+use crate::speed::{aim, told, Spent, Stand, COLUMNS};
 
 /// What the run in the least room may take at most, beside that with free room.
-const AT_MOST: &str = "3.0";
+const AT_MOST: f64 = 3.0;
 
 const HUBS: [(&str, fn() -> Scene); 6] = [
     ("a walk each, all hopeless", hubs::walks),
@@ -75,8 +75,8 @@ fn rows(name: &str, vertices: usize, measured: &Measured) -> String {
         row(&[&first[..], &spent.cells(), &beside].concat())
     };
     let none = ["", "", ""].map(str::to_string);
-    let search = tight.less(check).beside(&free.less(check));
-    let beside = [tight.beside(free), search, AT_MOST.to_string()];
+    let (run, search) = (tight.by(free), tight.less(check).by(&free.less(check)));
+    let beside = [told(run), told(search), aim(AT_MOST, run)];
     cells(vertices, free, none) + &cells(*room, tight, beside)
 }
 

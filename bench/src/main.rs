@@ -1,15 +1,17 @@
-//! `bench speed [ROUNDS] [PAGE]` and `bench figures PAGE FOLDER`.
+//! `bench speed ROUNDS [PAGE]` and `bench figures PAGE FOLDER`.
 
 mod linked;
 
 use std::fs::{read_to_string, write};
+use std::path::Path;
 use std::process::ExitCode;
 
-use bench::{checks, figures, frames, hubs, moves, page, speed};
+use bench::speed;
+use bench::{checks, figures, frames, growth, hubs, limit, machine, moves, page};
 use linked::Linked;
 
 const USAGE: &str = "usage:
-  bench speed ROUNDS [PAGE]     times of the library and the Rust program
+  bench speed ROUNDS [PAGE]     times of the library and of both programs in Rust
   bench figures PAGE FOLDER     how many vertices are held, as numbers and pictures";
 
 /// The product is for x86-64; elsewhere its module is compiled once more.
@@ -23,10 +25,9 @@ fn main() -> ExitCode {
     let words: Vec<String> = std::env::args().skip(1).collect();
     let words: Vec<&str> = words.iter().map(String::as_str).collect();
     let done = match words.as_slice() {
-        ["speed", rounds, rest @ ..] if rest.len() < 2 => match rounds.parse() {
-            Ok(rounds) if rounds > 0 => measure(rounds, rest.first().copied()),
-            _ => Err(USAGE.to_string()),
-        },
+        ["speed", rounds, rest @ ..] if rest.len() < 2 => {
+            counted(rounds).and_then(|rounds| measure(rounds, rest.first().copied()))
+        }
         ["figures", page, folder] => draw(page, folder),
         _ => Err(USAGE.to_string()),
     };
@@ -39,10 +40,27 @@ fn main() -> ExitCode {
     }
 }
 
-/// Prints the times, and puts them in a page where one is named.
+fn counted(rounds: &str) -> Result<usize, String> {
+    let count = rounds.parse().ok().filter(|&count| count > 0);
+    count.ok_or_else(|| USAGE.to_string())
+}
+
+/// What the numbers were taken on, and how.
+fn heading(rounds: usize) -> String {
+    let (machine, load) = (machine::describe(), machine::load());
+    format!("Machine: {machine}, load {load} at the start.\nLibrary: {CODE}.\nMedians of {rounds} rounds; all answers were equal.\n")
+}
+
+/// Prints the times; puts them in a page where one is named, and the picture of
+/// growth in the folder `figures` beside it.
 fn measure(rounds: usize, page: Option<&str>) -> Result<(), String> {
+    let heading = heading(rounds);
+    let growth = growth::growth(&Linked, rounds)?;
     let report = [
-        speed::report(&Linked, CODE, rounds)?,
+        heading,
+        limit::line(rounds),
+        speed::table(&Linked, rounds)?,
+        growth.table,
         hubs::table(&Linked, rounds)?,
         checks::table(&Linked, rounds)?,
         frames::table(&Linked, rounds)?,
@@ -50,10 +68,11 @@ fn measure(rounds: usize, page: Option<&str>) -> Result<(), String> {
     ]
     .join("\n");
     print!("{report}");
-    match page {
-        Some(page) => put(page, &[("speed", report)]),
-        None => Ok(()),
-    }
+    let Some(page) = page else { return Ok(()) };
+    let folder = Path::new(page).with_file_name("figures");
+    let picture = folder.join(growth::PICTURE);
+    keep(&picture.to_string_lossy(), &growth.picture)?;
+    put(page, &[("speed", report)])
 }
 
 /// Puts the tables in a page, the numbers and pictures in a folder.
