@@ -4,6 +4,7 @@
 
 pub mod checks;
 pub mod clock;
+pub mod evening;
 pub mod figures;
 pub mod flat;
 pub mod frames;

@@ -1,4 +1,5 @@
-//! `bench speed ROUNDS [PAGE]` and `bench figures PAGE FOLDER`.
+//! `bench speed ROUNDS [PAGE]`, `bench evening ROUNDS` and `bench figures PAGE
+//! FOLDER`.
 
 mod linked;
 
@@ -7,11 +8,12 @@ use std::path::Path;
 use std::process::ExitCode;
 
 use bench::speed;
-use bench::{checks, figures, frames, growth, hubs, limit, machine, moves, page};
+use bench::{checks, evening, figures, frames, growth, hubs, limit, machine, moves, page};
 use linked::Linked;
 
 const USAGE: &str = "usage:
   bench speed ROUNDS [PAGE]     times of the library and of both programs in Rust
+  bench evening ROUNDS          the evening load alone
   bench figures PAGE FOLDER     how many vertices are held, as numbers and pictures";
 
 /// The product is for x86-64; elsewhere its module is compiled once more.
@@ -28,6 +30,7 @@ fn main() -> ExitCode {
         ["speed", rounds, rest @ ..] if rest.len() < 2 => {
             counted(rounds).and_then(|rounds| measure(rounds, rest.first().copied()))
         }
+        ["evening", rounds] => counted(rounds).and_then(evening),
         ["figures", page, folder] => draw(page, folder),
         _ => Err(USAGE.to_string()),
     };
@@ -51,14 +54,25 @@ fn heading(rounds: usize) -> String {
     format!("Machine: {machine}, load {load} at the start.\nLibrary: {CODE}.\nMedians of {rounds} rounds; all answers were equal.\n")
 }
 
+/// Prints the line of the evening load, and the searches of that grid.
+fn evening(rounds: usize) -> Result<(), String> {
+    let heading = heading(rounds);
+    let evening = evening::measure(&Linked, &machine::describe(), rounds)?;
+    print!("{heading}\n{}\n{}", evening.load, evening.table);
+    Ok(())
+}
+
 /// Prints the times; puts them in a page where one is named, and the picture of
 /// growth in the folder `figures` beside it.
 fn measure(rounds: usize, page: Option<&str>) -> Result<(), String> {
     let heading = heading(rounds);
+    let evening = evening::measure(&Linked, &machine::describe(), rounds)?;
     let growth = growth::growth(&Linked, rounds)?;
     let report = [
         heading,
+        evening.load,
         limit::line(rounds),
+        evening.table,
         speed::table(&Linked, rounds)?,
         growth.table,
         hubs::table(&Linked, rounds)?,
