@@ -21,3 +21,5 @@ pub mod picture;
 pub mod program;
 pub mod room;
 pub mod speed;
+pub mod stall;
+pub mod stalling;

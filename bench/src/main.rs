@@ -7,8 +7,8 @@ use std::fs::{read_to_string, write};
 use std::path::Path;
 use std::process::ExitCode;
 
-use bench::speed;
 use bench::{checks, evening, figures, frames, growth, hubs, limit, machine, moves, page};
+use bench::{speed, stall};
 use linked::Linked;
 
 const USAGE: &str = "usage:
@@ -68,6 +68,7 @@ fn measure(rounds: usize, page: Option<&str>) -> Result<(), String> {
     let heading = heading(rounds);
     let evening = evening::measure(&Linked, &machine::describe(), rounds)?;
     let growth = growth::growth(&Linked, rounds)?;
+    let ordinary = stall::ordinary(&Linked, rounds)?;
     let report = [
         heading,
         evening.load,
@@ -75,7 +76,8 @@ fn measure(rounds: usize, page: Option<&str>) -> Result<(), String> {
         evening.table,
         speed::table(&Linked, rounds)?,
         growth.table,
-        hubs::table(&Linked, rounds)?,
+        stall::table(&Linked, &ordinary, rounds)?,
+        hubs::table(&Linked, &ordinary, rounds)?,
         checks::table(&Linked, rounds)?,
         frames::table(&Linked, rounds)?,
         moves::table(&Linked, rounds)?,
