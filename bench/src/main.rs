@@ -54,6 +54,15 @@ fn heading(rounds: usize) -> String {
     format!("Machine: {machine}, load {load} at the start.\nLibrary: {CODE}.\nMedians of {rounds} rounds; all answers were equal.\n")
 }
 
+/// The rows that do not keep their aim.
+fn verdict(report: &str) -> String {
+    let above = page::above(report);
+    match above.is_empty() {
+        true => "Every aim is kept.\n".to_string(),
+        false => format!("Above their aims:\n\n- {}\n", above.join("\n- ")),
+    }
+}
+
 /// Prints the line of the evening load, and the searches of that grid.
 fn evening(rounds: usize) -> Result<(), String> {
     let heading = heading(rounds);
@@ -83,6 +92,7 @@ fn measure(rounds: usize, page: Option<&str>) -> Result<(), String> {
         moves::table(&Linked, rounds)?,
     ]
     .join("\n");
+    let report = format!("{report}\n{}", verdict(&report));
     print!("{report}");
     let Some(page) = page else { return Ok(()) };
     let folder = Path::new(page).with_file_name("figures");
