@@ -71,16 +71,23 @@ impl Spent {
         [side(|pair| pair.0), side(|pair| pair.1)]
     }
 
-    /// Library, Rust, the ratio of the medians, the ratio of the least times.
+    /// Library, Rust, the ratio of the rounds, the ratio of the least times.
     pub fn cells(&self) -> [String; 4] {
         let ([library, rust], [median, least]) = (self.medians(), self.ratios().map(told));
         [library, rust, median, least]
     }
 
-    /// The library's time by the Rust program's: of the medians, and of the
-    /// least times.
+    /// The library's time by the Rust program's: the median of the rounds, since
+    /// what disturbs a round disturbs both, and that of the least times.
     pub fn ratios(&self) -> [f64; 2] {
-        [self.middles(), self.least].map(|[library, rust]| quotient(library, rust))
+        let round = |pair: &(Duration, Duration)| pair.0.as_secs_f64() / pair.1.as_secs_f64();
+        let rounds = self.rounds.iter().map(round);
+        let mut rounds: Vec<f64> = rounds.filter(|ratio| !ratio.is_nan()).collect();
+        rounds.sort_by(f64::total_cmp);
+        let middle = rounds.get(rounds.len() / 2).copied();
+        let middle = middle.filter(|&ratio| ratio > 0.0 && ratio.is_finite());
+        let [library, rust] = self.least;
+        [middle.unwrap_or(f64::NAN), quotient(library, rust)]
     }
 
     /// The library's least time by that of another call.
@@ -120,11 +127,11 @@ pub fn told(ratio: f64) -> String {
     }
 }
 
-/// What a ratio may be at most, and whether it is.
+/// What a ratio may be at most, and whether it is, as it is printed.
 pub fn aim(most: f64, ratio: f64) -> String {
-    let kept = match ratio {
-        _ if ratio.is_nan() => "-",
-        _ if ratio <= most => "yes",
+    let kept = match (100.0 * ratio).round() {
+        hundredths if hundredths.is_nan() => "-",
+        hundredths if hundredths <= 100.0 * most => "yes",
         _ => "no",
     };
     format!("{most:.1}: {kept}")
@@ -219,7 +226,7 @@ impl FlatStand {
 
     /// Searches, and holds the list against the bytes of a run.
     pub fn round(&mut self, right: &Outcome) -> Result<(), String> {
-        black_box(self.flat.touch());
+        black_box(self.flat.touch() ^ self.memory.touch());
         let (flat, memory) = (black_box(&self.flat), &mut self.memory);
         let (time, list) = timed(|| flat.search(self.query, memory));
         self.times.push((Duration::ZERO, time));
@@ -303,9 +310,9 @@ pub const COLUMNS: [&str; 4] = ["library ms", "Rust ms", "ratio", "ratio of the 
 pub const RUN_AT_MOST: Option<f64> = Some(0.9);
 pub const SEARCH_AT_MOST: Option<f64> = Some(1.3);
 
-/// The aim of a row, if it has one, and whether its least times keep it.
+/// The aim of a row, if it has one, and whether its ratio keeps it.
 pub fn kept(most: Option<f64>, spent: &Spent) -> String {
-    most.map(|most| aim(most, spent.ratios()[1]))
+    most.map(|most| aim(most, spent.ratios()[0]))
         .unwrap_or_default()
 }
 
@@ -389,8 +396,8 @@ mod tests {
     /// The medians of what is left in each round, and the least times apart.
     #[test]
     fn parts_are_taken_off() {
-        let run = Spent::of(&times(&[(9, 20), (5, 31), (7, 40)]));
-        assert_eq!(run.cells(), ["7.000", "31.000", "0.23", "0.25"]);
+        let run = Spent::of(&times(&[(9, 20), (5, 31), (7, 39)]));
+        assert_eq!(run.cells(), ["7.000", "31.000", "0.18", "0.25"]);
         let left = run.less(&Spent::of(&times(&[(3, 10), (4, 11), (6, 12)])));
         assert_eq!(left.cells(), ["1.000", "20.000", "0.05", "0.20"]);
         let nothing = run.less(&run);
@@ -398,9 +405,10 @@ mod tests {
         assert_eq!(run.each(1_000), [7_000.0, 31_000.0]);
         assert_eq!(left.beside(&run).medians(), ["1.000", "31.000"]);
         assert_eq!(told(run.by(&left)), "2.50");
-        let aims = [0.3, 0.2].map(|most| kept(Some(most), &run));
-        assert_eq!(aims, ["0.3: yes", "0.2: no"]);
+        let aims = [0.3, 0.1].map(|most| kept(Some(most), &run));
+        assert_eq!(aims, ["0.3: yes", "0.1: no"]);
         assert_eq!(kept(Some(1.3), &nothing), "1.3: -");
+        assert_eq!([0.904, 0.906].map(|r| aim(0.9, r)), ["0.9: yes", "0.9: no"]);
         assert_eq!(kept(None, &run), "");
     }
 
