@@ -76,6 +76,14 @@ impl Default for Memory {
 }
 
 impl Memory {
+    /// Reads all of it through: before other calls the lent buffers are filled,
+    /// and so are they where the caches find them.
+    pub fn touch(&self) -> u64 {
+        let settled = self.settled.iter().map(|settled| settled.distance);
+        let all = self.distances.iter().copied().chain(settled);
+        all.fold(0, |sum, distance| sum ^ u64::from(distance))
+    }
+
     /// A vertex takes the lesser distance.
     #[inline(always)]
     fn offer(&mut self, vertex: u16, distance: u32) {

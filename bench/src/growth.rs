@@ -4,7 +4,7 @@
 use outside::commands::bench::growing_scenes;
 use outside::network::Scene;
 
-use crate::limit::pass;
+use crate::limit::read;
 use crate::page::{grouped, head, row};
 use crate::picture::{Kind, Line, Picture};
 use crate::program::Program;
@@ -33,7 +33,7 @@ fn grown<P: Program>(library: &P, scene: &Scene, rounds: usize) -> Result<Grown,
     if settled != scene.network.vertices.len() {
         return Err(format!("{settled} vertices are settled"));
     }
-    let once = pass(&scene.network.check_case(), rounds);
+    let once = read(&scene.network.check_case(), rounds);
     Ok(Grown {
         settled,
         measured,
