@@ -7,7 +7,7 @@ use outside::records::Answer;
 use crate::page::{grouped, head, row};
 use crate::program::{agreed, Program, RUST};
 use crate::room::run_in;
-use crate::speed::{aim, kept, told, FlatStand, Spent, Stand, SEARCH_AT_MOST};
+use crate::speed::{aim, kept, listed, told, FlatStand, Spent, Stand, SEARCH_AT_MOST};
 
 /// What the run may take at most, beside the Rust program.
 const LOAD: f64 = 3.0;
@@ -53,7 +53,7 @@ fn timed<P: Program>(library: &P, scene: &Scene, rounds: usize) -> Result<Measur
     for round in 0..rounds {
         check.round(library, &RUST, round % 2 == 0)?;
         run.round(library, &RUST, round % 2 == 0)?;
-        flat.round(run.left())?;
+        flat.round(&listed(run.left()))?;
     }
     let [check, run, flat] = [check.times, run.times, flat.times].map(|times| Spent::of(&times));
     let search = run.less(&check);

@@ -8,7 +8,7 @@ use outside::commands::bench::{city_scenes, middle, own_list};
 use outside::network::Scene;
 use outside::outcome::{Case, Outcome};
 use outside::pair::OneRun;
-use outside::records::{Answer, Query, Settled};
+use outside::records::{Answer, Query, Settled, ANSWER, SETTLED};
 
 use crate::clock::timed;
 use crate::flat::{Flat, Memory};
@@ -206,37 +206,73 @@ pub struct Measured {
     run_trips: Spent,
 }
 
-/// The flat program on a case's tables, which are parsed beforehand.
+/// The flat program on a case's tables, which are parsed beforehand: one query,
+/// or many in a row.
 pub struct FlatStand {
     flat: Flat,
     memory: Memory,
-    query: Query,
+    queries: Vec<Query>,
+    lists: Vec<Settled>,
+    ends: Vec<usize>,
     pub times: Times,
 }
 
 impl FlatStand {
     pub fn new(case: &Case) -> Self {
+        FlatStand::many(case, vec![case.query])
+    }
+
+    pub fn many(case: &Case, queries: Vec<Query>) -> Self {
         FlatStand {
             flat: Flat::parse(case.tables()),
             memory: Memory::default(),
-            query: case.query,
+            queries,
+            lists: Vec::new(),
+            ends: Vec::new(),
             times: Times::new(),
         }
     }
 
-    /// Searches, and holds the list against the bytes of a run.
-    pub fn round(&mut self, right: &Outcome) -> Result<(), String> {
+    /// Searches, and holds each list against the bytes that were settled.
+    pub fn round(&mut self, right: &[&[u8]]) -> Result<(), String> {
         black_box(self.flat.touch() ^ self.memory.touch());
-        let (flat, memory) = (black_box(&self.flat), &mut self.memory);
-        let (time, list) = timed(|| flat.search(self.query, memory));
+        let (time, ()) = timed(|| self.search());
         self.times.push((Duration::ZERO, time));
-        let own: Vec<u8> = list.iter().flat_map(Settled::bytes).collect();
-        let settled = Answer::read(&right.answer).settled as usize;
-        match settled == list.len() && right.settled.starts_with(&own) {
+        let mut begin = 0;
+        let same = self.ends.iter().zip(right).all(|(&end, right)| {
+            let list = &self.lists[begin..end];
+            begin = end;
+            let own: Vec<u8> = list.iter().flat_map(Settled::bytes).collect();
+            own == *right
+        });
+        match same && self.ends.len() == right.len() {
             true => Ok(()),
-            false => Err("the list of the flat program differs".to_string()),
+            false => Err("a list of the flat program differs".to_string()),
         }
     }
+
+    fn search(&mut self) {
+        self.lists.clear();
+        self.ends.clear();
+        let flat = black_box(&self.flat);
+        for &query in &self.queries {
+            let list = flat.search(query, &mut self.memory);
+            self.lists.extend_from_slice(list);
+            self.ends.push(self.lists.len());
+        }
+    }
+}
+
+/// The bytes of the list that a run has settled, without the zeros behind; of
+/// many runs those of each, which all have the same share of the buffer.
+pub fn listed(after: &Outcome) -> Vec<&[u8]> {
+    let answers = after.answer.chunks_exact(ANSWER);
+    let share = after.settled.len() / SETTLED / answers.len().max(1);
+    let list = |(index, answer): (usize, &[u8])| {
+        let settled = Answer::read(answer).settled as usize;
+        &after.settled[index * share * SETTLED..][..settled * SETTLED]
+    };
+    answers.enumerate().map(list).collect()
 }
 
 /// Where the run stands among the cases of `measure`.
@@ -281,7 +317,7 @@ pub fn measure<P: Program>(library: &P, scene: &Scene, rounds: usize) -> Result<
         }
         // The bytes of the two are those of the one run too.
         one.round(library, &OneRun, round % 2 == 0)?;
-        flat.round(stands[RUN].left())?;
+        flat.round(&listed(stands[RUN].left()))?;
     }
     let [check, start, run, tight, parts, both, check_trips, run_trips] =
         stands.map(|stand| Spent::of(&stand.times));
@@ -386,6 +422,24 @@ mod tests {
         for mutant in wrong.into_iter().chain([Mutant::LimitZero]).chain(parts) {
             assert!(measure(&Rust(mutant), &scene, 2).is_err(), "{mutant:?}");
         }
+    }
+
+    /// Each list is held against its own bytes.
+    #[test]
+    fn wrong_lists_end_the_measurement() {
+        let cases = [2, 3].map(|minutes| around(&even_grid(7), 24, minutes).run_case(u32::MAX));
+        let [short, long] = [0, 1].map(|index| cases[index].fast(Sound));
+        let queries = cases.iter().map(|case| case.query).collect();
+        let mut flat = FlatStand::many(&cases[0], queries);
+        let both = |one: &Outcome, other: &Outcome| Outcome {
+            settled: [&one.settled[..], &other.settled].concat(),
+            answer: [&one.answer[..], &other.answer].concat(),
+            ..one.clone()
+        };
+        assert!(flat.round(&listed(&both(&short, &long))).is_ok());
+        assert!(flat.round(&listed(&both(&long, &short))).is_err());
+        assert!(flat.round(&listed(&short)).is_err());
+        assert!(flat.round(&[listed(&short)[0], &[]]).is_err());
     }
 
     fn times(pairs: &[(u64, u64)]) -> Times {
