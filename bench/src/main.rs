@@ -95,10 +95,11 @@ fn measure(rounds: usize, page: Option<&str>) -> Result<(), String> {
     let report = format!("{report}\n{}", verdict(&report));
     print!("{report}");
     let Some(page) = page else { return Ok(()) };
-    let folder = Path::new(page).with_file_name("figures");
-    let picture = folder.join(growth::PICTURE);
-    keep(&picture.to_string_lossy(), &growth.picture)?;
-    put(page, &[("speed", report)])
+    put(page, &[("speed", report)])?;
+    let picture = Path::new(page)
+        .with_file_name("figures")
+        .join(growth::PICTURE);
+    keep(&picture.to_string_lossy(), &growth.picture)
 }
 
 /// Puts the tables in a page, the numbers and pictures in a folder.
