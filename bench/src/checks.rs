@@ -4,7 +4,7 @@
 use crate::hard::{accepted, refused, Named};
 use crate::page::{head, row};
 use crate::program::{call, Program, RUST};
-use crate::speed::{Spent, Times};
+use crate::speed::{kept, Spent, Times};
 
 /// What a refused table may take at most, beside the Rust program.
 const REFUSED: f64 = 2.0;
@@ -42,7 +42,7 @@ pub fn table<P: Program>(library: &P, rounds: usize) -> Result<String, String> {
     let mut table = head(1, &columns);
     let mut add = |what: String, most: f64, named: &Named| {
         let spent = measure(library, named, rounds)?;
-        table += &row(&[&[what][..], &spent.cells(), &[format!("{most:.1}")]].concat());
+        table += &row(&[&[what][..], &spent.cells(), &[kept(Some(most), &spent)]].concat());
         Ok::<(), String>(())
     };
     for (most, named) in &accepted() {

@@ -1,11 +1,11 @@
 //! The frame of a settled list: the library and the Rust program in turn.
 
 use std::hint::black_box;
-use std::time::Instant;
 
 use framing::rules::frame;
 use outside::rng::Rng;
 
+use crate::clock::timed;
 use crate::page::{grouped, head, row};
 use crate::speed::Spent;
 
@@ -42,11 +42,9 @@ fn measure<F: Framer>(library: &F, count: usize, rounds: usize) -> Result<String
     let mut times = Vec::new();
     for _ in 0..rounds {
         let mut answer = [0; 24];
-        let start = Instant::now();
-        let value = library.frame(vertices, list, coordinates, &mut answer);
-        let half = Instant::now();
-        let right = black_box(frame(vertices, list, coordinates));
-        times.push((half - start, half.elapsed()));
+        let (ours, value) = timed(|| library.frame(vertices, list, coordinates, &mut answer));
+        let (theirs, right) = timed(|| black_box(frame(vertices, list, coordinates)));
+        times.push((ours, theirs));
         let right: Vec<u8> = right.iter().flat_map(|number| number.to_be_bytes()).collect();
         if value != 0 || answer[..] != right[..] {
             return Err(format!("the frames of {count} vertices differ"));

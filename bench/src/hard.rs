@@ -8,7 +8,7 @@ use outside::rng::Rng;
 use crate::networks::shuffled;
 
 /// The records of a network as a plan: twins name places in this very list.
-fn plan_of(network: Network) -> Plan {
+pub fn plan_of(network: Network) -> Plan {
     Plan {
         vertices: network.vertices.len(),
         walks: network.walks,

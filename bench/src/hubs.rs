@@ -1,16 +1,19 @@
 //! One vertex with as many neighbours as there can be, hopeless ones among
 //! them: the run in the least held room beside the run with room for all.
 
+use std::time::Instant;
+
 use outside::cases::hubs;
 use outside::network::Scene;
 
 use crate::page::{grouped, head, row};
 use crate::program::{Program, RUST};
 use crate::room::{least_room, run_in};
-use crate::speed::{Spent, Stand, COLUMNS};
+use crate::speed::{aim, told, Spent, Stand, COLUMNS};
+use crate::stall::{cells, enough};
 
 /// What the run in the least room may take at most, beside that with free room.
-const AT_MOST: &str = "3.0";
+const AT_MOST: f64 = 3.0;
 
 const HUBS: [(&str, fn() -> Scene); 6] = [
     ("a walk each, all hopeless", hubs::walks),
@@ -47,10 +50,12 @@ fn measure<P: Program>(library: &P, scene: &Scene, rounds: usize) -> Result<Meas
         run_in(scene, room),
     ];
     let mut stands = cases.map(Stand::new);
-    for round in 0..rounds {
+    let (mut round, since) = (0, Instant::now());
+    while !enough(round, rounds, since) {
         for stand in &mut stands {
             stand.round(library, &RUST, round % 2 == 0)?;
         }
+        round += 1;
     }
     let [check, free, tight] = stands.map(|stand| Spent::of(&stand.times));
     Ok(Measured {
@@ -62,32 +67,39 @@ fn measure<P: Program>(library: &P, scene: &Scene, rounds: usize) -> Result<Meas
 }
 
 /// A row for free room, and one for the least room with what it takes beside
-/// the other: the run, and the search, which is the run less the check.
-fn rows(name: &str, vertices: usize, measured: &Measured) -> String {
+/// the other: the run, and the search, which is the run less the check. Both
+/// rows tell how many ordinary runs they are.
+fn rows(name: &str, vertices: usize, measured: &Measured, ordinary: &Spent) -> String {
     let Measured {
         check,
         free,
         tight,
         room,
     } = measured;
-    let cells = |room: usize, spent: &Spent, beside: [String; 3]| {
+    let line = |room: usize, spent: &Spent, beside: [String; 3]| {
         let first = [name.to_string(), grouped(room)];
-        row(&[&first[..], &spent.cells(), &beside].concat())
+        row(&[&first[..], &spent.cells(), &beside, &cells(spent, ordinary)].concat())
     };
     let none = ["", "", ""].map(str::to_string);
-    let search = tight.less(check).beside(&free.less(check));
-    let beside = [tight.beside(free), search, AT_MOST.to_string()];
-    cells(vertices, free, none) + &cells(*room, tight, beside)
+    let (run, search) = (tight.by(free), tight.less(check).by(&free.less(check)));
+    let beside = [told(run), told(search), aim(AT_MOST, run)];
+    line(vertices, free, none) + &line(*room, tight, beside)
 }
 
-pub fn table<P: Program>(library: &P, rounds: usize) -> Result<String, String> {
+pub fn table<P: Program>(library: &P, ordinary: &Spent, rounds: usize) -> Result<String, String> {
     let first = ["65,535 neighbours", "held room"];
-    let last = ["beside free room", "the search alone", "at most"];
+    let last = [
+        "beside free room",
+        "the search alone",
+        "at most",
+        "by the ordinary run",
+        "at most",
+    ];
     let mut table = head(1, &[&first[..], &COLUMNS, &last].concat());
     for (name, make) in HUBS {
         let scene = make();
         let measured = measure(library, &scene, rounds).map_err(|e| format!("{name}: {e}"))?;
-        table += &rows(name, scene.network.vertices.len(), &measured);
+        table += &rows(name, scene.network.vertices.len(), &measured, ordinary);
     }
     Ok(table)
 }

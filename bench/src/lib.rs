@@ -3,10 +3,16 @@
 //! every answer of the one is held against the other's.
 
 pub mod checks;
+pub mod clock;
+pub mod evening;
 pub mod figures;
+pub mod flat;
 pub mod frames;
+pub mod growth;
 pub mod hard;
+pub mod heap;
 pub mod hubs;
+pub mod limit;
 pub mod machine;
 pub mod moves;
 pub mod networks;
@@ -15,3 +21,5 @@ pub mod picture;
 pub mod program;
 pub mod room;
 pub mod speed;
+pub mod stall;
+pub mod stalling;

@@ -2,14 +2,18 @@
 
 use std::fs::read_to_string;
 
-/// The processor, its cores and the load, in one sentence.
+/// The processor and its cores.
 pub fn describe() -> String {
     let cores = std::thread::available_parallelism().map_or(0, |n| n.get());
     let word = if cores == 1 { "core" } else { "cores" };
-    let load = read_to_string("/proc/loadavg").unwrap_or_default();
-    let load = load.split(' ').next().unwrap_or("unknown").to_string();
     let (name, kind) = (processor(), std::env::consts::ARCH);
-    format!("{name} ({kind}), {cores} {word}, load {load} at the start.")
+    format!("{name} ({kind}), {cores} {word}")
+}
+
+/// How many programs wanted a core in the last minute.
+pub fn load() -> String {
+    let load = read_to_string("/proc/loadavg").unwrap_or_default();
+    load.split(' ').next().unwrap_or("unknown").to_string()
 }
 
 /// The processor's name: x86-64 has it in cpuinfo, Arm only numbers there.
@@ -23,7 +27,19 @@ fn processor() -> String {
         let (maker, part) = (field("CPU implementer")?, field("CPU part")?);
         Some(format!("maker {maker}, part {part}"))
     };
-    field("model name")
+    // The name alone is that of many processors.
+    let numbered = || {
+        let numbers = ["cpu family", "model", "stepping", "cpu MHz"].map(field);
+        let [Some(family), Some(model), Some(stepping), Some(clock)] = numbers else {
+            return None;
+        };
+        let (name, clock) = (field("model name")?, clock.split('.').next()?.to_string());
+        Some(format!(
+            "{name}, family {family}, model {model}, stepping {stepping}, {clock} MHz"
+        ))
+    };
+    numbered()
+        .or_else(|| field("model name"))
         .or_else(parts)
         .unwrap_or("an unnamed processor".into())
 }

@@ -1,15 +1,19 @@
-//! `bench speed [ROUNDS] [PAGE]` and `bench figures PAGE FOLDER`.
+//! `bench speed ROUNDS [PAGE]`, `bench evening ROUNDS` and `bench figures PAGE
+//! FOLDER`.
 
 mod linked;
 
 use std::fs::{read_to_string, write};
+use std::path::Path;
 use std::process::ExitCode;
 
-use bench::{checks, figures, frames, hubs, moves, page, speed};
+use bench::{checks, evening, figures, frames, growth, hubs, limit, machine, moves, page};
+use bench::{speed, stall};
 use linked::Linked;
 
 const USAGE: &str = "usage:
-  bench speed ROUNDS [PAGE]     times of the library and the Rust program
+  bench speed ROUNDS [PAGE]     times of the library and of both programs in Rust
+  bench evening ROUNDS          the evening load alone
   bench figures PAGE FOLDER     how many vertices are held, as numbers and pictures";
 
 /// The product is for x86-64; elsewhere its module is compiled once more.
@@ -23,10 +27,10 @@ fn main() -> ExitCode {
     let words: Vec<String> = std::env::args().skip(1).collect();
     let words: Vec<&str> = words.iter().map(String::as_str).collect();
     let done = match words.as_slice() {
-        ["speed", rounds, rest @ ..] if rest.len() < 2 => match rounds.parse() {
-            Ok(rounds) if rounds > 0 => measure(rounds, rest.first().copied()),
-            _ => Err(USAGE.to_string()),
-        },
+        ["speed", rounds, rest @ ..] if rest.len() < 2 => {
+            counted(rounds).and_then(|rounds| measure(rounds, rest.first().copied()))
+        }
+        ["evening", rounds] => counted(rounds).and_then(evening),
         ["figures", page, folder] => draw(page, folder),
         _ => Err(USAGE.to_string()),
     };
@@ -39,21 +43,63 @@ fn main() -> ExitCode {
     }
 }
 
-/// Prints the times, and puts them in a page where one is named.
+fn counted(rounds: &str) -> Result<usize, String> {
+    let count = rounds.parse().ok().filter(|&count| count > 0);
+    count.ok_or_else(|| USAGE.to_string())
+}
+
+/// What the numbers were taken on, and how.
+fn heading(rounds: usize) -> String {
+    let (machine, load) = (machine::describe(), machine::load());
+    format!("Machine: {machine}, load {load} at the start.\nLibrary: {CODE}.\nMedians of {rounds} rounds; all answers were equal.\n")
+}
+
+/// The rows that do not keep their aim.
+fn verdict(report: &str) -> String {
+    let above = page::above(report);
+    match above.is_empty() {
+        true => "Every aim is kept.\n".to_string(),
+        false => format!("Above their aims:\n\n- {}\n", above.join("\n- ")),
+    }
+}
+
+/// Prints the line of the evening load, and the searches of that grid.
+fn evening(rounds: usize) -> Result<(), String> {
+    let heading = heading(rounds);
+    let evening = evening::measure(&Linked, &machine::describe(), rounds)?;
+    print!("{heading}\n{}\n{}", evening.load, evening.table);
+    Ok(())
+}
+
+/// Prints the times; puts them in a page where one is named, and the picture of
+/// growth in the folder `figures` beside it.
 fn measure(rounds: usize, page: Option<&str>) -> Result<(), String> {
+    let heading = heading(rounds);
+    let evening = evening::measure(&Linked, &machine::describe(), rounds)?;
+    let growth = growth::growth(&Linked, rounds)?;
+    let ordinary = stall::ordinary(&Linked, rounds)?;
     let report = [
-        speed::report(&Linked, CODE, rounds)?,
-        hubs::table(&Linked, rounds)?,
+        heading,
+        evening.load,
+        limit::line(rounds),
+        evening.table,
+        speed::table(&Linked, rounds)?,
+        growth.table,
+        stall::table(&Linked, &ordinary, rounds)?,
+        hubs::table(&Linked, &ordinary, rounds)?,
         checks::table(&Linked, rounds)?,
         frames::table(&Linked, rounds)?,
         moves::table(&Linked, rounds)?,
     ]
     .join("\n");
+    let report = format!("{report}\n{}", verdict(&report));
     print!("{report}");
-    match page {
-        Some(page) => put(page, &[("speed", report)]),
-        None => Ok(()),
-    }
+    let Some(page) = page else { return Ok(()) };
+    put(page, &[("speed", report)])?;
+    let picture = Path::new(page)
+        .with_file_name("figures")
+        .join(growth::PICTURE);
+    keep(&picture.to_string_lossy(), &growth.picture)
 }
 
 /// Puts the tables in a page, the numbers and pictures in a folder.

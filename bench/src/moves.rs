@@ -2,13 +2,14 @@
 //! of its two forms has.
 
 use std::hint::black_box;
-use std::time::{Duration, Instant};
+use std::time::Duration;
 
 use outside::cases::trips::{fitting, widen};
 use outside::outcome::Case;
 use outside::records::{Way, HOP, TRIP_HOP};
 use outside::rng::Rng;
 
+use crate::clock::timed;
 use crate::page::{grouped, head, row};
 use crate::program::{agreed, call, Program};
 use crate::room::filled;
@@ -26,9 +27,7 @@ fn moved(way: Way, count: usize) -> Case {
 fn copied(from: &[u8], to: &mut [u8]) -> Duration {
     to.fill(0xA5);
     black_box(from.iter().fold(0u8, |sum, byte| sum ^ byte));
-    let start = Instant::now();
-    to.copy_from_slice(black_box(from));
-    let time = start.elapsed();
+    let (time, ()) = timed(|| to.copy_from_slice(black_box(from)));
     black_box(to);
     time
 }

@@ -36,6 +36,28 @@ pub fn grouped(number: usize) -> String {
     text
 }
 
+/// The rows of some tables whose aim is not kept: the first cell of the table's
+/// head, those of the row up to its first time, and the aim.
+pub fn above(report: &str) -> Vec<String> {
+    let (mut title, mut before) = ("", Vec::new());
+    let mut rows = Vec::new();
+    for line in report.lines().filter(|line| line.starts_with('|')) {
+        let cells: Vec<&str> = line.trim_matches('|').split('|').map(str::trim).collect();
+        if line.starts_with("|---") {
+            title = before[0];
+        }
+        let names = cells
+            .iter()
+            .take_while(|cell| cell.parse::<f64>().is_err() || !cell.contains('.'));
+        let names: Vec<&str> = names.copied().collect();
+        for most in cells.iter().filter_map(|cell| cell.strip_suffix(": no")) {
+            rows.push(format!("{title}: {}; at most {most}", names.join(", ")));
+        }
+        before = cells;
+    }
+    rows
+}
+
 #[cfg(test)]
 mod tests {
     use super::*;
@@ -48,6 +70,23 @@ mod tests {
             "a\n<!-- numbers: x -->\n\n7\n\n<!-- end -->\nb\n<!-- numbers: y -->\n<!-- end -->";
         assert_eq!(replace(page, "x", "7\n"), Ok(new.to_string()));
         assert!(replace(page, "z", "7\n").is_err());
+    }
+
+    #[test]
+    fn rows_above_their_aim_are_named() {
+        let table = head(1, &["runs", "held", "ms", "ratio", "at most"])
+            + &row(&["a line", "4", "2.100", "0.80", "0.9: yes"])
+            + &row(&["a grid", "1,021", "2.100", "1.80", "0.9: no"])
+            + &row(&["a hub", "7", "9.000", "0.10", ""]);
+        let more = head(0, &["minutes", "ms", "at most", "at most"])
+            + &row(&["15", "0.300", "3.0: no", "1.3: no"]);
+        let report = format!("Text: no\n\n{table}\n{more}");
+        let right = [
+            "runs: a grid, 1,021; at most 0.9",
+            "minutes: 15; at most 3.0",
+            "minutes: 15; at most 1.3",
+        ];
+        assert_eq!(above(&report), right);
     }
 
     #[test]

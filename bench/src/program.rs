@@ -1,10 +1,12 @@
 //! A program that can be called: the library, or the Rust program.
 
 use std::hint::black_box;
-use std::time::{Duration, Instant};
+use std::time::Duration;
 
 use outside::mutant::Sound;
 use outside::outcome::{Case, Outcome};
+
+use crate::clock::timed;
 
 /// The independent program in Rust.
 pub use outside::outcome::{Fast as Rust, Program};
@@ -26,9 +28,7 @@ pub fn call<P: Program>(program: &P, case: &Case, after: &mut Outcome) -> Durati
     for table in [&case.vertices, &case.walks, &case.hops, &case.list] {
         black_box(table.iter().fold(0u8, |sum, byte| sum ^ byte));
     }
-    let start = Instant::now();
-    let returned = case.call_in(program, after);
-    let time = start.elapsed();
+    let (time, returned) = timed(|| case.call_in(program, after));
     after.returned = returned;
     time
 }
