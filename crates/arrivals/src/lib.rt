@@ -109,7 +109,7 @@ fn suffices(
     arriving: Arriving,
 ) -> bool
     requires { ⌜ Ready (now vertices) (now walks) (now hops) arriving t (now held) ⌝ }
-    ensures { λ r. ⌜ (r ≡ true → size (mapOf t (now (held .entry))) + comers (rowOf (now (vertices .entry)) (now (walks .entry)) (now (hops .entry)) arriving) (passes arriving) ≤ t .capacity) ⌝ }
+    ensures { λ r. ⌜ (r ≡ true → size (mapOf t (now (held .entry))) + comers (rowOf (now (vertices .entry)) (now (walks .entry)) (now (hops .entry)) arriving) (passes arriving) ≤ t .room) ⌝ }
 {
     let room = free(held, t);
     if arriving.walks + arriving.hops <= room {

@@ -81,10 +81,10 @@ pub news-at : (R : Row) (n block : ℕ) (s : List ℕ) {k m : Map} → k ≡ m �
 news-at R n block s e h = subst (News R n block s) (sym e) h
 
 -- the same answer, of a table with as many slots and of an equal map
-pub ends-at : (t r : Table) (c : List ℕ) → r .capacity ≡ t .capacity → (x : Arrived) {m k : Map} → m ≡ k → ArrivedIs r c m x → ArrivedIs t c k x
+pub ends-at : (t r : Table) (c : List ℕ) → r .room ≡ t .room → (x : Arrived) {m k : Map} → m ≡ k → ArrivedIs r c m x → ArrivedIs t c k x
 unfolding ArrivedIs
 ends-at t r c q (Fits z) {m} {k} e h =
-    (subst (Leads t z c) e (record { holds = h .0 .holds; capacity = h .0 .capacity ∙ q }), omega (arith, ap size e, h .1))
+    (subst (Leads t z c) e (record { holds = h .0 .holds; room = h .0 .room ∙ q }), omega (arith, ap size e, h .1))
 ends-at t r c q NoRoom {m} {k} e h = omega (arith, ap size e, h)
 
 pub zero-counter : (s : List ℕ) → s ≡ replicate 2048 0 → (k : ℕ) → k < 2048 → getD s k 0 ≡ 0
@@ -135,24 +135,24 @@ module _ (D : ℕ) (t : Table) (b : List ℕ) (u x : ℕ) {c : List ℕ} (g : Gi
   same-map : mapOf t b u ≡ absent → mapOf t c ≡ mapOf t b
   same-map a = g .holds .map ∙ put-id (mapOf t b) u (touched x (mapOf t b u)) (a ∙ sym (absent-touched x a))
 
-  pub has-slot : (p : Passed) → PassedIs D t c u (touched x (mapOf t b u)) p → (isNew p && eqb (t .capacity - size (mapOf t c)) 0) ≡ false → mapOf t b u ≡ absent → size (mapOf t b) < t .capacity
+  pub has-slot : (p : Passed) → PassedIs D t c u (touched x (mapOf t b u)) p → (isNew p && eqb (t .room - size (mapOf t c)) 0) ≡ false → mapOf t b u ≡ absent → size (mapOf t b) < t .room
   has-slot p h k a =
       let n = told-new D t c u (touched x (mapOf t b u)) p h (absent-touched x a) in
-      let f : t .capacity - size (mapOf t c) ≢ 0 = λ e. never (eq-eqb (t .capacity - size (mapOf t c)) 0 e) (neither (isNew p) (eqb (t .capacity - size (mapOf t c)) 0) k n) in
-      subst (λ (m : Map). size m < t .capacity) (same-map a) (some f)
+      let f : t .room - size (mapOf t c) ≢ 0 = λ e. never (eq-eqb (t .room - size (mapOf t c)) 0 e) (neither (isNew p) (eqb (t .room - size (mapOf t c)) 0) k n) in
+      subst (λ (m : Map). size m < t .room) (same-map a) (some f)
     where
-      some : t .capacity - size (mapOf t c) ≢ 0 → size (mapOf t c) < t .capacity
-      some f = ⊎-elim (λ (q : t .capacity ≤ size (mapOf t c)). absurd (f (omega arith))) (λ (q : size (mapOf t c) < t .capacity). q) (le-or-lt (t .capacity) (size (mapOf t c)))
+      some : t .room - size (mapOf t c) ≢ 0 → size (mapOf t c) < t .room
+      some f = ⊎-elim (λ (q : t .room ≤ size (mapOf t c)). absurd (f (omega arith))) (λ (q : size (mapOf t c) < t .room). q) (le-or-lt (t .room) (size (mapOf t c)))
 
 no-slot-here : (D : ℕ) (t : Table) (b : List ℕ) (u x d : ℕ) {c : List ℕ} → Gives t t b c (put (mapOf t b) u (touched x (mapOf t b u))) → (p : Passed) → PassedIs D t c u (touched x (mapOf t b u)) p → u < 65536
-    → (isNew p && eqb (t .capacity - size (mapOf t c)) 0) ≡ true → one (met D x d (mapOf t b u)) ≡ 1 → t .capacity < size (put (mapOf t b) u (met D x d (mapOf t b u)))
+    → (isNew p && eqb (t .room - size (mapOf t c)) 0) ≡ true → one (met D x d (mapOf t b u)) ≡ 1 → t .room < size (put (mapOf t b) u (met D x d (mapOf t b u)))
 no-slot-here D t b u x d {c} g p h l k o =
-    let w = both (isNew p) (eqb (t .capacity - size (mapOf t c)) 0) k in
+    let w = both (isNew p) (eqb (t .room - size (mapOf t c)) 0) k in
     let a : mapOf t b u ≡ absent = touched-absent x (mapOf t b u) (passed-absent D t c u (touched x (mapOf t b u)) h (is-new p (w .0))) in
-    let full : t .capacity - size (mapOf t c) ≡ 0 = eqb-true (t .capacity - size (mapOf t c)) 0 (w .1) in
+    let full : t .room - size (mapOf t c) ≡ 0 = eqb-true (t .room - size (mapOf t c)) 0 (w .1) in
     omega (arith, full, ap size (same-map D t b u x g a), put-size (mapOf t b) u (met D x d (mapOf t b u)) l, o, one-absent (mapOf t b u) a)
 
 -- where no slot is free the new entry has no room
 pub no-slot : (D : ℕ) (t : Table) (b : List ℕ) (u x d : ℕ) {c : List ℕ} → Gives t t b c (put (mapOf t b) u (touched x (mapOf t b u))) → (p : Passed) → PassedIs D t c u (touched x (mapOf t b u)) p → u < 65536
-    → (isNew p && eqb (t .capacity - size (mapOf t c)) 0) ≡ true → one (met D x d (mapOf t b u)) ≡ 1 → {e : Entry} → met D x d (mapOf t b u) ≡ e → t .capacity < size (put (mapOf t b) u e)
-no-slot D t b u x d g p h l k o q = subst (λ (y : Entry). t .capacity < size (put (mapOf t b) u y)) q (no-slot-here D t b u x d g p h l k o)
+    → (isNew p && eqb (t .room - size (mapOf t c)) 0) ≡ true → one (met D x d (mapOf t b u)) ≡ 1 → {e : Entry} → met D x d (mapOf t b u) ≡ e → t .room < size (put (mapOf t b) u e)
+no-slot D t b u x d g p h l k o q = subst (λ (y : Entry). t .room < size (put (mapOf t b) u y)) q (no-slot-here D t b u x d g p h l k o)

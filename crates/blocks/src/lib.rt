@@ -159,7 +159,7 @@ fn sweep(
 // Whether a vertex, of which that is told, is new and finds no free slot.
 fn lacks_slot(held: &[u8], t: Table, told: Passed) -> bool
     requires { ⌜ InOrder t (now held) ⌝ }
-    ensures { λ r. ⌜ r ≡ (isNew told && eqb (t .capacity - size (mapOf t (now (held .entry)))) 0) ⌝ }
+    ensures { λ r. ⌜ r ≡ (isNew told && eqb (t .room - size (mapOf t (now (held .entry)))) 0) ⌝ }
 {
     match told {
         Passed::Absent => free(held, t) == 0,

@@ -47,18 +47,18 @@ module _ (v w h : List ℕ) (x slot : ℕ) (a : Arriving) (t t1 : Table) (h1 : L
       (subst (λ (y : List ℕ). ArrivedIs t1 h2 (passed (rowOf v y r1 a) n (mapOf t1 h1)) r) walks-are p)
 
   pub all-passed : (h2 : List ℕ) (r : Arrived) → Passed v w1 r1 a t1 h1 h2 r → ArrivedIs t h2 (passed R n m) r
-  all-passed h2 r p = ends-at t t1 h2 (L .capacity) r (ap (passed R n) (L .holds .map)) (over-parts h2 r p)
+  all-passed h2 r p = ends-at t t1 h2 (L .room) r (ap (passed R n) (L .holds .map)) (over-parts h2 r p)
 
 module _ (p : Progress) (m : Map) (x d : ℕ) (held′ settled settled′ : List ℕ) where
-  pub full-held : p .table .capacity < size m → StepIs p m x d held′ settled settled′ (Full 8)
+  pub full-held : p .table .room < size m → StepIs p m x d held′ settled settled′ (Full 8)
   unfolding StepIs
   full-held h = inl (refl, h)
 
-  pub full-settled : size m ≤ p .table .capacity → p .settled ≡ length settled / 8 → StepIs p m x d held′ settled settled′ (Full 9)
+  pub full-settled : size m ≤ p .table .room → p .settled ≡ length settled / 8 → StepIs p m x d held′ settled settled′ (Full 9)
   unfolding StepIs
   full-settled h e = inr (refl, h, omega arith)
 
-  pub one-more : (t2 : Table) → Leads (p .table) t2 held′ m → size m ≤ p .table .capacity → p .settled ≤ length settled / 8 → (p .settled ≡ length settled / 8 → ⊥)
+  pub one-more : (t2 : Table) → Leads (p .table) t2 held′ m → size m ≤ p .table .room → p .settled ≤ length settled / 8 → (p .settled ≡ length settled / 8 → ⊥)
       → settled′ ≡ written settled (8 * p .settled) (settledBytes (settledOf x d)) → StepIs p m x d held′ settled settled′ (Next (record { table = t2; settled = p .settled + 1 }))
   unfolding StepIs
   one-more t2 L h l ne s = record { table = L; fits = h; count = refl; room = omega arith; listed = s }

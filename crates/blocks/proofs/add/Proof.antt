@@ -66,7 +66,7 @@ returns c =
     let m = mapOf (a .t) (a .held .now) in
     let f = lo.step-map (R .from) (R .offer) (λ u x e. cond (inBlock (a .block) u && staysIn (a .counters .now) (u % 2048)) (met (R .allowed) x (R .departing u) e) e) m (L .j) (i .holds .map) (c .before .before .before .before .before .before .before .from-at .ensures) (c .before .before .before .before .before .before .offer-at .ensures .0) in
     let z = le.none-fits (L .table) (c .before .before .before .before .add-one .last .0) _ (c .before .before .before .before .add-one .ensures) (c .enum-told .given .1) in
-    omega (arith, z, i .capacity, ap size f, adds-size R (passes (a .arriving)) (a .block) (a .counters .now) m (s .pre .0 .news) (L .j + 1) (passes (a .arriving)) (omega (arith, c .before .before .before .before .before .before .before .before .loop-test .taken)) (omega arith))
+    omega (arith, z, i .room, ap size f, adds-size R (passes (a .arriving)) (a .block) (a .counters .now) m (s .pre .0 .news) (L .j + 1) (passes (a .arriving)) (omega (arith, c .before .before .before .before .before .before .before .before .loop-test .taken)) (omega arith))
 
 add-j : tie.Need-add-j Inv-loop μ-loop
 add-j c =

@@ -47,8 +47,8 @@ meet-requires c κs =
     let l = c .before .before .before .loop-test .taken in
     let i = L .inv .leads in
     let grown = passed-size R m (L .j) (λ k h. lo.from-low (a .vertices .now) (a .walks .now) (a .hops .now) (a .arriving) (y .leaves) k (omega (arith, l))) in
-    let room : futile (R .allowed) (R .offer (L .j)) (R .departing (R .from (L .j))) ≡ false → size (mapOf (L .table) (L .held)) < L .table .capacity = λ f.
-    rw (i .holds .map, i .capacity) (omega (arith, grown, s .pre .1, one-comer R (passes (a .arriving)) (L .j) l f)) in
+    let room : futile (R .allowed) (R .offer (L .j)) (R .departing (R .from (L .j))) ≡ false → size (mapOf (L .table) (L .held)) < L .table .room = λ f.
+    rw (i .holds .map, i .room) (omega (arith, grown, s .pre .1, one-comer R (passes (a .arriving)) (L .j) l f)) in
     ((i .holds .order, rw q (y .leaves .low (L .j) l), y .leaves .vertices, c .before .offer-at .ensures .1, omega (arith, y .sound .allowed)), (lo.passed-left R (passes (a .arriving)) m (L .j) l q (y .enough) (i .holds .map), λ z f. room (ap₂ (λ (x u : ℕ). futile (R .allowed) x (R .departing u)) (sym (c .before .offer-at .ensures .0)) (sym q) ∙ f)))
 
 add-j : tie.Need-add-j Inv-loop μ-loop
