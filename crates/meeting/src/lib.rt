@@ -1,4 +1,4 @@
-// What the records that arrive at a settled vertex do to the working table, where its free slots suffice for a new vertex at each of them.
+// What the records that arrive at a settled vertex do to the working table, where a slot is free for each of them that brings an entry.
 // Promises: the table then holds exactly the map of the definitions.
 // Rests on: the row of `passing`, one look at an entry by `worktable`.
 ghost use mathlib.Core.Path.{_≡_};
@@ -10,7 +10,7 @@ ghost use Rattle.journeys.specs.Tables.{vertexAt};
 ghost use Rattle.worktable.specs.Map.{absent, known, Figure, put, swept, size};
 ghost use Rattle.worktable.specs.Table.{mapOf, InOrder, PassedIs};
 ghost use Rattle.passing.specs.Row.{passes, rowOf, Sound, Leaves};
-ghost use Rattle.meeting.specs.Passing.{entered, met, futile, comers, left, Ready};
+ghost use Rattle.meeting.specs.Passing.{entered, met, futile, comers, left, Spacious, Ready};
 ghost use Rattle.meeting.specs.Answer.{Leads, AllMet};
 use passing::Arriving;
 use passing::from_at;
@@ -124,7 +124,7 @@ pub fn meet_all(
     hops: &[u8],
     arriving: Arriving,
 ) -> Table
-    requires { ⌜ Ready (now vertices) (now walks) (now hops) arriving t (now held) × (size (mapOf t (now held)) + comers (rowOf (now vertices) (now walks) (now hops) arriving) (passes arriving) ≤ t .room) ⌝ }
+    requires { ⌜ Ready (now vertices) (now walks) (now hops) arriving t (now held) × Spacious (rowOf (now vertices) (now walks) (now hops) arriving) (passes arriving) (t .room) (mapOf t (now held)) ⌝ }
     ensures { λ r. ⌜ AllMet (now (vertices .entry)) (now (walks .entry)) (now (hops .entry)) arriving t (now (held .entry)) (now (held .exit)) r ⌝ }
 {
     let n = arriving.walks + arriving.hops;

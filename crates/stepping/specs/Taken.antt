@@ -14,7 +14,7 @@ use Rattle.worktable.specs.declared.Table.{Table}
 use Rattle.journeys.specs.Counting.{none}
 use Rattle.passing.specs.Row.{passes, Sound, Leaves}
 use Rattle.passing.specs.declared.Arriving.{Arriving}
-use Rattle.meeting.specs.Passing.{passed, Enough}
+use Rattle.meeting.specs.Passing.{passed, Enough, Inside}
 use Rattle.meeting.specs.Answer.{Leads}
 use Rattle.heldmap.specs.Model.{Standing, walksAt, hopsAt, rowAt, settledNow}
 use Rattle.stepping.specs.declared.Progress.{Progress}
@@ -52,6 +52,7 @@ pub record Begins (v w h : List ℕ) (x slot : ℕ) (a : Arriving) (t : Table) (
   pub sound : Sound (walksAt v w x) (hopsAt (a .size) v h x) a
   pub leaves : Leaves v (walksAt v w x) (hopsAt (a .size) v h x) a
   pub enough : Enough (rowAt v w h x a) (passes a) (settledNow (mapOf t held) x)
+  pub inside : Inside (length v / 12) (mapOf t held)
 
 -- the map after it
 abbrev pub mapAfter : List ℕ → List ℕ → List ℕ → ℕ → Arriving → Map → Map
