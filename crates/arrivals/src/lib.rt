@@ -1,6 +1,6 @@
 // A vertex has just been settled: the records that arrive at it are passed, and the entries of the vertices that they leave are brought up to date.
 // Promises: the table then holds exactly the map of the definitions, or that map has no room; the room is that after the whole step.
-// Rests on: `meeting` where a slot is free for each record that brings an entry, `surveys` and `blocks` where they do not, the map of `worktable`.
+// Rests on: `meeting` where a slot is free for each record that brings an entry, `short` for a short row where that is not known, `surveys` and `blocks` for a long one, the map of `worktable`.
 ghost use mathlib.Core.Path.{_≡_};
 ghost use mathlib.Core.Bool.{true};
 ghost use Prim.Native.Nat.{_≤_};
@@ -15,11 +15,15 @@ use meeting::Arrived;
 use meeting::meet_all;
 use meeting::most_comers;
 use passing::Arriving;
+use short::pass_row;
 use surveys::next_block;
 use surveys::survey_all;
 use worktable::Table;
 use worktable::free;
 use worktable::room;
+
+// Up to so many records a row is short: its newcomers may each take a pass over it, and a longer row goes block by block.
+const SHORT: usize = 128;
 
 // The blocks from first on, and below end, one after the other.
 fn end_range(
@@ -136,6 +140,9 @@ pub fn arrive(
 {
     if suffices(held, t, vertices, walks, hops, arriving) {
         return Arrived::Fits(meet_all(held, t, vertices, walks, hops, arriving));
+    }
+    if arriving.walks + arriving.hops <= SHORT {
+        return pass_row(held, t, vertices, walks, hops, arriving, counters);
     }
     scarce(held, t, vertices, walks, hops, arriving, counters)
 }
