@@ -170,16 +170,16 @@ pub range-fits : (R : Row) (n lo hi : ℕ) (t : Table) (c : List ℕ) (m : Map) 
 unfolding RangeIs
 range-fits R n lo hi t c m h e = subst (RangeIs R n lo hi t c m) e h
 
-pub range-full : (R : Row) (n lo hi : ℕ) (t : Table) (c : List ℕ) (m : Map) {x : Arrived} → RangeIs R n lo hi t c m x → x ≡ NoRoom → (i : ℕ) × (lo ≤ i) × (i ≤ hi) × (t .capacity < size (overTo R n lo i m))
+pub range-full : (R : Row) (n lo hi : ℕ) (t : Table) (c : List ℕ) (m : Map) {x : Arrived} → RangeIs R n lo hi t c m x → x ≡ NoRoom → (i : ℕ) × (lo ≤ i) × (i ≤ hi) × (t .room < size (overTo R n lo i m))
 unfolding RangeIs
 range-full R n lo hi t c m h e = subst (RangeIs R n lo hi t c m) e h
 
 -- the second range ends the step
-pub step-over : (R : Row) (n hi : ℕ) (t r : Table) (c : List ℕ) (x : Arrived) {k U F : Map} → r .capacity ≡ t .capacity → k ≡ U → overTo R n 0 hi U ≡ F → ((i : ℕ) → i ≤ hi → size (overTo R n 0 i U) ≤ size F)
+pub step-over : (R : Row) (n hi : ℕ) (t r : Table) (c : List ℕ) (x : Arrived) {k U F : Map} → r .room ≡ t .room → k ≡ U → overTo R n 0 hi U ≡ F → ((i : ℕ) → i ≤ hi → size (overTo R n 0 i U) ≤ size F)
     → RangeIs R n 0 hi r c k x → ArrivedIs t c F x
 unfolding RangeIs ArrivedIs
 step-over R n hi t r c (Fits z) {k} {U} {F} q e f room h =
-    let l : Leads t z c F = subst (Leads t z c) (ap (overTo R n 0 hi) e ∙ f) (record { holds = h .holds; capacity = h .capacity ∙ q }) in
+    let l : Leads t z c F = subst (Leads t z c) (ap (overTo R n 0 hi) e ∙ f) (record { holds = h .holds; room = h .room ∙ q }) in
     (l, leads-room l)
 step-over R n hi t r c NoRoom {k} {U} {F} q e f room h =
     omega (arith, q, room (h .0) (h .2), h .3, ap (λ (M : Map). size (overTo R n 0 (h .0) M)) e)

@@ -25,9 +25,9 @@ room-one t c d m NoRoom (Fits q) h k = absurd (omega (arith, k .1, h))
 room-one t c d m NoRoom NoRoom h k = refl
 
 -- the table as far as callers see it
-pub map-one : (t r q : Table) (c d : List ℕ) (m : Map) → ArrivedIs t c m (Fits r) → ArrivedIs t d m (Fits q) → (mapOf r c ≡ mapOf q d) × (r .capacity ≡ q .capacity)
+pub map-one : (t r q : Table) (c d : List ℕ) (m : Map) → ArrivedIs t c m (Fits r) → ArrivedIs t d m (Fits q) → (mapOf r c ≡ mapOf q d) × (r .room ≡ q .room)
 unfolding ArrivedIs
-map-one t r q c d m h k = (h .0 .holds .map ∙ sym (k .0 .holds .map), h .0 .capacity ∙ sym (k .0 .capacity))
+map-one t r q c d m h k = (h .0 .holds .map ∙ sym (k .0 .holds .map), h .0 .room ∙ sym (k .0 .room))
 
 pub arrive-one : (κs : _) (a : _) (z z′ : _) (e e′ : _) → arrive.Post κs a z e → arrive.Post κs a z′ e′ → fits z ≡ fits z′
 arrive-one κs a z z′ e e′ p q = room-one _ _ _ _ z z′ (p .0) (q .0)

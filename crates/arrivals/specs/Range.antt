@@ -22,7 +22,7 @@ overTo R n lo hi m u = cond (leb (2048 * lo) u && ltb u (2048 * hi)) (ended R n 
 -- the table holds that; or the blocks up to some one have no room
 unfoldable pub RangeIs : Row → ℕ → ℕ → ℕ → Table → List ℕ → Map → Arrived → Type 0
 RangeIs R n lo hi t c m (Fits r) = Leads t r c (overTo R n lo hi m)
-RangeIs R n lo hi t c m NoRoom = (i : ℕ) × (lo ≤ i) × (i ≤ hi) × (t .capacity < size (overTo R n lo i m))
+RangeIs R n lo hi t c m NoRoom = (i : ℕ) × (lo ≤ i) × (i ≤ hi) × (t .room < size (overTo R n lo i m))
 
 module _ (v w h : List ℕ) (a : Arriving) (lo hi : ℕ) (t : Table) (b : List ℕ) where
   -- what the ends of these blocks start from: a new vertex of theirs has no more records in the row than leave it

@@ -1,14 +1,13 @@
 // A vertex has just been settled: the records that arrive at it are passed, and the entries of the vertices that they leave are brought up to date.
 // Promises: the table then holds exactly the map of the definitions, or that map has no room; the room is that after the whole step.
-// Rests on: `meeting` where the free slots suffice for all records that may bring an entry, `surveys` and `blocks` where they do not, the map of `worktable`.
+// Rests on: `meeting` where a slot is free for each record that brings an entry, `short` for a short row where that is not known, `surveys` and `blocks` for a long one, the map of `worktable`.
 ghost use mathlib.Core.Path.{_≡_};
 ghost use mathlib.Core.Bool.{true};
-ghost use Prim.Native.Nat.{_+_, _≤_};
+ghost use Prim.Native.Nat.{_≤_};
 ghost use lib.ListN.{replicate};
-ghost use Rattle.worktable.specs.Map.{size};
 ghost use Rattle.worktable.specs.Table.{mapOf};
 ghost use Rattle.passing.specs.Row.{passes, rowOf};
-ghost use Rattle.meeting.specs.Passing.{comers, Ready};
+ghost use Rattle.meeting.specs.Passing.{Spacious, Ready};
 ghost use Rattle.meeting.specs.Answer.{Passed};
 ghost use Rattle.arrivals.specs.Range.{RangeTouched, RangeOver};
 use blocks::end_block;
@@ -16,10 +15,15 @@ use meeting::Arrived;
 use meeting::meet_all;
 use meeting::most_comers;
 use passing::Arriving;
+use short::pass_row;
 use surveys::next_block;
 use surveys::survey_all;
 use worktable::Table;
 use worktable::free;
+use worktable::room;
+
+// Up to so many records a row is short: its newcomers may each take a pass over it, and a longer row goes block by block.
+const SHORT: usize = 128;
 
 // The blocks from first on, and below end, one after the other.
 fn end_range(
@@ -98,8 +102,8 @@ fn scarce(
     )
 }
 
-// Whether the free slots are known to suffice for every record that may bring a new entry. The records are counted by what they bring only where there are more of them than free slots:
-// at a hub most may be the only ones of vertices that are hopeless.
+// Whether a slot is known to be free for each record that brings an entry. So it is where there is a slot for every vertex, however many records there are.
+// Otherwise the records are counted by what they bring only where there are more of them than free slots: at a hub most may be the only ones of vertices that are hopeless.
 fn suffices(
     held: &[u8],
     t: Table,
@@ -109,13 +113,16 @@ fn suffices(
     arriving: Arriving,
 ) -> bool
     requires { ⌜ Ready (now vertices) (now walks) (now hops) arriving t (now held) ⌝ }
-    ensures { λ r. ⌜ (r ≡ true → size (mapOf t (now (held .entry))) + comers (rowOf (now (vertices .entry)) (now (walks .entry)) (now (hops .entry)) arriving) (passes arriving) ≤ t .capacity) ⌝ }
+    ensures { λ r. ⌜ (r ≡ true → Spacious (rowOf (now (vertices .entry)) (now (walks .entry)) (now (hops .entry)) arriving) (passes arriving) (t .room) (mapOf t (now (held .entry)))) ⌝ }
 {
-    let room = free(held, t);
-    if arriving.walks + arriving.hops <= room {
+    if vertices.len() / 12 <= room(t) {
         return true;
     }
-    most_comers(vertices, walks, hops, arriving) <= room
+    let spare = free(held, t);
+    if arriving.walks + arriving.hops <= spare {
+        return true;
+    }
+    most_comers(vertices, walks, hops, arriving) <= spare
 }
 
 // The step: each arriving record brings its offer to the vertex that it leaves.
@@ -133,6 +140,9 @@ pub fn arrive(
 {
     if suffices(held, t, vertices, walks, hops, arriving) {
         return Arrived::Fits(meet_all(held, t, vertices, walks, hops, arriving));
+    }
+    if arriving.walks + arriving.hops <= SHORT {
+        return pass_row(held, t, vertices, walks, hops, arriving, counters);
     }
     scarce(held, t, vertices, walks, hops, arriving, counters)
 }

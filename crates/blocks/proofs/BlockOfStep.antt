@@ -15,7 +15,7 @@ use Rattle.meeting.specs.Passing.{missing, goes, along, meets}
 use Rattle.meeting.proofs.Entries.{missing-absent, one-most}
 use Rattle.meeting.proofs.Along.{goes-along, along-id, along-same}
 use Rattle.meeting.proofs.Sizes.{size-le}
-use Rattle.blocks.specs.Block.{inBlock, staysIn, noting, sweeps, adds, ended, over, Fresh, News}
+use Rattle.blocks.specs.Block.{inBlock, staysIn, noting, sweeps, addsIf, adds, ended, over, Fresh, Newcomers, News}
 use Rattle.blocks.proofs.Chances.{held-noting, present, stays-on}
 
 -- ---- one block
@@ -102,8 +102,14 @@ module _ (R : Row) (n block : ℕ) (M : Map) (s : List ℕ) (counters : (k : ℕ
 
   -- Who stays is not held, also when the block has been swept.
   pub block-news : News R n block s (goes (R .from) (sweeps (R .allowed) (R .from) block) n M)
-  block-news u h on = (gone, fresh-all u h none, stays-on R block M u h none n (fresh-all u h none) some)
+  block-news u both = (gone, fresh-all u h none, stays-on R block M u h none n (fresh-all u h none) some)
     where
+      h : u / 2048 ≡ block
+      h = eqb-true (u / 2048) block (and-both (inBlock block u) (staysIn s (u % 2048)) both .0)
+
+      on : staysIn s (u % 2048) ≡ true
+      on = and-both (inBlock block u) (staysIn s (u % 2048)) both .1
+
       some : noting R block M n (u % 2048) ≢ 0
       some z = never on (stays-is u ∙ ap not (eq-eqb (noting R block M n (u % 2048)) 0 z))
 
@@ -115,45 +121,39 @@ module _ (R : Row) (n block : ℕ) (M : Map) (s : List ℕ) (counters : (k : ℕ
           ∙ along-id (R .from) (sweeps (R .allowed) (R .from) block) u absent (λ j q. swept-none (R .allowed) (inBlock block (R .from j))) n
 
 -- ---- additions never take an entry away
-module _ (R : Row) (n block : ℕ) (s : List ℕ) (m : Map) (news : News R n block s m) where
-  -- who stays is met by each of its records
-  adds-meets : (u : ℕ) → u / 2048 ≡ block → staysIn s (u % 2048) ≡ true → (j : ℕ) → along (R .from) (adds R s block) j u (m u) ≡ along (R .from) (meets R) j u absent
-  adds-meets u h on j =
-      ap (along (R .from) (adds R s block) j u) (news u h on .0)
-      ∙ along-same (R .from) (adds R s block) (meets R) u
-      (λ i q x. cond-true (meets R i x) x (and-true (ap (inBlock block) q ∙ eq-eqb (u / 2048) block h) (ap (λ (v : ℕ). staysIn s (v % 2048)) q ∙ on))) absent j
+module _ (R : Row) (n : ℕ) (on : ℕ → Bool) (m : Map) (news : Newcomers R n on m) where
+  -- who is added is met by each of its records
+  adds-meets : (u : ℕ) → on u ≡ true → (j : ℕ) → along (R .from) (addsIf R on) j u (m u) ≡ along (R .from) (meets R) j u absent
+  adds-meets u h j =
+      ap (along (R .from) (addsIf R on) j u) (news u h .0)
+      ∙ along-same (R .from) (addsIf R on) (meets R) u (λ i q x. cond-true (meets R i x) x (ap on q ∙ h)) absent j
 
   -- it has an entry after each of them
-  pub added-one : (u : ℕ) → u / 2048 ≡ block → staysIn s (u % 2048) ≡ true → (j : ℕ) → j < n → R .from j ≡ u → one (meets R j (along (R .from) (adds R s block) j u (m u))) ≡ 1
+  pub added-one : (u : ℕ) → on u ≡ true → (j : ℕ) → j < n → R .from j ≡ u → one (meets R j (along (R .from) (addsIf R on) j u (m u))) ≡ 1
   unfolding along
-  added-one u h on j l q =
-      ap (λ (e : Entry). one (meets R j e)) (adds-meets u h on j)
+  added-one u h j l q =
+      ap (λ (e : Entry). one (meets R j e)) (adds-meets u h j)
       ∙ sym (ap one (cond-true (meets R j (along (R .from) (meets R) j u absent)) (along (R .from) (meets R) j u absent) (eq-eqb (R .from j) u q)))
-      ∙ news u h on .2 j l q
+      ∙ news u h .2 j l q
 
-  adds-step : (u j : ℕ) → j < n → one (along (R .from) (adds R s block) j u (m u)) ≤ one (along (R .from) (adds R s block) (suc j) u (m u))
+  adds-step : (u j : ℕ) → j < n → one (along (R .from) (addsIf R on) j u (m u)) ≤ one (along (R .from) (addsIf R on) (suc j) u (m u))
   unfolding along
-  adds-step u j l = go (eqb (R .from j) u) (test (R .from j) u) (inBlock block (R .from j) && staysIn s (R .from j % 2048)) refl
+  adds-step u j l = go (eqb (R .from j) u) (test (R .from j) u) (on (R .from j)) refl
     where
-      x : Entry
-      x = along (R .from) (adds R s block) j u (m u)
-
-      go : (b : Bool) → Test (R .from j) u b → (c : Bool) → (inBlock block (R .from j) && staysIn s (R .from j % 2048)) ≡ c
-          → one (along (R .from) (adds R s block) j u (m u))
-          ≤ one (cond b (cond c (meets R j (along (R .from) (adds R s block) j u (m u))) (along (R .from) (adds R s block) j u (m u))) (along (R .from) (adds R s block) j u (m u)))
-      go true (same q) true k =
-          let p = and-both (inBlock block (R .from j)) (staysIn s (R .from j % 2048)) k in
-          omega (arith, added-one u (ap (λ (v : ℕ). v / 2048) (sym q) ∙ eqb-true (R .from j / 2048) block (p .0)) (ap (λ (v : ℕ). staysIn s (v % 2048)) (sym q) ∙ p .1) j l q, one-most (along (R .from) (adds R s block) j u (m u)))
+      go : (b : Bool) → Test (R .from j) u b → (c : Bool) → on (R .from j) ≡ c
+          → one (along (R .from) (addsIf R on) j u (m u))
+          ≤ one (cond b (cond c (meets R j (along (R .from) (addsIf R on) j u (m u))) (along (R .from) (addsIf R on) j u (m u))) (along (R .from) (addsIf R on) j u (m u)))
+      go true (same q) true k = omega (arith, added-one u (ap on (sym q) ∙ k) j l q, one-most (along (R .from) (addsIf R on) j u (m u)))
       go true (same q) false k = omega arith
       go false (other q) c k = omega arith
 
-  adds-grow : (u i j : ℕ) → i ≤ j → j ≤ n → one (along (R .from) (adds R s block) i u (m u)) ≤ one (along (R .from) (adds R s block) j u (m u))
+  adds-grow : (u i j : ℕ) → i ≤ j → j ≤ n → one (along (R .from) (addsIf R on) i u (m u)) ≤ one (along (R .from) (addsIf R on) j u (m u))
   adds-grow u i zero h k = let q : i ≡ 0 = omega arith in rw q (omega arith)
   adds-grow u i (suc j) h k =
       ⊎-elim (λ (q : i ≡ suc j). rw q (omega arith)) (λ (l : i < suc j). omega (arith, adds-grow u i j (omega arith) (omega arith), adds-step u j (omega arith))) (same-or-below h)
 
-  pub adds-size : (i j : ℕ) → i ≤ j → j ≤ n → size (goes (R .from) (adds R s block) i m) ≤ size (goes (R .from) (adds R s block) j m)
+  pub adds-size : (i j : ℕ) → i ≤ j → j ≤ n → size (goes (R .from) (addsIf R on) i m) ≤ size (goes (R .from) (addsIf R on) j m)
   unfolding size
   adds-size i j h k =
-      size-le 65536 (goes (R .from) (adds R s block) i m) (goes (R .from) (adds R s block) j m)
-      (λ u l. rw (goes-along (R .from) (adds R s block) i m u, goes-along (R .from) (adds R s block) j m u) (adds-grow u i j h k))
+      size-le 65536 (goes (R .from) (addsIf R on) i m) (goes (R .from) (addsIf R on) j m)
+      (λ u l. rw (goes-along (R .from) (addsIf R on) i m u, goes-along (R .from) (addsIf R on) j m u) (adds-grow u i j h k))

@@ -9,7 +9,7 @@ use lib.Dec.{eqb, ltb}
 use borrow.Author.Tests.{eq-eqb, ne-eqb, lt-ltb, le-ltb}
 use Rattle.journeys.specs.Counting as counting
 use Rattle.journeys.specs.Counting.{count}
-use Rattle.journeys.proofs.Tests.{Test, same, other, test, le-or-lt, and-true, and-left, and-right, cond-true, cond-false}
+use Rattle.journeys.proofs.Tests.{Test, same, other, test, never, le-or-lt, and-true, and-left, and-right, cond-true, cond-false}
 use Rattle.journeys.proofs.Counting.{is-one, is-zero, count-mono, count-grows}
 use Rattle.passing.specs.Row.{Row}
 use Rattle.worktable.specs.Map.{Entry, absent, known, Map, touched, swept, one}
@@ -34,7 +34,7 @@ met-open D b d x n q = ap (met D b d) q
 
 module _ (R : Row) (u : ℕ) where
   -- how many of the first j records leave u and offer more than D
-  unfoldable overs : ℕ → ℕ
+  unfoldable pub overs : ℕ → ℕ
   overs j = count (λ i. eqb (R .from i) u && ltb (R .allowed) (R .offer i)) j
 
   -- the entry of a new vertex after j records: it has none yet; it has none any more, since all its departing records are passed and offer more than D; or it has one, and its
@@ -46,23 +46,23 @@ module _ (R : Row) (u : ℕ) where
       ⊎ ((x : ℕ) × (e ≡ known x 0 (R .departing u - leaving R u j)) × (0 < leaving R u j) × (overs j < R .departing u)
       × (((R .allowed < x) × (overs j ≡ leaving R u j)) ⊎ ((x ≤ R .allowed) × (overs j < leaving R u j)))))
 
-  leaving-here : (j : ℕ) → R .from j ≡ u → leaving R u (suc j) ≡ leaving R u j + 1
+  pub leaving-here : (j : ℕ) → R .from j ≡ u → leaving R u (suc j) ≡ leaving R u j + 1
   unfolding count
   leaving-here j q = omega (arith, is-one (eq-eqb (R .from j) u q))
 
-  leaving-other : (j : ℕ) → R .from j ≢ u → leaving R u (suc j) ≡ leaving R u j
+  pub leaving-other : (j : ℕ) → R .from j ≢ u → leaving R u (suc j) ≡ leaving R u j
   unfolding count
   leaving-other j q = omega (arith, is-zero (ne-eqb (R .from j) u q))
 
-  overs-here : (j : ℕ) → R .from j ≡ u → overs (suc j) ≡ overs j + counting.one (ltb (R .allowed) (R .offer j))
+  pub overs-here : (j : ℕ) → R .from j ≡ u → overs (suc j) ≡ overs j + counting.one (ltb (R .allowed) (R .offer j))
   unfolding overs count
   overs-here j q = ap (λ (b : Bool). count (λ i. eqb (R .from i) u && ltb (R .allowed) (R .offer i)) j + counting.one (b && ltb (R .allowed) (R .offer j))) (eq-eqb (R .from j) u q)
 
-  overs-other : (j : ℕ) → R .from j ≢ u → overs (suc j) ≡ overs j
+  pub overs-other : (j : ℕ) → R .from j ≢ u → overs (suc j) ≡ overs j
   unfolding overs count
   overs-other j q = omega (arith, is-zero (and-left (ltb (R .allowed) (R .offer j)) (ne-eqb (R .from j) u q)))
 
-  overs-most : (j : ℕ) → overs j ≤ leaving R u j
+  pub overs-most : (j : ℕ) → overs j ≤ leaving R u j
   unfolding overs
   overs-most j = count-mono (λ i. eqb (R .from i) u && ltb (R .allowed) (R .offer i)) (λ i. eqb (R .from i) u) j (λ i l. less (eqb (R .from i) u) (ltb (R .allowed) (R .offer i)))
     where
@@ -141,6 +141,33 @@ module _ (R : Row) (u : ℕ) where
       go true (same q) h =
           subst (λ (v : ℕ). Hope (suc j) (met (R .allowed) (R .offer j) (R .departing v) (along (R .from) (meets R) j u absent))) (sym q) (step j (along (R .from) (meets R) j u absent) q most h)
       go false (other q) h = stay j (along (R .from) (meets R) j u absent) q h
+
+  -- A new vertex with a record in the row has no entry when the row is over exactly if as many of its records offer more than D as leave it.
+  pub row-over : (n : ℕ) → leaving R u n ≤ R .departing u → 0 < leaving R u n → missing (along (R .from) (meets R) n u absent) ≡ eqb (R .departing u - overs n) 0
+  unfolding missing
+  row-over n most some = go (hope n most)
+    where
+      go : Hope n (along (R .from) (meets R) n u absent) → missing (along (R .from) (meets R) n u absent) ≡ eqb (R .departing u - overs n) 0
+      go (inl p) = absurd (let y : ⊥ = omega (arith, p .1, some) in y)
+      go (inr (inl p)) = ap missing (p .0) ∙ sym (eq-eqb (R .departing u - overs n) 0 (omega (arith, p .2)))
+      go (inr (inr p)) = ap missing (p .1) ∙ sym (ne-eqb (R .departing u - overs n) 0 (λ x. let y : ⊥ = omega (arith, p .3, x) in y))
+
+  -- Who has an entry at the end has one from its first record on.
+  pub lasts-on : (n : ℕ) → leaving R u n ≤ R .departing u → missing (along (R .from) (meets R) n u absent) ≡ false → (j : ℕ) → j < n → R .from j ≡ u
+      → one (along (R .from) (meets R) (suc j) u absent) ≡ 1
+  unfolding one
+  lasts-on n most on j l q = go (hope (suc j) (omega (arith, most, grows)))
+    where
+      grows : leaving R u (suc j) ≤ leaving R u n
+      grows = count-grows (λ i. eqb (R .from i) u) (suc j) n l
+
+      some : 0 < leaving R u (suc j)
+      some = omega (arith, leaving-here j q)
+
+      go : Hope (suc j) (along (R .from) (meets R) (suc j) u absent) → one (along (R .from) (meets R) (suc j) u absent) ≡ 1
+      go (inl p) = absurd (let y : ⊥ = omega (arith, p .1, some) in y)
+      go (inr (inl p)) = never (row-over n most (omega (arith, some, grows)) ∙ eq-eqb (R .departing u - overs n) 0 (omega (arith, p .2, overs-grow (suc j) n l))) on
+      go (inr (inr p)) = ap one (p .1)
 
 -- ---- the counter of u
 pub chance-new : (D b d c : ℕ) → c ≡ 0 → chance D b d c ≡ d - counting.one (ltb D b)
@@ -234,17 +261,7 @@ module _ (R : Row) (block : ℕ) (m : Map) (u : ℕ) (here : u / 2048 ≡ block)
       go (inr (inl p)) = ap missing (p .0) ∙ sym (eq-eqb (noting R block m j (u % 2048)) 0 (omega (arith, seen (p .1), p .2)))
       go (inr (inr p)) = ap missing (p .1) ∙ sym (ne-eqb (noting R block m j (u % 2048)) 0 (λ x. let y : ⊥ = omega (arith, seen (p .2), p .3, x) in y))
 
-  -- Who has an entry at the end has one from its first record on.
+  -- Who has a counter at the end has an entry from its first record on.
   pub stays-on : m u ≡ absent → (n : ℕ) → leaving R u n ≤ R .departing u → noting R block m n (u % 2048) ≢ 0 → (j : ℕ) → j < n → R .from j ≡ u
       → one (along (R .from) (meets R) (suc j) u absent) ≡ 1
-  unfolding one
-  stays-on z n most on j l q = go (hope R u (suc j) (omega (arith, most, grows)))
-    where
-      grows : leaving R u (suc j) ≤ leaving R u n
-      grows = count-grows (λ i. eqb (R .from i) u) (suc j) n l
-
-      go : Hope R u (suc j) (along (R .from) (meets R) (suc j) u absent) → one (along (R .from) (meets R) (suc j) u absent) ≡ 1
-      go (inl p) = absurd (let y : ⊥ = omega (arith, p .1, leaving-here R u j q) in y)
-      go (inr (inl p)) =
-          absurd (on (counts z n most ∙ cond-false 0 (R .departing u - overs R u n) (ne-eqb (leaving R u n) 0 (λ x. let y : ⊥ = omega (arith, p .1, grows, x) in y)) ∙ omega (arith, p .2, overs-grow R u (suc j) n l)))
-      go (inr (inr p)) = ap one (p .1)
+  stays-on z n most on j l q = lasts-on R u n most (present z n most ∙ ne-eqb (noting R block m n (u % 2048)) 0 on) j l q

@@ -26,24 +26,21 @@ use Rattle.meeting.specs.declared.Arrived.the-variants.{Fits, NoRoom}
 use Rattle.meeting.proofs.Entries.{met-left, left-absent, one-absent}
 use Rattle.meeting.proofs.Sizes.{put-size}
 use Rattle.meeting.proofs.Along.{goes-along, some-left, one-more}
-use Rattle.blocks.specs.Block.{inBlock, staysIn, chance, noting, adds, News}
+use Rattle.blocks.specs.Block.{inBlock, chance, noting, addsIf, Newcomers, News}
 use Rattle.blocks.specs.Lack.{isNew}
 use Rattle.blocks.proofs.BlockOfStep.{added-one}
 
 module _ (R : Row) (n : ℕ) (m : Map) (j : ℕ) (l : j < n) {M : Map} {u : ℕ} (q : u ≡ R .from j) where
-  pub added-left : (block : ℕ) (s : List ℕ) → News R n block s m → M ≡ goes (R .from) (adds R s block) j m → u / 2048 ≡ block → staysIn s (u % 2048) ≡ true
-      → 0 < left (R .departing u) (M u)
-  added-left block s news p h on =
-      rw (p, q, goes-along (R .from) (adds R s block) j m (R .from j))
-      (some-left (R .from) (adds R s block) (R .departing (R .from j)) n j
-      (λ i e x. taken (inBlock block (R .from i) && staysIn s (R .from i % 2048)) i e x)
-      (m (R .from j)) enough l)
+  pub added-left : (on : ℕ → Bool) → Newcomers R n on m → M ≡ goes (R .from) (addsIf R on) j m → on u ≡ true → 0 < left (R .departing u) (M u)
+  added-left on news p h =
+      rw (p, q, goes-along (R .from) (addsIf R on) j m (R .from j))
+      (some-left (R .from) (addsIf R on) (R .departing (R .from j)) n j (λ i e x. taken (on (R .from i)) i e x) (m (R .from j)) enough l)
     where
       firsts : {A B C : Type 0} → A × B × C → A × B
       firsts x = (x .0, x .1)
 
       w : (m (R .from j) ≡ absent) × (leaving R (R .from j) n ≤ R .departing (R .from j))
-      w = firsts (news (R .from j) (ap (λ (x : ℕ). x / 2048) (sym q) ∙ h) (ap (λ (x : ℕ). staysIn s (x % 2048)) (sym q) ∙ on))
+      w = firsts (news (R .from j) (ap on (sym q) ∙ h))
 
       enough : leaving R (R .from j) n ≤ left (R .departing (R .from j)) (m (R .from j))
       enough = omega (arith, w .1, left-absent (R .departing (R .from j)) (m (R .from j)) (w .0))
@@ -54,11 +51,26 @@ module _ (R : Row) (n : ℕ) (m : Map) (j : ℕ) (l : j < n) {M : Map} {u : ℕ}
       taken false i e x = omega arith
 
   -- and it has an entry after the record
-  pub added-entry : (block : ℕ) (s : List ℕ) → News R n block s m → M ≡ goes (R .from) (adds R s block) j m → {x : ℕ} → x ≡ R .offer j → u / 2048 ≡ block → staysIn s (u % 2048) ≡ true
-      → one (met (R .allowed) x (R .departing u) (M u)) ≡ 1
-  added-entry block s news p {x} o h on =
-      rw (o, p, q, goes-along (R .from) (adds R s block) j m (R .from j))
-      (added-one R n block s m news (R .from j) (ap (λ (v : ℕ). v / 2048) (sym q) ∙ h) (ap (λ (v : ℕ). staysIn s (v % 2048)) (sym q) ∙ on) j l refl)
+  pub added-entry : (on : ℕ → Bool) → Newcomers R n on m → M ≡ goes (R .from) (addsIf R on) j m → {x : ℕ} → x ≡ R .offer j → on u ≡ true → one (met (R .allowed) x (R .departing u) (M u)) ≡ 1
+  added-entry on news p {x} o h =
+      rw (o, p, q, goes-along (R .from) (addsIf R on) j m (R .from j))
+      (added-one R n on m news (R .from j) (ap on (sym q) ∙ h) j l refl)
+
+-- an offer matters only to a vertex of the block
+pub in-offer : {A : Type 0} (block u : ℕ) {x y : ℕ} (f : ℕ → A) (z : A) → (u / 2048 ≡ block → x ≡ y) → cond (inBlock block u) (f x) z ≡ cond (inBlock block u) (f y) z
+in-offer block u {x} {y} f z h = go (eqb (u / 2048) block) (test (u / 2048) block)
+  where
+    go : (b : Bool) → Test (u / 2048) block b → cond b (f x) z ≡ cond b (f y) z
+    go true (same q) = ap f (h q)
+    go false (other q) = refl
+
+pub in-offer-and : {A : Type 0} (block u : ℕ) {x y : ℕ} (f : ℕ → A) (z : A) (k : Bool) → (u / 2048 ≡ block → x ≡ y) → cond (inBlock block u && k) (f x) z ≡ cond (inBlock block u && k) (f y) z
+in-offer-and block u {x} {y} f z k h = go (eqb (u / 2048) block) (test (u / 2048) block) k
+  where
+    go : (b : Bool) → Test (u / 2048) block b → (k : Bool) → cond (b && k) (f x) z ≡ cond (b && k) (f y) z
+    go true (same q) true = ap f (h q)
+    go true (same q) false = refl
+    go false (other q) k = refl
 
 -- what one record more counts
 pub noting-step : (R : Row) (block : ℕ) (m : Map) (j k : ℕ) {u x c y : ℕ} → u ≡ R .from j → x ≡ R .offer j → c ≡ noting R block m j k
@@ -81,10 +93,10 @@ pub news-at : (R : Row) (n block : ℕ) (s : List ℕ) {k m : Map} → k ≡ m �
 news-at R n block s e h = subst (News R n block s) (sym e) h
 
 -- the same answer, of a table with as many slots and of an equal map
-pub ends-at : (t r : Table) (c : List ℕ) → r .capacity ≡ t .capacity → (x : Arrived) {m k : Map} → m ≡ k → ArrivedIs r c m x → ArrivedIs t c k x
+pub ends-at : (t r : Table) (c : List ℕ) → r .room ≡ t .room → (x : Arrived) {m k : Map} → m ≡ k → ArrivedIs r c m x → ArrivedIs t c k x
 unfolding ArrivedIs
 ends-at t r c q (Fits z) {m} {k} e h =
-    (subst (Leads t z c) e (record { holds = h .0 .holds; capacity = h .0 .capacity ∙ q }), omega (arith, ap size e, h .1))
+    (subst (Leads t z c) e (record { holds = h .0 .holds; room = h .0 .room ∙ q }), omega (arith, ap size e, h .1))
 ends-at t r c q NoRoom {m} {k} e h = omega (arith, ap size e, h)
 
 pub zero-counter : (s : List ℕ) → s ≡ replicate 2048 0 → (k : ℕ) → k < 2048 → getD s k 0 ≡ 0
@@ -135,24 +147,24 @@ module _ (D : ℕ) (t : Table) (b : List ℕ) (u x : ℕ) {c : List ℕ} (g : Gi
   same-map : mapOf t b u ≡ absent → mapOf t c ≡ mapOf t b
   same-map a = g .holds .map ∙ put-id (mapOf t b) u (touched x (mapOf t b u)) (a ∙ sym (absent-touched x a))
 
-  pub has-slot : (p : Passed) → PassedIs D t c u (touched x (mapOf t b u)) p → (isNew p && eqb (t .capacity - size (mapOf t c)) 0) ≡ false → mapOf t b u ≡ absent → size (mapOf t b) < t .capacity
+  pub has-slot : (p : Passed) → PassedIs D t c u (touched x (mapOf t b u)) p → (isNew p && eqb (t .room - size (mapOf t c)) 0) ≡ false → mapOf t b u ≡ absent → size (mapOf t b) < t .room
   has-slot p h k a =
       let n = told-new D t c u (touched x (mapOf t b u)) p h (absent-touched x a) in
-      let f : t .capacity - size (mapOf t c) ≢ 0 = λ e. never (eq-eqb (t .capacity - size (mapOf t c)) 0 e) (neither (isNew p) (eqb (t .capacity - size (mapOf t c)) 0) k n) in
-      subst (λ (m : Map). size m < t .capacity) (same-map a) (some f)
+      let f : t .room - size (mapOf t c) ≢ 0 = λ e. never (eq-eqb (t .room - size (mapOf t c)) 0 e) (neither (isNew p) (eqb (t .room - size (mapOf t c)) 0) k n) in
+      subst (λ (m : Map). size m < t .room) (same-map a) (some f)
     where
-      some : t .capacity - size (mapOf t c) ≢ 0 → size (mapOf t c) < t .capacity
-      some f = ⊎-elim (λ (q : t .capacity ≤ size (mapOf t c)). absurd (f (omega arith))) (λ (q : size (mapOf t c) < t .capacity). q) (le-or-lt (t .capacity) (size (mapOf t c)))
+      some : t .room - size (mapOf t c) ≢ 0 → size (mapOf t c) < t .room
+      some f = ⊎-elim (λ (q : t .room ≤ size (mapOf t c)). absurd (f (omega arith))) (λ (q : size (mapOf t c) < t .room). q) (le-or-lt (t .room) (size (mapOf t c)))
 
 no-slot-here : (D : ℕ) (t : Table) (b : List ℕ) (u x d : ℕ) {c : List ℕ} → Gives t t b c (put (mapOf t b) u (touched x (mapOf t b u))) → (p : Passed) → PassedIs D t c u (touched x (mapOf t b u)) p → u < 65536
-    → (isNew p && eqb (t .capacity - size (mapOf t c)) 0) ≡ true → one (met D x d (mapOf t b u)) ≡ 1 → t .capacity < size (put (mapOf t b) u (met D x d (mapOf t b u)))
+    → (isNew p && eqb (t .room - size (mapOf t c)) 0) ≡ true → one (met D x d (mapOf t b u)) ≡ 1 → t .room < size (put (mapOf t b) u (met D x d (mapOf t b u)))
 no-slot-here D t b u x d {c} g p h l k o =
-    let w = both (isNew p) (eqb (t .capacity - size (mapOf t c)) 0) k in
+    let w = both (isNew p) (eqb (t .room - size (mapOf t c)) 0) k in
     let a : mapOf t b u ≡ absent = touched-absent x (mapOf t b u) (passed-absent D t c u (touched x (mapOf t b u)) h (is-new p (w .0))) in
-    let full : t .capacity - size (mapOf t c) ≡ 0 = eqb-true (t .capacity - size (mapOf t c)) 0 (w .1) in
+    let full : t .room - size (mapOf t c) ≡ 0 = eqb-true (t .room - size (mapOf t c)) 0 (w .1) in
     omega (arith, full, ap size (same-map D t b u x g a), put-size (mapOf t b) u (met D x d (mapOf t b u)) l, o, one-absent (mapOf t b u) a)
 
 -- where no slot is free the new entry has no room
 pub no-slot : (D : ℕ) (t : Table) (b : List ℕ) (u x d : ℕ) {c : List ℕ} → Gives t t b c (put (mapOf t b) u (touched x (mapOf t b u))) → (p : Passed) → PassedIs D t c u (touched x (mapOf t b u)) p → u < 65536
-    → (isNew p && eqb (t .capacity - size (mapOf t c)) 0) ≡ true → one (met D x d (mapOf t b u)) ≡ 1 → {e : Entry} → met D x d (mapOf t b u) ≡ e → t .capacity < size (put (mapOf t b) u e)
-no-slot D t b u x d g p h l k o q = subst (λ (y : Entry). t .capacity < size (put (mapOf t b) u y)) q (no-slot-here D t b u x d g p h l k o)
+    → (isNew p && eqb (t .room - size (mapOf t c)) 0) ≡ true → one (met D x d (mapOf t b u)) ≡ 1 → {e : Entry} → met D x d (mapOf t b u) ≡ e → t .room < size (put (mapOf t b) u e)
+no-slot D t b u x d g p h l k o q = subst (λ (y : Entry). t .room < size (put (mapOf t b) u y)) q (no-slot-here D t b u x d g p h l k o)

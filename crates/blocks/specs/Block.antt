@@ -21,6 +21,10 @@ inBlock block u = eqb (u / 2048) block
 unfoldable pub staysIn : List ℕ → ℕ → Bool
 staysIn s k = not (eqb (getD s k 0) 0)
 
+-- who is of the block and stays
+abbrev pub stayers : List ℕ → ℕ → ℕ → Bool
+stayers s block u = inBlock block u && staysIn s (u % 2048)
+
 -- the counter c of a new vertex after a record with the offer b: it starts at the departing records, and each offer above D takes one off
 unfoldable pub chance : ℕ → ℕ → ℕ → ℕ → ℕ
 chance D b departing c = cond (eqb c 0) departing c - one (ltb D b)
@@ -37,9 +41,13 @@ module _ (R : Row) where
       cond (inBlock block (R .from j) && (missing (m (R .from j)) && eqb (R .from j % 2048) k))
       (chance (R .allowed) (R .offer j) (R .departing (R .from j)) (noting block m j k)) (noting block m j k)
 
-  -- those of a block that stay are met
+  -- those of whom `on` says so are met
+  abbrev pub addsIf : (ℕ → Bool) → ℕ → Entry → Entry
+  addsIf on j e = cond (on (R .from j)) (meets R j e) e
+
+  -- those of a block that stay
   abbrev pub adds : List ℕ → ℕ → ℕ → Entry → Entry
-  adds s block j e = cond (inBlock block (R .from j) && staysIn s (R .from j % 2048)) (meets R j e) e
+  adds s block = addsIf (stayers s block)
 
   -- the entry of u, which has been touched, when the step is over
   unfoldable pub ended : ℕ → ℕ → Entry → Entry
@@ -54,10 +62,14 @@ module _ (R : Row) where
   abbrev pub Fresh : ℕ → ℕ → Map → Type 0
   Fresh n block m = (u : ℕ) → u / 2048 ≡ block → m u ≡ absent → leaving R u n ≤ R .departing u
 
-  -- who stays by the counters s is not held, has no more records in the row than leave it, and has an entry from its first record on
-  abbrev pub News : ℕ → ℕ → List ℕ → Map → Type 0
-  News n block s m = (u : ℕ) → u / 2048 ≡ block → staysIn s (u % 2048) ≡ true
+  -- of whom `on` says so is not held, has no more records in the row than leave it, and has an entry from its first record on
+  abbrev pub Newcomers : ℕ → (ℕ → Bool) → Map → Type 0
+  Newcomers n on m = (u : ℕ) → on u ≡ true
       → (m u ≡ absent) × (leaving R u n ≤ R .departing u) × ((j : ℕ) → j < n → R .from j ≡ u → map.one (along (R .from) (meets R) (suc j) u absent) ≡ 1)
+
+  -- so is who stays by the counters s
+  abbrev pub News : ℕ → ℕ → List ℕ → Map → Type 0
+  News n block s m = Newcomers n (stayers s block) m
 
 -- ---- what the contracts say of a row
 module _ (w h : List ℕ) (a : Arriving) (block : ℕ) where

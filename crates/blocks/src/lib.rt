@@ -11,7 +11,7 @@ ghost use Rattle.journeys.specs.Tables.{vertexAt};
 ghost use Rattle.worktable.specs.Map as map;
 ghost use Rattle.worktable.specs.Map.{absent, swept, Figure, put, size};
 ghost use Rattle.worktable.specs.Table.{mapOf, InOrder};
-ghost use Rattle.passing.specs.Row.{Counted};
+ghost use Rattle.passing.specs.Row.{passes, offerOf, Counted, Sound};
 ghost use Rattle.meeting.specs.Passing.{missing, met, left};
 ghost use Rattle.meeting.specs.Answer.{Leads, ArrivedIs};
 ghost use Rattle.blocks.specs.Block.{inBlock, staysIn, chance, Noted, sweptBlock, addedBlock, blockOver, Touched, Swept};
@@ -34,13 +34,31 @@ use worktable::look;
 use worktable::pass;
 
 // 1 if an offer is above D.
-fn above(offer: Ticks, allowed: Ticks) -> u32
+pub fn above(offer: Ticks, allowed: Ticks) -> u32
     ensures { λ r. ⌜ r ≡ one (ltb (allowed .0) (offer .0)) ⌝ }
 {
     if allowed.0 < offer.0 {
         return 1;
     }
     0
+}
+
+// What record j of the row offers, if the vertex u that it leaves is of the block. Most records of a long row are of other blocks, and reckoning their offers would take most of the time.
+pub fn offer_in(
+    walks: &[u8],
+    hops: &[u8],
+    arriving: Arriving,
+    j: usize,
+    u: usize,
+    block: usize,
+) -> Ticks
+    requires { ⌜ Sound (now walks) (now hops) arriving × (j < passes arriving) ⌝ }
+    ensures { λ r. ⌜ (u / 2048 ≡ block → r .0 ≡ offerOf (now (walks .entry)) (now (hops .entry)) arriving j) × Figure (r .0) ⌝ }
+{
+    if u / 2048 == block {
+        return offer_at(walks, hops, arriving, j);
+    }
+    Ticks(0)
 }
 
 // Whether the counter of u says that it stays.
@@ -104,7 +122,7 @@ fn note_new(
     let mut j = 0;
     while j < n {
         let u = from_at(walks, hops, arriving, j);
-        let offer = offer_at(walks, hops, arriving, j);
+        let offer = offer_in(walks, hops, arriving, j, u, block);
         note_one(
             held,
             t,
@@ -159,13 +177,33 @@ fn sweep(
 // Whether a vertex, of which that is told, is new and finds no free slot.
 fn lacks_slot(held: &[u8], t: Table, told: Passed) -> bool
     requires { ⌜ InOrder t (now held) ⌝ }
-    ensures { λ r. ⌜ r ≡ (isNew told && eqb (t .capacity - size (mapOf t (now (held .entry)))) 0) ⌝ }
+    ensures { λ r. ⌜ r ≡ (isNew told && eqb (t .room - size (mapOf t (now (held .entry)))) 0) ⌝ }
 {
     match told {
         Passed::Absent => free(held, t) == 0,
         Passed::Kept => false,
         Passed::Spent(_) => false,
     }
+}
+
+// One record from u, which has an entry after it. There is no room where u is new and finds no free slot.
+pub fn meet_in_room(
+    held: &mut [u8],
+    t: Table,
+    vertices: &[u8],
+    u: usize,
+    offer: Ticks,
+    allowed: Ticks,
+) -> Arrived
+    requires { ⌜ InOrder t (now held) × (u < length (now vertices) / 12) × (length (now vertices) / 12 ≤ 65536) × Figure (offer .0) × (allowed .0 < 2147483647) ⌝ }
+    requires { ⌜ (0 < left (vertexAt (now vertices) u .departing) (mapOf t (now held) u)) × (map.one (met (allowed .0) (offer .0) (vertexAt (now vertices) u .departing) (mapOf t (now held) u)) ≡ 1) ⌝ }
+    ensures { λ r. ⌜ ArrivedIs t (now (held .exit)) (put (mapOf t (now (held .entry))) u (met (allowed .0) (offer .0) (vertexAt (now (vertices .entry)) u .departing) (mapOf t (now (held .entry)) u))) r ⌝ }
+{
+    let told = pass(held, t, u, offer.0, allowed.0);
+    if lacks_slot(held, t, told) {
+        return Arrived::NoRoom;
+    }
+    Arrived::Fits(enter_or_drop(held, t, vertices, u, offer, allowed, told))
 }
 
 fn add_one(
@@ -184,11 +222,7 @@ fn add_one(
 {
     if u / 2048 == block {
         if stays(counters, u) {
-            let told = pass(held, t, u, offer.0, allowed.0);
-            if lacks_slot(held, t, told) {
-                return Arrived::NoRoom;
-            }
-            return Arrived::Fits(enter_or_drop(held, t, vertices, u, offer, allowed, told));
+            return meet_in_room(held, t, vertices, u, offer, allowed);
         }
     }
     Arrived::Fits(t)
@@ -213,7 +247,7 @@ fn add(
     let mut j = 0;
     while j < n {
         let u = from_at(walks, hops, arriving, j);
-        let offer = offer_at(walks, hops, arriving, j);
+        let offer = offer_in(walks, hops, arriving, j, u, block);
         let Arrived::Fits(next) = add_one(
             held,
             table,

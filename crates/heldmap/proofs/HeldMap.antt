@@ -37,6 +37,10 @@ module _ (G : Network) (far : ℕ → ℕ) (low : Bounded G) where
   unfolding entry held
   beyond-absent u h = rw (beyond-unmet u h)
 
+  pub beyond-none : (u : ℕ) → G .vertices ≤ u → heldMap G far u ≡ map.absent
+  unfolding heldMap
+  beyond-none u h = ap asEntry (beyond-absent u h)
+
   one-entry : (u : ℕ) → map.one (asEntry (entry G far u)) ≡ length (entry G far u)
   unfolding entry map.one
   one-entry u = go (held G far u) (row G far u)

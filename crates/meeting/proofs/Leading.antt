@@ -18,24 +18,24 @@ use Rattle.meeting.specs.declared.Arrived.{Arrived}
 use Rattle.meeting.specs.declared.Arrived.the-variants.{Fits, NoRoom}
 
 pub leads-gives : {t r : Table} {b c : List ℕ} {m k : Map} → Gives t r b c m → m ≡ k → Leads t r c k
-leads-gives {t} {r} {b} {c} g e = subst (Leads t r c) e (record { holds = g .holds; capacity = g .capacity })
+leads-gives {t} {r} {b} {c} g e = subst (Leads t r c) e (record { holds = g .holds; room = g .room })
 
 pub leads-is : {t r : Table} {b c : List ℕ} {m : Map} → Gives t r b c m → Leads t r c m
-leads-is g = record { holds = g .holds; capacity = g .capacity }
+leads-is g = record { holds = g .holds; room = g .room }
 
 pub leads-here : {t : Table} {b : List ℕ} {k : Map} → InOrder t b → mapOf t b ≡ k → Leads t t b k
-leads-here {t} {b} o e = record { holds = record { order = o; map = e }; capacity = refl }
+leads-here {t} {b} o e = record { holds = record { order = o; map = e }; room = refl }
 
 pub leads-same : {t r : Table} {c : List ℕ} {m k : Map} → Leads t r c m → m ≡ k → Leads t r c k
 leads-same {t} {r} {c} l e = subst (Leads t r c) e l
 
 pub leads-on : {t r q : Table} {c d : List ℕ} {m k : Map} → Leads t r c m → Leads r q d k → Leads t q d k
-leads-on l n = record { holds = n .holds; capacity = n .capacity ∙ l .capacity }
+leads-on l n = record { holds = n .holds; room = n .room ∙ l .room }
 
-pub leads-room : {t r : Table} {c : List ℕ} {m : Map} → Leads t r c m → size m ≤ t .capacity
-leads-room {t} {r} {c} {m} l = rw (← l .holds .map, ← l .capacity) (omega (arith, l .holds .order .counted))
+pub leads-room : {t r : Table} {c : List ℕ} {m : Map} → Leads t r c m → size m ≤ t .room
+leads-room {t} {r} {c} {m} l = rw (← l .holds .map, ← l .room) (omega (arith, l .holds .order .counted))
 
-pub here-room : {t : Table} {b : List ℕ} → InOrder t b → size (mapOf t b) ≤ t .capacity
+pub here-room : {t : Table} {b : List ℕ} → InOrder t b → size (mapOf t b) ≤ t .room
 here-room o = omega (arith, o .counted)
 
 pub here-held : {t : Table} {b : List ℕ} {u s : ℕ} → InOrder t b → Place t b u s → missing (mapOf t b u) ≡ false
@@ -61,11 +61,11 @@ told-there D t b u x {c} g p h = subst (λ (e : Entry). PassedIs D t c u e p) (s
 
 -- who has no entry then had none before, and the table has as many as before, so also a slot, if one is needed
 pub new-there : (P : Type 0) (t : Table) (b : List ℕ) (u x d : ℕ) {c : List ℕ} → Gives t t b c (put (mapOf t b) u (touched x (mapOf t b u))) → 0 < left d (mapOf t b u)
-    → (mapOf t b u ≡ absent → P → size (mapOf t b) < t .capacity) → mapOf t c u ≡ absent → (0 < d) × (P → size (mapOf t c) < t .capacity)
+    → (mapOf t b u ≡ absent → P → size (mapOf t b) < t .room) → mapOf t c u ≡ absent → (0 < d) × (P → size (mapOf t c) < t .room)
 new-there P t b u x d {c} g l room z =
     let a : mapOf t b u ≡ absent = touched-absent x (mapOf t b u) (sym (gives-at u (touched x (mapOf t b u)) g) ∙ z) in
     let e : mapOf t c ≡ mapOf t b = g .holds .map ∙ put-id (mapOf t b) u (touched x (mapOf t b u)) (a ∙ sym (absent-touched x a)) in
-    (omega (arith, l, left-absent d (mapOf t b u) a), λ p. subst (λ (m : Map). size m < t .capacity) (sym e) (room a p))
+    (omega (arith, l, left-absent d (mapOf t b u) a), λ p. subst (λ (m : Map). size m < t .room) (sym e) (room a p))
 
 -- ---- answers
 pub fits-is : {t r : Table} {c : List ℕ} {m : Map} → Leads t r c m → ArrivedIs t c m (Fits r)
@@ -76,6 +76,6 @@ pub fits-leads : {t r : Table} {c : List ℕ} {m : Map} {x : Arrived} → Arrive
 unfolding ArrivedIs
 fits-leads {t} {r} {c} {m} h e = subst (ArrivedIs t c m) e h .0
 
-pub none-fits : (t : Table) (c : List ℕ) (m : Map) {x : Arrived} → ArrivedIs t c m x → x ≡ NoRoom → t .capacity < size m
+pub none-fits : (t : Table) (c : List ℕ) (m : Map) {x : Arrived} → ArrivedIs t c m x → x ≡ NoRoom → t .room < size m
 unfolding ArrivedIs
 none-fits t c m h e = subst (ArrivedIs t c m) e h

@@ -1,5 +1,6 @@
 pub mod Entries
 pub mod Along
 pub mod Sizes
+pub mod Space
 pub mod Leading
 pub mod Loops

@@ -14,12 +14,12 @@ use Rattle.meeting.specs.declared.Arrived.the-variants.{Fits, NoRoom}
 -- from the table t to the table r with the bytes c: as many slots, and the map is m
 pub record Leads (t r : Table) (c : List ℕ) (m : Map) : Type 0 where
   pub holds : Holds r c m
-  pub capacity : r .capacity ≡ t .capacity
+  pub room : r .room ≡ t .room
 
 -- the table holds m and m has room in it; or m has none
 unfoldable pub ArrivedIs : Table → List ℕ → Map → Arrived → Type 0
-ArrivedIs t c m (Fits r) = Leads t r c m × (size m ≤ t .capacity)
-ArrivedIs t c m NoRoom = t .capacity < size m
+ArrivedIs t c m (Fits r) = Leads t r c m × (size m ≤ t .room)
+ArrivedIs t c m NoRoom = t .room < size m
 
 module _ (v w h : List ℕ) (a : Arriving) (t : Table) (b c : List ℕ) where
   -- every record of the row has been passed: from the bytes b to c

@@ -1,12 +1,14 @@
 -- What the records that arrive at a vertex do to the entries of the vertices that they leave. Assumes nothing.
+use mathlib.Core.Path.{_≡_}
 use mathlib.Core.Bool.{Bool, true, false, not, cond}
 use mathlib.Core.List.{List}
-use Prim.Native.Nat.{ℕ, zero, suc, _-_, _≤_}
+use Prim.Native.Nat.{ℕ, zero, suc, _-_, _/_, _≤_, _<_}
 use lib.Dec.{eqb}
+use lib.ListN.{length}
 use Rattle.journeys.specs.Counting.{count}
 use Rattle.passing.specs.Row.{Row, passes, rowOf, Sound, Leaves}
 use Rattle.passing.specs.declared.Arriving.{Arriving}
-use Rattle.worktable.specs.Map.{Entry, absent, known, Map, put, touched, spent, swept}
+use Rattle.worktable.specs.Map.{Entry, absent, known, Map, put, touched, spent, swept, size}
 use Rattle.worktable.specs.Table.{mapOf, InOrder}
 use Rattle.worktable.specs.declared.Table.{Table}
 
@@ -62,9 +64,19 @@ leaving R u j = count (λ i. eqb (R .from i) u) j
 abbrev pub Enough : Row → ℕ → Map → Type 0
 Enough R n m = (u : ℕ) → leaving R u n ≤ left (R .departing u) (m u)
 
+-- every entry is that of one of the first n vertices
+abbrev pub Inside : ℕ → Map → Type 0
+Inside n m = (u : ℕ) → n ≤ u → m u ≡ absent
+
+-- of so many slots one is free for each of the first n records that brings an entry
+abbrev pub Spacious : Row → ℕ → ℕ → Map → Type 0
+Spacious R n slots m =
+    (j : ℕ) → j < n → passed R j m (R .from j) ≡ absent → futile (R .allowed) (R .offer j) (R .departing (R .from j)) ≡ false → size (passed R j m) < slots
+
 -- what the records of a row may be passed by: the table t with the bytes b
 pub record Ready (v w h : List ℕ) (a : Arriving) (t : Table) (b : List ℕ) : Type 0 where
   pub order : InOrder t b
   pub sound : Sound w h a
   pub leaves : Leaves v w h a
   pub enough : Enough (rowOf v w h a) (passes a) (mapOf t b)
+  pub inside : Inside (length v / 12) (mapOf t b)

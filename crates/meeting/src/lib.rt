@@ -1,4 +1,4 @@
-// What the records that arrive at a settled vertex do to the working table, where its free slots suffice for a new vertex at each of them.
+// What the records that arrive at a settled vertex do to the working table, where a slot is free for each of them that brings an entry.
 // Promises: the table then holds exactly the map of the definitions.
 // Rests on: the row of `passing`, one look at an entry by `worktable`.
 ghost use mathlib.Core.Path.{_≡_};
@@ -10,7 +10,7 @@ ghost use Rattle.journeys.specs.Tables.{vertexAt};
 ghost use Rattle.worktable.specs.Map.{absent, known, Figure, put, swept, size};
 ghost use Rattle.worktable.specs.Table.{mapOf, InOrder, PassedIs};
 ghost use Rattle.passing.specs.Row.{passes, rowOf, Sound, Leaves};
-ghost use Rattle.meeting.specs.Passing.{entered, met, futile, comers, left, Ready};
+ghost use Rattle.meeting.specs.Passing.{entered, met, futile, comers, left, Spacious, Ready};
 ghost use Rattle.meeting.specs.Answer.{Leads, AllMet};
 use passing::Arriving;
 use passing::from_at;
@@ -46,7 +46,7 @@ fn enter(
     allowed: Ticks,
 ) -> Table
     requires { ⌜ InOrder t (now held) × (u < length (now vertices) / 12) × (length (now vertices) / 12 ≤ 65536) × Figure (offer .0) × (mapOf t (now held) u ≡ absent) ⌝ }
-    requires { ⌜ (0 < vertexAt (now vertices) u .departing) × (futile (allowed .0) (offer .0) (vertexAt (now vertices) u .departing) ≡ false → size (mapOf t (now held)) < t .capacity) ⌝ }
+    requires { ⌜ (0 < vertexAt (now vertices) u .departing) × (futile (allowed .0) (offer .0) (vertexAt (now vertices) u .departing) ≡ false → size (mapOf t (now held)) < t .room) ⌝ }
     ensures { λ r. ⌜ Leads t r (now (held .exit)) (put (mapOf t (now (held .entry))) u (swept (allowed .0) (known (offer .0) 0 (vertexAt (now (vertices .entry)) u .departing - 1)))) ⌝ }
 {
     let departing = half_at(vertices, 12 * u + 8);
@@ -67,7 +67,7 @@ pub fn enter_or_drop(
     told: Passed,
 ) -> Table
     requires { ⌜ InOrder t (now held) × (u < length (now vertices) / 12) × (length (now vertices) / 12 ≤ 65536) × Figure (offer .0) × PassedIs (allowed .0) t (now held) u (mapOf t (now held) u) told ⌝ }
-    requires { ⌜ (mapOf t (now held) u ≡ absent → (0 < vertexAt (now vertices) u .departing) × (futile (allowed .0) (offer .0) (vertexAt (now vertices) u .departing) ≡ false → size (mapOf t (now held)) < t .capacity)) ⌝ }
+    requires { ⌜ (mapOf t (now held) u ≡ absent → (0 < vertexAt (now vertices) u .departing) × (futile (allowed .0) (offer .0) (vertexAt (now vertices) u .departing) ≡ false → size (mapOf t (now held)) < t .room)) ⌝ }
     ensures { λ r. ⌜ Leads t r (now (held .exit)) (put (mapOf t (now (held .entry))) u (entered (allowed .0) (offer .0) (vertexAt (now (vertices .entry)) u .departing) (mapOf t (now (held .entry)) u))) ⌝ }
 {
     match told {
@@ -80,7 +80,7 @@ pub fn enter_or_drop(
 // One record from u: u is newly met, or one record less remains to it. A vertex to which nothing remains is dropped where it is settled or known above D.
 fn meet(held: &mut [u8], t: Table, vertices: &[u8], u: usize, offer: Ticks, allowed: Ticks) -> Table
     requires { ⌜ InOrder t (now held) × (u < length (now vertices) / 12) × (length (now vertices) / 12 ≤ 65536) × Figure (offer .0) × (allowed .0 < 2147483647) ⌝ }
-    requires { ⌜ (0 < left (vertexAt (now vertices) u .departing) (mapOf t (now held) u)) × (mapOf t (now held) u ≡ absent → futile (allowed .0) (offer .0) (vertexAt (now vertices) u .departing) ≡ false → size (mapOf t (now held)) < t .capacity) ⌝ }
+    requires { ⌜ (0 < left (vertexAt (now vertices) u .departing) (mapOf t (now held) u)) × (mapOf t (now held) u ≡ absent → futile (allowed .0) (offer .0) (vertexAt (now vertices) u .departing) ≡ false → size (mapOf t (now held)) < t .room) ⌝ }
     ensures { λ r. ⌜ Leads t r (now (held .exit)) (put (mapOf t (now (held .entry))) u (met (allowed .0) (offer .0) (vertexAt (now (vertices .entry)) u .departing) (mapOf t (now (held .entry)) u))) ⌝ }
 {
     let told = pass(held, t, u, offer.0, allowed.0);
@@ -124,7 +124,7 @@ pub fn meet_all(
     hops: &[u8],
     arriving: Arriving,
 ) -> Table
-    requires { ⌜ Ready (now vertices) (now walks) (now hops) arriving t (now held) × (size (mapOf t (now held)) + comers (rowOf (now vertices) (now walks) (now hops) arriving) (passes arriving) ≤ t .capacity) ⌝ }
+    requires { ⌜ Ready (now vertices) (now walks) (now hops) arriving t (now held) × Spacious (rowOf (now vertices) (now walks) (now hops) arriving) (passes arriving) (t .room) (mapOf t (now held)) ⌝ }
     ensures { λ r. ⌜ AllMet (now (vertices .entry)) (now (walks .entry)) (now (hops .entry)) arriving t (now (held .entry)) (now (held .exit)) r ⌝ }
 {
     let n = arriving.walks + arriving.hops;

@@ -39,8 +39,8 @@ one-known d s n = refl
 near-distance : (d : ℕ) → d ≤ 112000 → Figure d
 near-distance d h = inl (omega arith)
 
-pub first-seed : (t : Table) (b : List ℕ) (c u d n : ℕ) → Holds t b empty → t .capacity ≡ c → 1 ≤ c → u < 65536 → d ≤ 112000 → n < 65536
-    → InOrder t b × (u < 65536) × Figure d × (n < 65536) × (mapOf t b u ≡ absent) × (size (mapOf t b) < t .capacity)
+pub first-seed : (t : Table) (b : List ℕ) (c u d n : ℕ) → Holds t b empty → t .room ≡ c → 1 ≤ c → u < 65536 → d ≤ 112000 → n < 65536
+    → InOrder t b × (u < 65536) × Figure d × (n < 65536) × (mapOf t b u ≡ absent) × (size (mapOf t b) < t .room)
 unfolding empty size
 first-seed t b c u d n h e l ul dl nl =
     (h .order, ul, near-distance d dl, nl, ap (λ (m : Map). m u) (h .map), rw (h .map) (omega (arith, size-empty 65536)))
@@ -50,8 +50,8 @@ pub after-first : (t r : Table) (b b1 : List ℕ) (u d n n′ : ℕ) → n ≡ n
 after-first t r b b1 u d n n′ q h g =
     record { order = g .holds .order; map = g .holds .map ∙ ap (λ (m : Map). put m u (known d 0 n)) (h .map) ∙ ap (λ (k : ℕ). put empty u (known d 0 k)) q }
 
-pub second-seed : (r : Table) (b : List ℕ) (from x s k u d n : ℕ) → Holds r b (put empty from (known x s k)) → from < 65536 → from ≢ u → 2 ≤ r .capacity → u < 65536 → d ≤ 112000 → n < 65536
-    → InOrder r b × (u < 65536) × Figure d × (n < 65536) × (mapOf r b u ≡ absent) × (size (mapOf r b) < r .capacity)
+pub second-seed : (r : Table) (b : List ℕ) (from x s k u d n : ℕ) → Holds r b (put empty from (known x s k)) → from < 65536 → from ≢ u → 2 ≤ r .room → u < 65536 → d ≤ 112000 → n < 65536
+    → InOrder r b × (u < 65536) × Figure d × (n < 65536) × (mapOf r b u ≡ absent) × (size (mapOf r b) < r .room)
 unfolding empty
 second-seed r b from x s k u d n h fl ne cap ul dl nl = (
   h .order,
@@ -68,7 +68,7 @@ module _ (from : ℕ) (x : Entry) (to : ℕ) (y : Entry) (c : ℕ) where
   seeded-none b true l = omega arith
   seeded-none b false l = l
 
-  pub seeded-one : (r : Table) (b : List ℕ) (two : Bool) → two ≡ false → Holds r b (put empty from x) → r .capacity ≡ c → 1 ≤ c → SeededIs b c (seedMap from x to y two) (cond two 2 1) (At r)
+  pub seeded-one : (r : Table) (b : List ℕ) (two : Bool) → two ≡ false → Holds r b (put empty from x) → r .room ≡ c → 1 ≤ c → SeededIs b c (seedMap from x to y two) (cond two 2 1) (At r)
   unfolding SeededIs seedMap
   seeded-one r b two e h q l = rw e (h, q, l)
 
@@ -76,11 +76,11 @@ module _ (from : ℕ) (x : Entry) (to : ℕ) (y : Entry) (c : ℕ) where
   unfolding SeededIs
   seeded-few b two e l = rw e l
 
-  pub seeded-two : (r p : Table) (b b2 : List ℕ) (two : Bool) (z : Entry) → z ≡ y → two ≡ true → Holds r b (put empty from x) → Gives r p b b2 (put (mapOf r b) to z) → r .capacity ≡ c → 2 ≤ c
+  pub seeded-two : (r p : Table) (b b2 : List ℕ) (two : Bool) (z : Entry) → z ≡ y → two ≡ true → Holds r b (put empty from x) → Gives r p b b2 (put (mapOf r b) to z) → r .room ≡ c → 2 ≤ c
       → SeededIs b2 c (seedMap from x to y two) (cond two 2 1) (At p)
   unfolding SeededIs seedMap
   seeded-two r p b b2 two z k e h g q l =
-      rw e (record { order = g .holds .order; map = g .holds .map ∙ ap (λ (m : Map). put m to z) (h .map) ∙ ap (put (put empty from x) to) k }, g .capacity ∙ q, l)
+      rw e (record { order = g .holds .order; map = g .holds .map ∙ ap (λ (m : Map). put m to z) (h .map) ∙ ap (put (put empty from x) to) k }, g .room ∙ q, l)
 
 -- there are one or two of them
 pub size-first : (from d n to e k : ℕ) → from < 65536 → to < 65536 → from ≢ to → (two : Bool) → size (seedMap from (known d 0 n) to (known e 0 k) two) ≡ cond two 2 1

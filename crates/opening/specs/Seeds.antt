@@ -43,13 +43,13 @@ firstMap v w e =
 
 -- the table holds the seeds; or it has fewer slots than there are seeds
 unfoldable pub SeededIs : List ℕ → ℕ → Map → ℕ → Seeded → Type 0
-SeededIs b capacity m seeds (At t) = Holds t b m × (t .capacity ≡ capacity) × (seeds ≤ capacity)
+SeededIs b capacity m seeds (At t) = Holds t b m × (t .room ≡ capacity) × (seeds ≤ capacity)
 SeededIs b capacity m seeds NoRoom = capacity < seeds
 
 -- Step 0: m is the map of the seeds, of which there are so many.
 pub record Opens (capacity : ℕ) (m : Map) (seeds : ℕ) (held′ : List ℕ) (p : Progress) : Type 0 where
   pub table : Holds (p .table) held′ m
-  pub slots : p .table .capacity ≡ capacity
+  pub slots : p .table .room ≡ capacity
   pub fits : seeds ≤ capacity
   pub count : p .settled ≡ 0
 

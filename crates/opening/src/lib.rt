@@ -44,7 +44,7 @@ fn seeds(
     ensures { λ r. ⌜ SeededIs (now (held .exit)) (min (length (now (held .entry)) / 16) (min (length (now (vertices .entry)) / 12) 65536)) (seedMap from (known (near .0) 0 (vertexAt (now (vertices .entry)) from .departing)) to (known (back .0) 0 (vertexAt (now (vertices .entry)) to .departing)) two) (cond two 2 1) r ⌝ }
 {
     let empty = worktable::start(held, vertices.len() / 12);
-    if worktable::capacity(empty) < 1 {
+    if worktable::room(empty) < 1 {
         return Seeded::NoRoom;
     }
     let one = worktable::insert(
@@ -57,7 +57,7 @@ fn seeds(
     if !two {
         return Seeded::At(one);
     }
-    if worktable::capacity(one) < 2 {
+    if worktable::room(one) < 2 {
         return Seeded::NoRoom;
     }
     Seeded::At(worktable::insert(held, one, to as usize, back.0, departing_at(vertices, to)))

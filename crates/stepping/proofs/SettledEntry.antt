@@ -30,11 +30,11 @@ module _ (t : Table) (b b1 : List ℕ) (v : ℕ) (g : Gives t t b b1 (put (mapOf
       let q = cond-true (put (put (mapOf t b) v (settled (mapOf t b v))) v absent) (put (mapOf t b) v (settled (mapOf t b v))) (left-is ∙ e) in
       record {
         holds = record { order = k .holds .order; map = k .holds .map ∙ ap (λ (m : Map). put m v absent) (g .holds .map) ∙ sym q };
-        capacity = k .capacity;
+        room = k .room;
       }
 
   pub settled-stays : eqb (remainingOf (mapOf t b v)) 0 ≡ false → Leads t t b1 (settledNow (mapOf t b) v)
   unfolding settledNow
   settled-stays e =
       let q = cond-false (put (put (mapOf t b) v (settled (mapOf t b v))) v absent) (put (mapOf t b) v (settled (mapOf t b v))) (left-is ∙ e) in
-      record { holds = record { order = g .holds .order; map = g .holds .map ∙ sym q }; capacity = refl }
+      record { holds = record { order = g .holds .order; map = g .holds .map ∙ sym q }; room = refl }

@@ -14,7 +14,7 @@ use Rattle.worktable.specs.declared.Table.{Table}
 use Rattle.journeys.specs.Counting.{none}
 use Rattle.passing.specs.Row.{passes, Sound, Leaves}
 use Rattle.passing.specs.declared.Arriving.{Arriving}
-use Rattle.meeting.specs.Passing.{passed, Enough}
+use Rattle.meeting.specs.Passing.{passed, Enough, Inside}
 use Rattle.meeting.specs.Answer.{Leads}
 use Rattle.heldmap.specs.Model.{Standing, walksAt, hopsAt, rowAt, settledNow}
 use Rattle.stepping.specs.declared.Progress.{Progress}
@@ -29,14 +29,14 @@ NextIs t b D Nearest.Nothing = (u e : ℕ) → Waits (mapOf t b) u e → D < e
 -- One step from p, which settles v at d: m is the map after it. The bytes are those of the buffers before and after.
 pub record Steps (p : Progress) (m : Map) (v d : ℕ) (held′ settled settled′ : List ℕ) (q : Progress) : Type 0 where
   pub table : Leads (p .table) (q .table) held′ m
-  pub fits : size m ≤ p .table .capacity
+  pub fits : size m ≤ p .table .room
   pub count : q .settled ≡ p .settled + 1
   pub room : p .settled < length settled / 8
   pub listed : settled′ ≡ written settled (8 * p .settled) (settledBytes (settledOf v d))
 
 -- or which of the two has no room: the lower number
 abbrev pub Lacks : Progress → Map → List ℕ → ℕ → Type 0
-Lacks p m settled n = ((n ≡ 8) × (p .table .capacity < size m)) ⊎ ((n ≡ 9) × (size m ≤ p .table .capacity) × (length settled / 8 ≤ p .settled))
+Lacks p m settled n = ((n ≡ 8) × (p .table .room < size m)) ⊎ ((n ≡ 9) × (size m ≤ p .table .room) × (length settled / 8 ≤ p .settled))
 
 unfoldable pub StepIs : Progress → Map → ℕ → ℕ → List ℕ → List ℕ → List ℕ → Stepped → Type 0
 StepIs p m v d held′ settled settled′ (Next q) = Steps p m v d held′ settled settled′ q
@@ -52,6 +52,7 @@ pub record Begins (v w h : List ℕ) (x slot : ℕ) (a : Arriving) (t : Table) (
   pub sound : Sound (walksAt v w x) (hopsAt (a .size) v h x) a
   pub leaves : Leaves v (walksAt v w x) (hopsAt (a .size) v h x) a
   pub enough : Enough (rowAt v w h x a) (passes a) (settledNow (mapOf t held) x)
+  pub inside : Inside (length v / 12) (mapOf t held)
 
 -- the map after it
 abbrev pub mapAfter : List ℕ → List ℕ → List ℕ → ℕ → Arriving → Map → Map

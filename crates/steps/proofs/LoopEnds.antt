@@ -35,7 +35,7 @@ use Rattle.stepping.specs.declared.Stepped.{Stepped}
 use Rattle.stepping.specs.declared.Stepped.the-variants.{Next, Full}
 use Rattle.steps.specs.declared.Ended.the-variants.{Done, Refused}
 use Rattle.heldmap.proofs.ArrivingRun.{standing}
-use Rattle.heldmap.proofs.HeldMap.{foremost-next, none-waits}
+use Rattle.heldmap.proofs.HeldMap.{beyond-none, foremost-next, none-waits}
 use Rattle.heldmap.proofs.StepIsNext.{bounded-is, one-further, enough-next, sound-next, leaves-next}
 use Rattle.steps.proofs.RunningNext.{onward, onward-short}
 
@@ -137,6 +137,7 @@ module _ (size : ℕ) (wide : 16 ≤ size) (v w h : List ℕ) (heldLong settledL
             enough =
                 subst (λ (m : Map). Enough (rowAt v w h x r) (passes r) (settledNow m x)) (sym (stand .table .map))
                 (enough-next size wide v w h Q ok (order-is N Q ok) (bounded-is N Q ok) (p .settled) (stand .made) x d (ahead stand) near A clock);
+            inside = λ u far. ap (λ (m : Map). m u) (stand .table .map) ∙ beyond-none G (distanceIn (take (p .settled) (orderOf N Q ok))) (bounded-is N Q ok) u (omega (arith, far, vertex-count size v w h));
           }
 
       abbrev M : Map

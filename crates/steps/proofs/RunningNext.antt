@@ -107,7 +107,7 @@ module _ (b : Lent) (wide : 16 ≤ b .hopSize) (Q : Query) (ok : Valid (tables b
           record {
             made = omega (arith, further .0);
             table = record { order = T .table .holds .order; map = T .table .holds .map ∙ M-is ∙ ap (λ (n : ℕ). heldMap G (distanceIn (take n l))) e };
-            slots = T .table .capacity ∙ H .slots;
+            slots = T .table .room ∙ H .slots;
             long = long-next;
             listed = subst (λ (n : ℕ). take (8 * n) settled′ ≡ flatMap settledBytes (take n l)) e front;
             room = λ j h. ⊎-elim (λ (o : j ≤ k). H .room j o) (λ (o : k < j). subst (Room b Q l) (let z : suc k ≡ j = omega arith in z) room-next) (le-or-lt j k);
@@ -119,10 +119,10 @@ module _ (b : Lent) (wide : 16 ≤ b .hopSize) (Q : Query) (ok : Valid (tables b
     abbrev at : ℕ → Refusal
     at n = record { number = n; place = suc k }
 
-    held-over : p .table .capacity < size M → leb (length (heldAfter b Q l (suc k))) (length (b .held) / 16) ≡ false
+    held-over : p .table .room < size M → leb (length (heldAfter b Q l (suc k))) (length (b .held) / 16) ≡ false
     held-over h = lt-leb (length (heldAfter b Q l (suc k))) (length (b .held) / 16) (omega (arith, size-M, H .slots, few))
 
-    held-fits : size M ≤ p .table .capacity → leb (length (heldAfter b Q l (suc k))) (length (b .held) / 16) ≡ true
+    held-fits : size M ≤ p .table .room → leb (length (heldAfter b Q l (suc k))) (length (b .held) / 16) ≡ true
     held-fits h = le-leb (length (heldAfter b Q l (suc k))) (length (b .held) / 16) (omega (arith, size-M, H .slots))
 
     -- the number is that of the first of the two that lacks room

@@ -25,7 +25,7 @@ use Rattle.steps.specs.declared.Ended.the-variants.{Done, Refused}
 pub record Running (b : Lent) (Q : query.Query) (l : List Settled) (p : Progress) (held settled : List ℕ) : Type 0 where
   pub made : p .settled ≤ length l
   pub table : Holds (p .table) held (heldMap (network (tables b) Q) (distanceIn (take (p .settled) l)))
-  pub slots : p .table .capacity ≡ min (length (b .held) / 16) (min (vertexCount (tables b)) 65536)
+  pub slots : p .table .room ≡ min (length (b .held) / 16) (min (vertexCount (tables b)) 65536)
   pub long : length settled ≡ length (b .settled)
   pub listed : take (8 * p .settled) settled ≡ flatMap settledBytes (take (p .settled) l)
   pub room : (j : ℕ) → j ≤ p .settled → Room b Q l j

@@ -17,11 +17,11 @@ ghost use Rattle.meeting.specs.Answer.{Leads};
 ghost use Rattle.blocks.specs.Block.{inBlock, staysIn, chance};
 ghost use Rattle.surveys.specs.Survey.{tallied, Waiting, Surveyed, Gap, Started};
 use blocks::note;
+use blocks::offer_in;
 use blocks::stays;
 use marks::clear;
 use passing::Arriving;
 use passing::from_at;
-use passing::offer_at;
 use words::Ticks;
 use worktable::Passed;
 use worktable::Table;
@@ -111,7 +111,7 @@ fn survey(
     let mut j = 0;
     while j < n {
         let u = from_at(walks, hops, arriving, j);
-        let offer = offer_at(walks, hops, arriving, j);
+        let offer = offer_in(walks, hops, arriving, j, u, block);
         tally = survey_one(
             held,
             t,

@@ -4,4 +4,5 @@ pub mod RiseLaws
 pub mod ChainLaws
 pub mod SearchLaws
 pub mod LinkLaws
-pub mod BlankLaws
+pub mod SpareLaws
+pub mod BuildLaws

@@ -48,13 +48,6 @@ module _ (cap m : ℕ) (W : List ℕ) (s w : ℕ) (l : s < cap) (len : cap ≤ l
       off : (k t : ℕ) → Mem cap m (set W s w) k t → t ≢ s
       off k t x z = x .1 (ap (at (set W s w)) z ∙ here ∙ e)
 
-heads-set : (cap m : ℕ) (H : List ℕ) (k x : ℕ) → k < length H → x < cap → ((a : ℕ) → a ≤ m → at H a < cap) → (a : ℕ) → a ≤ m → at (set H k x) a < cap
-heads-set cap m H k x l lx f a la = go (ℕ-discrete a k)
-  where
-    go : Dec (a ≡ k) → at (set H k x) a < cap
-    go (yes e) = rw (e, getD-set-same H k x 0 l) lx
-    go (no ne) = rw (getD-set-other H k a x 0 ne) (f a la)
-
 module _ {r cap m : ℕ} {c : Cols} (sz : Sized r c) (fit : cap ≤ r) (ch : Chained cap m (c .w) (c .h) (c .n)) where
   -- the vacant slot s for the word w
   module _ {s w k : ℕ} (ls : s < cap) (es : at (c .w) s ≡ vacant) (nw : w ≢ vacant) (ek : k ≡ bucketOf m (vertexIn w)) where
@@ -62,7 +55,7 @@ module _ {r cap m : ℕ} {c : Cols} (sz : Sized r c) (fit : cap ≤ r) (ch : Cha
     adds = rw ek (fill-adds cap m (c .w) s w ls (omega (arith, sz .w)) es nw)
 
     k-low : k < length (c .h)
-    k-low = rw ek (omega (arith, sz .h, ch .mask, bucket-le m (vertexIn w)))
+    k-low = rw ek (omega (arith, ch .mask, bucket-le m (vertexIn w)))
 
     link-front : {d : Cols} (n : ℕ) → d ≡ setH (setN c s n) k s → ((t : ℕ) → Mem cap m (c .w) k t → t < s)
         → (Mem cap m (c .w) k (at (c .h) k) × (n ≡ at (c .h) k)) ⊎ (((t : ℕ) → Mem cap m (c .w) k t → ⊥) × (n ≡ s)) → Linked cap m s w c d
@@ -70,8 +63,7 @@ module _ {r cap m : ℕ} {c : Cols} (sz : Sized r c) (fit : cap ≤ r) (ch : Cha
       same-w = refl;
       same-t = refl;
       chained = record {
-        mask = ch .mask;
-        heads = heads-set cap m (c .h) k s k-low ls (ch .heads);
+        mask = rw (length-set (c .h) k s) (ch .mask);
         chain = add-first (Mem cap m (c .w)) (Mem cap m (set (c .w) s w)) (at (c .h)) (at (c .n)) (at (set (c .h) k s)) (at (set (c .n) s n)) k s (ch .chain) adds
             (getD-set-same (c .h) k s 0 k-low) (λ a ne. getD-set-other (c .h) k a s 0 ne) (λ t ne. getD-set-other (c .n) s t n 0 ne) above (ns o);
       };
@@ -109,7 +101,6 @@ module _ {r cap m : ℕ} {c : Cols} (sz : Sized r c) (fit : cap ≤ r) (ch : Cha
       same-t = refl;
       chained = record {
         mask = ch .mask;
-        heads = ch .heads;
         chain = add-behind (Mem cap m (c .w)) (Mem cap m (set (c .w) s w)) (at (c .h)) (at (c .n)) (at N′) k s p (mem-sole cap m (c .w)) (ch .chain) adds
             other (bf .mem) (bf .above) atp gap (ns (decLt (at (c .n) p) p));
       };
@@ -158,8 +149,7 @@ module _ {r cap m : ℕ} {c : Cols} (sz : Sized r c) (fit : cap ≤ r) (ch : Cha
       same-w = refl;
       same-t = refl;
       chained = record {
-        mask = ch .mask;
-        heads = heads-set cap m (c .h) k n lk (omega (arith, cut-next en)) (ch .heads);
+        mask = rw (length-set (c .h) k n) (ch .mask);
         chain = take-first (Mem cap m (c .w)) (Mem cap m (set (c .w) s vacant)) (at (c .h)) (at (c .n)) (at (set (c .h) k n)) k s (mem-sole cap m (c .w)) (ch .chain) takes
             (sym eh ∙ es) (getD-set-same (c .h) k n 0 lk ∙ en) (λ a ne. getD-set-other (c .h) k a n 0 ne);
       };
@@ -167,7 +157,7 @@ module _ {r cap m : ℕ} {c : Cols} (sz : Sized r c) (fit : cap ≤ r) (ch : Cha
     })
       where
         lk : k < length (c .h)
-        lk = rw ek (omega (arith, sz .h, ch .mask, bucket-le m (vertexIn (at (c .w) s))))
+        lk = rw ek (omega (arith, ch .mask, bucket-le m (vertexIn (at (c .w) s))))
 
     pub cut-behind : {p n x : ℕ} {d : Cols} → Before cap m (c .w) (c .n) k s p → n ≡ at (c .n) s → ((n ≡ s) × (x ≡ p)) ⊎ ((n ≢ s) × (x ≡ n)) → d ≡ setN c p x → Linked cap m s vacant c d
     cut-behind {p} {n} {x} bf en o e = rw e (record {
@@ -175,7 +165,6 @@ module _ {r cap m : ℕ} {c : Cols} (sz : Sized r c) (fit : cap ≤ r) (ch : Cha
       same-t = refl;
       chained = record {
         mask = ch .mask;
-        heads = ch .heads;
         chain = take-behind (Mem cap m (c .w)) (Mem cap m (set (c .w) s vacant)) (at (c .h)) (at (c .n)) (at (set (c .n) p x)) k s p (mem-sole cap m (c .w)) (ch .chain) takes
             (bf .mem) (bf .above) ps (λ t ne. getD-set-other (c .n) p t x 0 ne) (np o);
       };

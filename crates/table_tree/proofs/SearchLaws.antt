@@ -38,8 +38,9 @@ module _ {cap m : ℕ} {W H N : List ℕ} (ch : Chained cap m W H N) where
   find-start ek (inl f) ne = record { bucket = ek; mem = f .0; past = λ t mt l. absurd (omega (arith, f .1 t mt)) }
   find-start ek (inr f) ne = absurd (ne (f .0))
 
-  pub head-low : {k s : ℕ} → k ≤ m → s ≡ at H k → s < cap
-  head-low {k = k} l e = rw e (ch .heads k l)
+  -- a head that is no slot has an empty bucket
+  pub first-beyond : {k s : ℕ} → s ≡ at H k → cap ≤ s → First cap m W k cap
+  first-beyond {k = k} es h = inr (refl, λ t mt. absurd (omega (arith, ch .chain .first k t mt .0 .0, es)))
 
   pub first-none : {k s w : ℕ} → s ≡ at H k → w ≡ at W s → (w ≡ vacant) ⊎ (bucketOf m (vertexIn w) ≢ k) → First cap m W k cap
   first-none {k} {s} {w} es ew o = inr (refl, λ t mt. go o (ch .chain .first k t mt .0))
@@ -51,9 +52,9 @@ module _ {cap m : ℕ} {W H N : List ℕ} (ch : Chained cap m W H N) where
       go (inl z) mh = mh .1 (sym q ∙ z)
       go (inr z) mh = z (ap (λ (x : ℕ). bucketOf m (vertexIn x)) q ∙ mh .2)
 
-  pub first-some : {k s w : ℕ} → k ≤ m → s ≡ at H k → w ≡ at W s → w ≢ vacant → bucketOf m (vertexIn w) ≡ k → First cap m W k s
+  pub first-some : {k s w : ℕ} → s < cap → s ≡ at H k → w ≡ at W s → w ≢ vacant → bucketOf m (vertexIn w) ≡ k → First cap m W k s
   first-some {k} {s} {w} l es ew n o = inl (
-    (head-low l es, (λ z. n (ew ∙ z)), ap (λ (x : ℕ). bucketOf m (vertexIn x)) (sym ew) ∙ o),
+    (l, (λ z. n (ew ∙ z)), ap (λ (x : ℕ). bucketOf m (vertexIn x)) (sym ew) ∙ o),
     λ t mt. rw es (ch .chain .first k t mt .1),
   )
 

@@ -3,7 +3,7 @@ use mathlib.Core.Path.{_≡_}
 use mathlib.Core.Logic.{_≢_, _⊎_}
 use mathlib.Core.List.{List}
 use Prim.Native.Nat.{ℕ, _<_, _≤_}
-use lib.ListN.{set}
+use lib.ListN.{length, set}
 use Rattle.table_bytes.specs.Columns.{Cols, at}
 use Rattle.table_tree.specs.Words.{vacant, vertexIn, bucketOf}
 
@@ -22,10 +22,9 @@ pub record Chain (M : ℕ → ℕ → Type 0) (H N : ℕ → ℕ) : Type 0 where
   pub first : (k t : ℕ) → M k t → M k (H k) × (t ≤ H k)
   pub step : (k s : ℕ) → M k s → Step (M k) s (N s)
 
--- the heads and nexts are the chains of the words W
+-- The heads and nexts are the chains of the words W. The head of an empty bucket may be anything.
 pub record Chained (cap m : ℕ) (W H N : List ℕ) : Type 0 where
-  pub mask : m < cap
-  pub heads : (k : ℕ) → k ≤ m → at H k < cap
+  pub mask : m < length H
   pub chain : Chain (Mem cap m W) (at H) (at N)
 
 -- slot s has the vertex u

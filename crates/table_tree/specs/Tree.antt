@@ -18,9 +18,13 @@ pub record Shape (cap : ℕ) (T : List ℕ) : Type 0 where
   pub low : (q : ℕ) → 1 ≤ q → q < 2 * cap → at T q < cap
   pub under : (q : ℕ) → 1 ≤ q → q < 2 * cap → Anc q (cap + at T q)
 
+-- of the slots x and y the slot z has the least word, by what the tree compares
+abbrev pub Wins : List ℕ → ℕ → ℕ → ℕ → Type 0
+Wins W x y z = (key (at W z) ≤ key (at W x)) × (key (at W z) ≤ key (at W y)) × ((z ≡ x) ⊎ (z ≡ y))
+
 -- node q holds the winner of the two below it
 abbrev pub Ok : List ℕ → List ℕ → ℕ → Type 0
-Ok W T q = (key (at W (at T q)) ≤ key (at W (at T (2 * q)))) × (key (at W (at T q)) ≤ key (at W (at T (2 * q + 1)))) × ((at T q ≡ at T (2 * q)) ⊎ (at T q ≡ at T (2 * q + 1)))
+Ok W T q = Wins W (at T (2 * q)) (at T (2 * q + 1)) (at T q)
 
 pub record Win (cap : ℕ) (W T : List ℕ) : Type 0 where
   pub shape : Shape cap T
@@ -39,9 +43,15 @@ pub record Changed (cap i x : ℕ) (c d : Cols) : Type 0 where
   pub n : d .n ≡ c .n
   pub win : Win cap (d .w) (d .t)
 
--- a table without entries: every slot names the next one as its successor
-pub record Blank (cap i : ℕ) (c : Cols) : Type 0 where
-  pub words : (j : ℕ) → j < i → at (c .w) j ≡ vacant
-  pub nexts : (j : ℕ) → j < i → at (c .n) j ≡ (j + 1) % 65536
-  pub heads : (j : ℕ) → j < i → at (c .h) j ≡ 0
-  pub leaves : (j : ℕ) → j < i → at (c .t) (cap + j) ≡ j
+-- the slots from `from` up to i are vacant, and each names the next one as its successor; all else is as it was
+pub record Spared (from i : ℕ) (c d : Cols) : Type 0 where
+  pub words : (j : ℕ) → from ≤ j → j < i → at (d .w) j ≡ vacant
+  pub nexts : (j : ℕ) → from ≤ j → j < i → at (d .n) j ≡ (j + 1) % 65536
+  pub old-words : (j : ℕ) → j < from → at (d .w) j ≡ at (c .w) j
+  pub old-nexts : (j : ℕ) → j < from → at (d .n) j ≡ at (c .n) j
+  pub h : d .h ≡ c .h
+  pub t : d .t ≡ c .t
+
+-- the leaves of a tree over cap slots, of which the first i are set
+abbrev pub Leaves : ℕ → ℕ → List ℕ → Type 0
+Leaves cap i T = (j : ℕ) → j < i → at T (cap + j) ≡ j

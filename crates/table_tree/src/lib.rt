@@ -7,7 +7,7 @@ ghost use Prim.Native.Nat.{_+_, _*_, _<_, _≤_, min};
 ghost use lib.ListN.{length};
 ghost use Rattle.table_bytes.specs.Columns.{cols, at, setH, setN};
 ghost use Rattle.table_tree.specs.Words.{vacant, vertexIn, key, bucketOf, Slotted};
-ghost use Rattle.table_tree.specs.Tree.{Win, Changed, Blank, Kept};
+ghost use Rattle.table_tree.specs.Tree.{Win, Wins, Changed, Kept, Spared, Leaves};
 ghost use Rattle.table_tree.specs.Chains.{Mem, Chained, Slot, First, Before, Linked};
 use table_bytes::head;
 use table_bytes::next;
@@ -74,12 +74,15 @@ pub fn lower_word(b: &mut [u8], r: usize, cap: usize, i: usize, x: u64)
     }
 }
 
-// The first slot of bucket k, or cap where the bucket is empty. A head is never reset, so it is tested.
+// The first slot of bucket k, or cap where the bucket is empty. A head is neither prepared nor reset, so it is tested.
 fn first(b: &[u8], r: usize, cap: usize, mask: usize, k: usize) -> usize
     requires { ⌜ Slotted r cap (now b) × Chained cap mask (cols r (now b) .w) (cols r (now b) .h) (cols r (now b) .n) × (k ≤ mask) ⌝ }
     ensures { λ x. ⌜ First cap mask (cols r (now (b .entry)) .w) k x ⌝ }
 {
     let s = head(b, r, k);
+    if cap <= s {
+        return cap;
+    }
     let w = word(b, r, s);
     if w == VACANT {
         return cap;
@@ -186,31 +189,51 @@ pub fn cut(b: &mut [u8], r: usize, cap: usize, mask: usize, s: usize)
     set_next(b, r, p, passed(n, s, p));
 }
 
-// Every slot is vacant, every bucket empty, and slot i + 1 is behind slot i in the list of the vacant ones.
-pub fn blank(b: &mut [u8], r: usize, cap: usize)
-    requires { ⌜ Slotted r cap (now b) ⌝ }
-    ensures { λ _. ⌜ Blank cap cap (cols r (now (b .exit))) ⌝ }
+// The slots from `from` on become vacant, and slot i + 1 is behind slot i in the list of the vacant ones.
+pub fn spare(b: &mut [u8], r: usize, from: usize, cap: usize)
+    requires { ⌜ Slotted r cap (now b) × (from ≤ cap) ⌝ }
+    ensures { λ _. ⌜ Spared from cap (cols r (now (b .entry))) (cols r (now (b .exit))) ⌝ }
 {
-    let mut i = 0;
+    let mut i = from;
     while i < cap {
         set_word(b, r, i, VACANT);
         set_next(b, r, i, (i + 1) % 65536);
-        set_head(b, r, i, 0);
+        i += 1;
+    }
+}
+
+// The leaves of a tree over cap slots.
+pub fn plant(b: &mut [u8], r: usize, cap: usize)
+    requires { ⌜ Slotted r cap (now b) ⌝ }
+    ensures { λ _. ⌜ Kept (cols r (now (b .entry))) (cols r (now (b .exit))) × Leaves cap cap (cols r (now (b .exit)) .t) ⌝ }
+{
+    let mut i = 0;
+    while i < cap {
         set_tree(b, r, cap + i, i);
         i += 1;
     }
 }
 
-// The nodes above the leaves, where all words are equal.
+// Of two slots the one with the lesser word.
+fn winner(b: &[u8], r: usize, x: usize, y: usize) -> usize
+    requires { ⌜ (length (now b) ≡ 16 * r) × (x < r) × (y < r) ⌝ }
+    ensures { λ z. ⌜ Wins (cols r (now (b .entry)) .w) x y z ⌝ }
+{
+    if word(b, r, y) < word(b, r, x) { y } else { x }
+}
+
+// The nodes above the leaves, played from the last to the first.
 pub fn build(b: &mut [u8], r: usize, cap: usize)
-    requires { ⌜ Slotted r cap (now b) × Blank cap cap (cols r (now b)) ⌝ }
+    requires { ⌜ Slotted r cap (now b) × Leaves cap cap (cols r (now b) .t) ⌝ }
     ensures { λ _. ⌜ Kept (cols r (now (b .entry))) (cols r (now (b .exit))) × Win cap (cols r (now (b .exit)) .w) (cols r (now (b .exit)) .t) ⌝ }
 {
     let mut p = cap;
     while 1 < p {
         p -= 1;
         let x = tree(b, r, 2 * p);
-        set_tree(b, r, p, x);
+        let y = tree(b, r, 2 * p + 1);
+        let z = winner(b, r, x, y);
+        set_tree(b, r, p, z);
     }
 }
 

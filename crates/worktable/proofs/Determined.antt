@@ -12,7 +12,7 @@ use Rattle.worktable.specs.declared.Passed.{Passed}
 use Rattle.journeys.proofs.Tests.{never}
 use Rattle.worktable.proofs.MapLaws.{absent-known, spent-held, foremost-one}
 use Rattle.worktable.proofs.TableLaws.{place-one, place-entry}
-use Rattle.worktable.proofs.capacity.Reads as capacity
+use Rattle.worktable.proofs.room.Reads as room
 use Rattle.worktable.proofs.free.Reads as free
 use Rattle.worktable.proofs.find.Reads as find
 use Rattle.worktable.proofs.look.Reads as look
@@ -20,8 +20,8 @@ use Rattle.worktable.proofs.settle_at.Reads as settle-at
 use Rattle.worktable.proofs.least.Reads as least
 use Rattle.worktable.proofs.finish.Reads as finish
 
-pub capacity-one : (κs : _) (a : _) (z z′ : _) (e e′ : _) → capacity.Post κs a z e → capacity.Post κs a z′ e′ → z ≡ z′
-capacity-one κs a z z′ e e′ p q = p ∙ sym q
+pub room-one : (κs : _) (a : _) (z z′ : _) (e e′ : _) → room.Post κs a z e → room.Post κs a z′ e′ → z ≡ z′
+room-one κs a z z′ e e′ p q = p ∙ sym q
 
 pub free-one : (κs : _) (a : _) (z z′ : _) (e e′ : _) → free.Post κs a z e → free.Post κs a z′ e′ → z ≡ z′
 free-one κs a z z′ e e′ p q = p ∙ sym q
@@ -69,12 +69,12 @@ pub least-one : (κs : _) (a : _) (z z′ : _) (e e′ : _) → least.Pre κs a 
 least-one κs a z z′ e e′ o p q = nearest-same _ _ z z′ o p q
 
 -- `start`: the map, and how many slots there are
-pub start-one : {t r : Table} {b c : List ℕ} {n : ℕ} → Holds t b empty × (t .capacity ≡ n) → Holds r c empty × (r .capacity ≡ n) → (mapOf t b ≡ mapOf r c) × (t .capacity ≡ r .capacity)
+pub start-one : {t r : Table} {b c : List ℕ} {n : ℕ} → Holds t b empty × (t .room ≡ n) → Holds r c empty × (r .room ≡ n) → (mapOf t b ≡ mapOf r c) × (t .room ≡ r .room)
 start-one p q = (p .0 .map ∙ sym (q .0 .map), p .1 ∙ sym (q .1))
 
 -- `insert`, `pass`, `settle_at` and `drop`: the same
-pub gives-one : {t r r′ : Table} {b c c′ : List ℕ} {m : Map} → Gives t r b c m → Gives t r′ b c′ m → (mapOf r c ≡ mapOf r′ c′) × (r .capacity ≡ r′ .capacity)
-gives-one p q = (p .holds .map ∙ sym (q .holds .map), p .capacity ∙ sym (q .capacity))
+pub gives-one : {t r r′ : Table} {b c c′ : List ℕ} {m : Map} → Gives t r b c m → Gives t r′ b c′ m → (mapOf r c ≡ mapOf r′ c′) × (r .room ≡ r′ .room)
+gives-one p q = (p .holds .map ∙ sym (q .holds .map), p .room ∙ sym (q .room))
 
 pub finish-one : (κs : _) (a : _) (z z′ : _) (e e′ : _) → finish.Post κs a z e → finish.Post κs a z′ e′ → z ≡ z′
 finish-one κs a z z′ e e′ p q = p .0 ∙ sym (q .0)

@@ -9,7 +9,7 @@ use lib.ListN.{length, set}
 use lib.Seq.{getD-set-same, getD-set-other}
 use Rattle.table_bytes.specs.Columns.{Cols, at, setN, setW, Sized}
 use Rattle.table_tree.specs.Words.{vacant, vertexIn, bucketOf, key}
-use Rattle.table_tree.specs.Tree.{Win, Changed, Blank, Kept}
+use Rattle.table_tree.specs.Tree.{Win, Changed}
 use Rattle.table_tree.specs.Chains.{Mem, Linked}
 use Rattle.table_tree.proofs.ChainLaws.{chain-other, chain-iff}
 use Rattle.table_tree.proofs.TreeLaws.{same-key}
@@ -20,7 +20,7 @@ use Rattle.worktable.proofs.LookupLaws.{Fit, set-single, set-at}
 
 -- the numbers of a table with another top and another count of free slots
 abbrev pub numbers : Table → ℕ → ℕ → Table
-numbers t top free = record { slots = t .slots; capacity = t .capacity; mask = t .mask; top = top; free = free }
+numbers t top free = record { slots = t .slots; room = t .room; capacity = t .capacity; mask = t .mask; top = top; free = free }
 
 -- a word with the same key leaves the tree in order
 pub same-changed : {r cap s w : ℕ} {c d : Cols} → Sized r c → s < r → key w ≡ key (at (c .w) s) → Win cap (c .w) (c .t) → d ≡ setW c s w → Changed cap s w c d
@@ -48,7 +48,7 @@ vacancies-keep cap W N W′ N′ (x ∷ l) top s o k f =
     (f .0, f .1, e .0, f .3, rw (e .1) (vacancies-keep cap W N W′ N′ l (at N x) s (o .1) k (f .4)))
 
 -- the link behind the last vacant slot may be anything
-vacancies-mod : (cap : ℕ) (W N l : List ℕ) (top : ℕ) → cap ≤ 65536 → Vacancies cap W N l top → Vacancies cap W N l (top % 65536)
+pub vacancies-mod : (cap : ℕ) (W N l : List ℕ) (top : ℕ) → cap ≤ 65536 → Vacancies cap W N l top → Vacancies cap W N l (top % 65536)
 unfolding Vacancies
 vacancies-mod cap W N [] top h f = tt
 vacancies-mod cap W N (s ∷ l) top h f = let e : top % 65536 ≡ s = omega (arith, f .0, f .1) in (e, f .1, f .2, f .3, f .4)
@@ -104,7 +104,7 @@ module _ {t : Table} {c : Cols} (p : Layout t c) where
     pub change-layout : Layout t d
     change-layout = record {
       win = ch .win;
-      chained = rw (ch .w, ch .h, ch .n) (record { mask = p .chained .mask; heads = p .chained .heads; chain = chain-iff _ _ _ _ members back (p .chained .chain) });
+      chained = rw (ch .w, ch .h, ch .n) (record { mask = p .chained .mask; chain = chain-iff _ _ _ _ members back (p .chained .chain) });
       single = rw (ch .w) (set-single f (p .single));
       list = p .list;
       count = p .count;
@@ -156,7 +156,6 @@ module _ {t : Table} {c : Cols} (p : Layout t c) where
       win = rw e (ch .win);
       chained = rw (drop-words, links, ap (λ (z : Cols). z .h) e, ch .h) (record {
         mask = lk .chained .mask;
-        heads = lk .chained .heads;
         chain = chain-other _ _ _ _ (λ k x m. getD-set-other (c₁ .n) s x (t .top) 0 (λ z. m .1 (ap (at (set (c .w) s vacant)) z ∙ gone))) (lk .chained .chain);
       });
       single = rw drop-words (set-single f (p .single));
@@ -173,57 +172,3 @@ module _ {t : Table} {c : Cols} (p : Layout t c) where
             (λ y ne z. (getD-set-other (c .w) s y vacant 0 ne ∙ z, getD-set-other (c₁ .n) s y (t .top) 0 ne ∙ lk .rest y ne z)) (p .linked)),
       );
     }
-
--- ---- the empty table
-ups : ℕ → ℕ → List ℕ
-ups zero i = []
-ups (suc k) i = i ∷ ups k (i + 1)
-
-ups-length : (k i : ℕ) → length (ups k i) ≡ k
-unfolding ups
-ups-length zero i = refl
-ups-length (suc k) i = ap suc (ups-length k (i + 1))
-
-ups-outside : (k i s : ℕ) → s < i → Outside s (ups k i)
-unfolding ups Outside
-ups-outside zero i s h = tt
-ups-outside (suc k) i s h = ((λ e. absurd (omega arith)), ups-outside k (i + 1) s (omega arith))
-
-ups-linked : (cap : ℕ) (W N : List ℕ) → cap ≤ 65536 → ((j : ℕ) → j < cap → at W j ≡ vacant) → ((j : ℕ) → j < cap → at N j ≡ (j + 1) % 65536) → (k i : ℕ) → i + k ≡ cap → Vacancies cap W N (ups k i) i
-unfolding ups Vacancies
-ups-linked cap W N small w n zero i e = tt
-ups-linked cap W N small w n (suc k) i e = (
-  refl,
-  omega arith,
-  w i (omega arith),
-  ups-outside k (i + 1) i (omega arith),
-  rw (n i (omega arith)) (vacancies-mod cap W N (ups k (i + 1)) (i + 1) small (ups-linked cap W N small w n k (i + 1) (omega arith))),
-)
-
-pub empty-layout : {t : Table} {c d : Cols} → t .capacity ≤ 65536 → t .mask < t .capacity → t .top ≡ 0 → t .free ≡ t .capacity → Blank (t .capacity) (t .capacity) c → Kept c d
-    → Win (t .capacity) (d .w) (d .t) → Layout t d
-empty-layout {t} {c} {d} small mask top free b k win = record {
-  win = win;
-  chained = record {
-    mask = mask;
-    heads = λ x l. rw (heads x (omega arith)) (omega arith);
-    chain = record { first = λ x y m. absurd (m .1 (words y (m .0))); step = λ x y m. absurd (m .1 (words y (m .0))) };
-  };
-  single = λ x y lx ly nx ny e. absurd (nx (words x lx));
-  list = ups (t .capacity) 0;
-  count = ups-length (t .capacity) 0 ∙ sym free;
-  top16 = omega arith;
-  linked = rw top (ups-linked (t .capacity) (d .w) (d .n) small words nexts (t .capacity) 0 (omega arith));
-}
-  where
-    words : (j : ℕ) → j < t .capacity → at (d .w) j ≡ vacant
-    words j h = ap (λ (l : List ℕ). at l j) (k .w) ∙ b .words j h
-
-    nexts : (j : ℕ) → j < t .capacity → at (d .n) j ≡ (j + 1) % 65536
-    nexts j h = ap (λ (l : List ℕ). at l j) (k .n) ∙ b .nexts j h
-
-    heads : (j : ℕ) → j < t .capacity → at (d .h) j ≡ 0
-    heads j h = ap (λ (l : List ℕ). at l j) (k .h) ∙ b .heads j h
-
-pub empty-words : {n : ℕ} {c d : Cols} → Blank n n c → Kept c d → (j : ℕ) → j < n → at (d .w) j ≡ vacant
-empty-words b k j h = ap (λ (l : List ℕ). at l j) (k .w) ∙ b .words j h

@@ -3,6 +3,7 @@ pub mod WordLaws
 pub mod LookupLaws
 pub mod LayoutLaws
 pub mod TableLaws
+pub mod GrowLaws
 pub mod PassLaws
 pub mod NearestLaws
 pub mod FinishLaws

@@ -52,6 +52,21 @@ sought (suc n) W u = go (ℕ-discrete (at W n) vacant) (ℕ-discrete (vertexIn (
     go (no p) (yes q) s = rw (select-no (no p) next (select (yes q) (at W n) next) p, select-yes (yes q) (at W n) next q) (inl (n, record { low = omega arith; used = p; vertex = q }, refl))
     go (no p) (no q) s = rw (select-no (no p) next (select (no q) (at W n) next) p, select-no (no q) (at W n) next q) (below (λ z. q) s)
 
+-- slots that are vacant behind the first n tell nothing
+lookup-same : (n : ℕ) (W W′ : List ℕ) (u : ℕ) → ((j : ℕ) → j < n → at W′ j ≡ at W j) → lookup n W′ u ≡ lookup n W u
+unfolding lookup
+lookup-same zero W W′ u f = refl
+lookup-same (suc n) W W′ u f = rw (f n (omega arith), lookup-same n W W′ u (λ j h. f j (omega arith)))
+
+pub lookup-more : (n m : ℕ) (W W′ : List ℕ) (u : ℕ) → n ≤ m → ((j : ℕ) → j < n → at W′ j ≡ at W j) → ((j : ℕ) → n ≤ j → j < m → at W′ j ≡ vacant) → lookup m W′ u ≡ lookup n W u
+unfolding lookup
+lookup-more n zero W W′ u h f g = let z : zero ≡ n = omega arith in ap (λ (k : ℕ). lookup k W u) z
+lookup-more n (suc m) W W′ u h f g = go (ℕ-discrete n (suc m)) (λ k. lookup-more n m W W′ u k f (λ j a l. g j a (omega arith)))
+  where
+    go : Dec (n ≡ suc m) → (n ≤ m → lookup m W′ u ≡ lookup n W u) → lookup (suc m) W′ u ≡ lookup n W u
+    go (yes e) back = ap (λ (k : ℕ). lookup k W′ u) (sym e) ∙ lookup-same n W W′ u f
+    go (no e) back = select-yes (ℕ-discrete (at W′ m) vacant) (lookup m W′ u) (select (ℕ-discrete (vertexIn (at W′ m)) u) (at W′ m) (lookup m W′ u)) (g m (omega arith) (omega arith)) ∙ back (omega arith)
+
 pub lookup-none : (n : ℕ) (W : List ℕ) (u : ℕ) → Missing n W u → lookup n W u ≡ vacant
 unfolding Sought
 lookup-none n W u f = go (sought n W u)

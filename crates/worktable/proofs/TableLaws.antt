@@ -14,7 +14,7 @@ use Rattle.table_tree.specs.Chains.{At, Missing, Slot, Linked}
 use Rattle.table_records.specs.Fields.{distanceIn, stateIn, remainingIn}
 use Rattle.worktable.specs.Map.{Entry, absent, known, Map, distanceOf, stateOf, remainingOf, empty, put, one, size, sizeTo}
 use Rattle.worktable.specs.Inside.{entryIn, lookup, Single, Layout}
-use Rattle.worktable.specs.Table.{mapOf, InOrder, Holds, Place, Gives, FoundIs}
+use Rattle.worktable.specs.Table.{mapOf, Roomy, InOrder, Holds, Place, Gives, FoundIs}
 use Rattle.worktable.specs.declared.Table.{Table}
 use Rattle.worktable.specs.declared.Found.{Found}
 use Rattle.worktable.proofs.MapLaws.{put-same, size-put, size-empty}
@@ -152,8 +152,16 @@ module _ {t : Table} {b : List ℕ} (o : InOrder t b) where
 
     pub gives : Gives t (numbers t top free) b b′ (put (mapOf t b) u e)
     gives = record {
-      holds = record { order = record { slotted = record { len = len ∙ o .slotted .len; fits = o .slotted .fits; small = o .slotted .small }; layout = λ h. layout; counted = counted }; map = map-is };
-      capacity = refl;
+      holds = record {
+        order = record {
+          slotted = record { len = len ∙ o .slotted .len; fits = o .slotted .fits; small = o .slotted .small };
+          roomy = record { low = o .roomy .low; fits = o .roomy .fits; small = o .roomy .small; mask = o .roomy .mask };
+          layout = λ h. layout;
+          counted = counted;
+        };
+        map = map-is;
+      };
+      room = refl;
       stays = stays;
     }
 
@@ -191,16 +199,24 @@ gives-gone {t} {b} {b′} {c₁} {c₂} {u} {s} o p sz lk ch e len =
 
 -- nothing was changed
 pub gives-same : {t : Table} {b : List ℕ} {m : Map} → InOrder t b → m ≡ mapOf t b → Gives t t b b m
-gives-same {t} {b} {m} o e = record { holds = record { order = o; map = sym e }; capacity = refl; stays = λ v s n p. p }
+gives-same {t} {b} {m} o e = record { holds = record { order = o; map = sym e }; room = refl; stays = λ v s n p. p }
 
--- an empty table
-pub start-holds : {t : Table} {b : List ℕ} → Slotted (t .slots) (t .capacity) b → (0 < t .capacity → Layout t (cols (t .slots) b)) → ((j : ℕ) → j < t .capacity → at (cols (t .slots) b .w) j ≡ vacant)
-    → t .free ≡ t .capacity → Holds t b empty
+-- a table without slots is in order and empty, whatever the bytes are
+pub start-holds : {t : Table} {b : List ℕ} → Slotted (t .slots) (t .capacity) b → Roomy t → t .capacity ≡ 0 → t .free ≡ 0 → Holds t b empty
 unfolding mapOf empty size
-start-holds {t} {b} slotted layout words free = record {
-  order = record { slotted = slotted; layout = layout; counted = omega (arith, size-empty 65536 (mapOf t b) none, free) };
-  map = fun-ext none;
+start-holds {t} {b} slotted roomy none free = record {
+  order = record { slotted = slotted; roomy = roomy; layout = λ h. absurd (omega arith); counted = omega (arith, size-empty 65536 (mapOf t b) nobody) };
+  map = fun-ext nobody;
 }
   where
-    none : (u : ℕ) → mapOf t b u ≡ absent
-    none u = entry-vacant (lookup-none (t .capacity) (cols (t .slots) b .w) u (λ i l n. absurd (n (words i l))))
+    nobody : (u : ℕ) → mapOf t b u ≡ absent
+    nobody u = entry-vacant (lookup-none (t .capacity) (cols (t .slots) b .w) u (λ i l n. absurd (omega arith)))
+
+-- one change after another
+pub gives-then : {t g r : Table} {b c d : List ℕ} {m : Map} → InOrder t b → Gives t g b c (mapOf t b) → Gives g r c d m → Gives t r b d m
+unfolding one
+gives-then o p q = record {
+  holds = q .holds;
+  room = q .room ∙ p .room;
+  stays = λ v s n l. q .stays v s n (p .stays v s (λ e. absurd (omega (arith, place-one-more o l, ap one e))) l);
+}

@@ -3,7 +3,7 @@ use mathlib.Core.Path.{_≡_}
 use mathlib.Core.Bool.{true, false}
 use mathlib.Core.Logic.{_≢_}
 use mathlib.Core.List.{List}
-use Prim.Native.Nat.{ℕ, _+_, _<_}
+use Prim.Native.Nat.{ℕ, _+_, _<_, _≤_}
 use Rattle.table_bytes.specs.Columns.{cols}
 use Rattle.table_tree.specs.Words.{Slotted}
 use Rattle.table_tree.specs.Chains.{At}
@@ -18,9 +18,17 @@ use Rattle.worktable.specs.declared.Passed.{Passed}
 unfoldable pub mapOf : Table → List ℕ → Map
 mapOf t b u = entryIn (lookup (t .capacity) (cols (t .slots) b .w) u)
 
+-- `capacity` slots are laid out, of `room` that there may be
+pub record Roomy (t : Table) : Type 0 where
+  pub low : t .capacity ≤ t .room
+  pub fits : t .room ≤ t .slots
+  pub small : t .room ≤ 65536
+  pub mask : 0 < t .room → t .mask < t .slots
+
 -- the table is in order; a table without slots has no layout
 pub record InOrder (t : Table) (b : List ℕ) : Type 0 where
   pub slotted : Slotted (t .slots) (t .capacity) b
+  pub roomy : Roomy t
   pub layout : 0 < t .capacity → Layout t (cols (t .slots) b)
   pub counted : size (mapOf t b) + t .free ≡ t .capacity
 
@@ -36,7 +44,7 @@ pub record Place (t : Table) (b : List ℕ) (u s : ℕ) : Type 0 where
 -- from the numbers t and the bytes b to r and c: the map becomes m, and who stays keeps its slot
 pub record Gives (t r : Table) (b c : List ℕ) (m : Map) : Type 0 where
   pub holds : Holds r c m
-  pub capacity : r .capacity ≡ t .capacity
+  pub room : r .room ≡ t .room
   pub stays : (v s : ℕ) → m v ≢ absent → Place t b v s → Place r c v s
 
 -- the answer of `find`

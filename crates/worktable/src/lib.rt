@@ -3,7 +3,7 @@
 // Rests on: `table_bytes`, `table_tree`, `table_records`, the zeroing of `words`; the held records of `journeys`.
 ghost use mathlib.Core.Path.{_≡_};
 ghost use mathlib.Core.Logic.{_≢_};
-ghost use Prim.Native.Nat.{_-_, _/_, _%_, _<_, min};
+ghost use Prim.Native.Nat.{_-_, _/_, _%_, _<_, _≤_, min};
 ghost use lib.Dec.{eqb};
 ghost use lib.ListN.{length};
 ghost use Rattle.table_bytes.specs.Columns.{cols};
@@ -27,7 +27,6 @@ use table_records::pack;
 use table_records::sort;
 use table_records::spread;
 use table_tree::VACANT;
-use table_tree::blank;
 use table_tree::build;
 use table_tree::change_word;
 use table_tree::cut;
@@ -35,13 +34,16 @@ use table_tree::lesser;
 use table_tree::link;
 use table_tree::lower_word;
 use table_tree::mask_of;
+use table_tree::plant;
+use table_tree::spare;
 use table_tree::vertex_in;
 
 const SETTLED: u64 = 0x8000_0000_0000_0000;
 
-// The numbers that go with a buffer while it is a table.
+// The numbers that go with a buffer while it is a table: the slots that it has, those that may be used, and how many of these are laid out.
 pub struct Table {
     slots: usize,
+    room: usize,
     capacity: usize,
     mask: usize,
     top: usize,
@@ -66,46 +68,47 @@ pub enum Nearest {
     Nothing,
 }
 
-// An empty table in any bytes, of at most n slots. More than 65,536 are never needed.
-pub fn start(b: &mut [u8], n: usize) -> Table
+// The mask of the buckets of a table with that room.
+fn mask_for(room: usize) -> usize
+    requires { ⌜ room ≤ 65536 ⌝ }
+    ensures { λ m. ⌜ (0 < room → m < room) ⌝ }
+{
+    if room == 0 {
+        return 0;
+    }
+    mask_of(room)
+}
+
+// An empty table in any bytes, of at most n slots. More than 65,536 are never needed. No slot is laid out before an entry asks for it, so that a short search does not pay for room that it leaves alone.
+pub fn start(b: &[u8], n: usize) -> Table
     requires { ⌜ length (now b) % 16 ≡ 0 ⌝ }
-    ensures { λ t. ⌜ Holds t (now (b .exit)) empty × (t .capacity ≡ min (length (now (b .entry)) / 16) (min n 65536)) ⌝ }
+    ensures { λ t. ⌜ Holds t (now (b .entry)) empty × (t .room ≡ min (length (now (b .entry)) / 16) (min n 65536)) ⌝ }
 {
     let r = b.len() / 16;
-    let capacity = lesser(r, lesser(n, 65536));
-    if capacity == 0 {
-        return Table {
-            slots: r,
-            capacity: 0,
-            mask: 0,
-            top: 0,
-            free: 0,
-        };
-    }
-    blank(b, r, capacity);
-    build(b, r, capacity);
+    let room = lesser(r, lesser(n, 65536));
     Table {
         slots: r,
-        capacity: capacity,
-        mask: mask_of(capacity),
+        room: room,
+        capacity: 0,
+        mask: mask_for(room),
         top: 0,
-        free: capacity,
+        free: 0,
     }
 }
 
-// How many slots there are.
-pub fn capacity(t: Table) -> usize
-    ensures { λ n. ⌜ n ≡ t .capacity ⌝ }
+// How many slots may be used.
+pub fn room(t: Table) -> usize
+    ensures { λ n. ⌜ n ≡ t .room ⌝ }
 {
-    t.capacity
+    t.room
 }
 
-// How many slots are free.
+// How many more entries there may be.
 pub fn free(b: &[u8], t: Table) -> usize
     requires { ⌜ InOrder t (now b) ⌝ }
-    ensures { λ n. ⌜ n ≡ t .capacity - size (mapOf t (now (b .entry))) ⌝ }
+    ensures { λ n. ⌜ n ≡ t .room - size (mapOf t (now (b .entry))) ⌝ }
 {
-    t.free
+    t.room - t.capacity + t.free
 }
 
 // The slot of vertex u.
@@ -148,8 +151,37 @@ fn word_of(u: usize, d: u32, n: u32) -> u64
     (k as u64) * 4294967296 + (u as u64) * 65536 + (n as u64)
 }
 
-// A new vertex, unsettled.
-pub fn insert(b: &mut [u8], t: Table, u: usize, d: u32, n: u32) -> Table
+// A table without a vacant slot gets n slots in all. Entries keep their slots and chains, and the tree is played anew.
+fn grow(b: &mut [u8], t: Table, n: usize) -> Table
+    requires { ⌜ InOrder t (now b) × (t .free ≡ 0) × (t .capacity < n) × (n ≤ t .room) ⌝ }
+    ensures { λ r. ⌜ Gives t r (now (b .entry)) (now (b .exit)) (mapOf t (now (b .entry))) × (r .capacity ≡ n) ⌝ }
+{
+    spare(b, t.slots, t.capacity, n);
+    plant(b, t.slots, n);
+    build(b, t.slots, n);
+    Table {
+        slots: t.slots,
+        room: t.room,
+        capacity: n,
+        mask: t.mask,
+        top: t.capacity,
+        free: n - t.capacity,
+    }
+}
+
+// A table with a vacant slot: one that has none doubles, as far as its room goes.
+fn opened(b: &mut [u8], t: Table) -> Table
+    requires { ⌜ InOrder t (now b) × (size (mapOf t (now b)) < t .room) ⌝ }
+    ensures { λ r. ⌜ Gives t r (now (b .entry)) (now (b .exit)) (mapOf t (now (b .entry))) × (size (mapOf t (now (b .entry))) < r .capacity) ⌝ }
+{
+    if 0 < t.free {
+        return t;
+    }
+    grow(b, t, lesser(t.room, 2 * t.capacity + 64))
+}
+
+// A new vertex, unsettled, takes the vacant slot at the top.
+fn enter(b: &mut [u8], t: Table, u: usize, d: u32, n: u32) -> Table
     requires { ⌜ InOrder t (now b) × (u < 65536) × Figure d × (n < 65536) × (mapOf t (now b) u ≡ absent) × (size (mapOf t (now b)) < t .capacity) ⌝ }
     ensures { λ r. ⌜ Gives t r (now (b .entry)) (now (b .exit)) (put (mapOf t (now (b .entry))) u (known d 0 n)) ⌝ }
 {
@@ -161,11 +193,21 @@ pub fn insert(b: &mut [u8], t: Table, u: usize, d: u32, n: u32) -> Table
     // The link of the last vacant slot leads nowhere: it is only kept in range.
     Table {
         slots: t.slots,
+        room: t.room,
         capacity: t.capacity,
         mask: t.mask,
         top: x % 65536,
         free: t.free - 1,
     }
+}
+
+// A new vertex, unsettled.
+pub fn insert(b: &mut [u8], t: Table, u: usize, d: u32, n: u32) -> Table
+    requires { ⌜ InOrder t (now b) × (u < 65536) × Figure d × (n < 65536) × (mapOf t (now b) u ≡ absent) × (size (mapOf t (now b)) < t .room) ⌝ }
+    ensures { λ r. ⌜ Gives t r (now (b .entry)) (now (b .exit)) (put (mapOf t (now (b .entry))) u (known d 0 n)) ⌝ }
+{
+    let ready = opened(b, t);
+    enter(b, ready, u, d, n)
 }
 
 // What the word w of slot s tells. One comparison serves both: a settled word is above every distance.
@@ -248,6 +290,7 @@ pub fn drop(b: &mut [u8], t: Table, u: usize, s: usize) -> Table
     set_next(b, t.slots, s, t.top);
     Table {
         slots: t.slots,
+        room: t.room,
         capacity: t.capacity,
         mask: t.mask,
         top: s,

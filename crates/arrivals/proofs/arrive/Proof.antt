@@ -1,5 +1,8 @@
--- `arrivals::arrive` meets its contract by one of the two ways. Assumes nothing.
+-- `arrivals::arrive` meets its contract by one of the three ways. Assumes nothing.
+use native.Mathlib.Omega.{arith}
+use Rattle.passing.proofs.Few.{hops-few}
 use Rattle.meeting.proofs.Leading.{fits-is}
+use Rattle.blocks.proofs.NextRecord.{zero-length}
 use borrow.Author.Needs.{needs}
 use Rattle.arrivals.proofs.arrive.Statement.{statement}
 use Rattle.arrivals.proofs.arrive.Tie as tie
@@ -10,6 +13,16 @@ meet-all-requires c κs = (c .before .before .before .before .before .before .be
 returns : tie.Need-returns
 returns c = (fits-is (c .before .before .meet-all .ensures), c .before .before .before .before .before .before .before .before .before .before .before .before .pre .1)
 
+add-if2 : tie.Need-add-if2
+add-if2 c =
+    let s = c .before .before .before .before .before .before .before .before .before in
+    record { fits = omega (arith, s .pre .0 .sound .counted .walks, hops-few (s .pre .0 .sound .counted), s .good) }
+
+pass-row-requires : tie.Need-pass-row-requires
+pass-row-requires c κs =
+    let s = c .before .before .before .before .before .before .before .before .before .before .before .before in
+    (s .pre .0, zero-length (s .pre .1), omega (arith, c .before .before .if2 .taken))
+
 pub arrive-spec : {M : Type 1} → statement M
 arrive-spec =
     tie.close
@@ -18,6 +31,11 @@ arrive-spec =
     meet-all-requires
     (λ c. search needs)
     returns
+    add-if2
+    pass-row-requires
+    (λ c. search needs)
+    (λ c. search needs)
+    (λ c. search needs)
     (λ c κs. search needs)
     (λ c. search needs)
     (λ c. search needs)

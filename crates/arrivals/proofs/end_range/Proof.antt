@@ -79,7 +79,7 @@ returns c =
     let x = c .before .before .before .before .before .before .end-block in
     let e = ap (over R n (L .block)) (w .holds .map) ∙ bs.range-next R n m (a .first) (L .block) (L .inv .0) in
     let z = none-fits (L .table) (x .last .0) (over R n (L .block) (mapOf (L .table) (L .held))) (x .ensures .0) (c .enum-told .given .1) in
-    ((suc (L .block), omega (arith, L .inv .0), omega (arith, c .before .before .before .before .before .before .before .before .before .loop-test .taken), omega (arith, z, w .capacity, ap size e)), x .ensures .1)
+    ((suc (L .block), omega (arith, L .inv .0), omega (arith, c .before .before .before .before .before .before .before .before .before .loop-test .taken), omega (arith, z, w .room, ap size e)), x .ensures .1)
 
 add-next-block : tie.Need-add-next-block Inv-loop μ-loop
 add-next-block c = record { fits = omega (arith, c .before .before .before .before .before .before .before .before .before .before .loop-test .taken, c .before .before .before .before .before .before .before .before .before .before .before .before .before .before .before .before .before .before .pre .3) }

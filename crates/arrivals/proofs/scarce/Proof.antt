@@ -78,7 +78,7 @@ returns-2 c =
     let w = bs.range-fits R n k 32 (a .t) (x .last .0) (mapOf (a .t) h) (x .ensures .0) (c .before .before .before .before .before .before .before .before .table .given .1) in
     let e = w .holds .map ∙ ap (overTo R n k 32) (v .touched .holds .map) in
     let z = c .before .before .before .before .end-range2 in
-    (bs.step-over R n k (a .t) (c .before .before .before .before .before .before .before .before .table .given .0 .0) (z .last .0) (z .result) (w .capacity) e (bs.all-over R n m (y .enough) low k (v .low) (v .best)) (λ i l. bs.second-room R n m (y .enough) low k (v .low) (v .best) i l) (z .ensures .0), z .ensures .1)
+    (bs.step-over R n k (a .t) (c .before .before .before .before .before .before .before .before .table .given .0 .0) (z .last .0) (z .result) (w .room) e (bs.all-over R n m (y .enough) low k (v .low) (v .best)) (λ i l. bs.second-room R n m (y .enough) low k (v .low) (v .best) i l) (z .ensures .0), z .ensures .1)
 
 pub scarce-spec : {M : Type 1} → statement M
 scarce-spec =

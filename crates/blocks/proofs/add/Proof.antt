@@ -1,17 +1,19 @@
 -- `blocks::add` meets its contract. Additions take no entry away, so where one has no room the end has none. Assumes nothing.
-use mathlib.Core.Path.{_≡_, ap, _∙_}
+use mathlib.Core.Path.{_≡_, refl, ap, _∙_}
 use mathlib.Core.Bool.{cond, _&&_}
-use Prim.Native.Nat.{ℕ, _+_, _-_, _%_}
+use Prim.Native.Nat.{ℕ, _+_, _-_, _/_, _%_}
 use native.Mathlib.Omega.{arith}
+use borrow.Author.Tests.{eq-eqb}
+use Rattle.journeys.proofs.Tests.{and-true}
 use Rattle.passing.specs.Row.{rowOf, passes}
-use Rattle.worktable.specs.Map.{put, size}
+use Rattle.worktable.specs.Map.{Entry, put, size}
 use Rattle.worktable.specs.Table.{mapOf}
 use Rattle.meeting.specs.Passing.{met}
 use Rattle.meeting.specs.Answer.{ArrivedIs}
 use Rattle.meeting.proofs.Leading as le
 use Rattle.meeting.proofs.Loops as lo
 use Rattle.meeting.proofs.Loops.{Went}
-use Rattle.blocks.specs.Block.{inBlock, staysIn, adds}
+use Rattle.blocks.specs.Block.{inBlock, staysIn, stayers, adds}
 use Rattle.blocks.proofs.BlockOfStep.{adds-size}
 use Rattle.blocks.proofs.NextRecord as nx
 use Rattle.passing.proofs.Few.{hops-few}
@@ -36,8 +38,8 @@ loop-holds c = lo.went-none (c .before .before .before .before .before .before .
 from-at-requires : tie.Need-from-at-requires Inv-loop μ-loop
 from-at-requires c κs = (c .before .before .before .before .before .before .before .before .pre .0 .sound .counted, c .loop-test .taken)
 
-offer-at-requires : tie.Need-offer-at-requires Inv-loop μ-loop
-offer-at-requires c κs = (c .before .before .before .before .before .before .before .before .before .pre .0 .sound, c .before .loop-test .taken)
+offer-in-requires : tie.Need-offer-in-requires Inv-loop μ-loop
+offer-in-requires c κs = (c .before .before .before .before .before .before .before .before .before .pre .0 .sound, c .before .loop-test .taken)
 
 add-one-requires : tie.Need-add-one-requires Inv-loop μ-loop
 add-one-requires c κs =
@@ -48,8 +50,12 @@ add-one-requires c κs =
     let R = rowOf (a .vertices .now) (a .walks .now) (a .hops .now) (a .arriving) in
     let q = c .before .before .from-at .ensures in
     let l = c .before .before .before .loop-test .taken in
-    let i = L .inv .leads in
-    ((i .holds .order, rw q (y .leaves .low (L .j) l), y .leaves .vertices, c .before .offer-at .ensures .1, s .pre .1, omega (arith, y .sound .allowed)), λ h on. (nx.added-left R (passes (a .arriving)) (mapOf (a .t) (a .held .now)) (L .j) l q (a .block) (a .counters .now) (y .news) (i .holds .map) h on, nx.added-entry R (passes (a .arriving)) (mapOf (a .t) (a .held .now)) (L .j) l q (a .block) (a .counters .now) (y .news) (i .holds .map) (c .before .offer-at .ensures .0) h on))
+    let i = L .inv .leads in (
+      (i .holds .order, rw q (y .leaves .low (L .j) l), y .leaves .vertices, c .before .offer-in .ensures .1, s .pre .1, omega (arith, y .sound .allowed)),
+      λ h on.
+          let both = and-true (eq-eqb (c .before .before .from-at .result / 2048) (a .block) h) on in
+          (nx.added-left R (passes (a .arriving)) (mapOf (a .t) (a .held .now)) (L .j) l q (stayers (a .counters .now) (a .block)) (y .news) (i .holds .map) both, nx.added-entry R (passes (a .arriving)) (mapOf (a .t) (a .held .now)) (L .j) l q (stayers (a .counters .now) (a .block)) (y .news) (i .holds .map) (c .before .offer-in .ensures .0 h) both),
+    )
 
 same-length : tie.Need-same-length Inv-loop μ-loop
 same-length c =
@@ -64,9 +70,12 @@ returns c =
     let R = rowOf (a .vertices .now) (a .walks .now) (a .hops .now) (a .arriving) in
     let i = L .inv .leads in
     let m = mapOf (a .t) (a .held .now) in
-    let f = lo.step-map (R .from) (R .offer) (λ u x e. cond (inBlock (a .block) u && staysIn (a .counters .now) (u % 2048)) (met (R .allowed) x (R .departing u) e) e) m (L .j) (i .holds .map) (c .before .before .before .before .before .before .before .from-at .ensures) (c .before .before .before .before .before .before .offer-at .ensures .0) in
+    let f = lo.step-map (R .from) (R .offer) (λ u x e. cond (inBlock (a .block) u && staysIn (a .counters .now) (u % 2048)) (met (R .allowed) x (R .departing u) e) e) m (L .j) (i .holds .map) (c .before .before .before .before .before .before .before .from-at .ensures) refl in
+    let u = c .before .before .before .before .before .before .before .from-at .result in
+    let e = mapOf (L .table) (L .held) u in
+    let g = ap (λ (y : Entry). size (put (mapOf (L .table) (L .held)) u y)) (nx.in-offer-and (a .block) u (λ x. met (R .allowed) x (R .departing u) e) e (staysIn (a .counters .now) (u % 2048)) (c .before .before .before .before .before .before .offer-in .ensures .0)) in
     let z = le.none-fits (L .table) (c .before .before .before .before .add-one .last .0) _ (c .before .before .before .before .add-one .ensures) (c .enum-told .given .1) in
-    omega (arith, z, i .capacity, ap size f, adds-size R (passes (a .arriving)) (a .block) (a .counters .now) m (s .pre .0 .news) (L .j + 1) (passes (a .arriving)) (omega (arith, c .before .before .before .before .before .before .before .before .loop-test .taken)) (omega arith))
+    omega (arith, z, i .room, g, ap size f, adds-size R (passes (a .arriving)) (stayers (a .counters .now) (a .block)) m (s .pre .0 .news) (L .j + 1) (passes (a .arriving)) (omega (arith, c .before .before .before .before .before .before .before .before .loop-test .taken)) (omega arith))
 
 add-j : tie.Need-add-j Inv-loop μ-loop
 add-j c =
@@ -80,8 +89,12 @@ loop-again : tie.Need-loop-again Inv-loop μ-loop
 loop-again c =
     let a = c .before .before .before .before .before .before .before .before .before .before .before .before .before .before .before .before .before .args in
     let R = rowOf (a .vertices .now) (a .walks .now) (a .hops .now) (a .arriving) in
+    let L = c .before .before .before .before .before .before .before .before .before .before .loop in
+    let u = c .before .before .before .before .before .before .before .before .from-at .result in
+    let e = mapOf (L .table) (L .held) u in
+    let g = ap (put (mapOf (L .table) (L .held)) u) (nx.in-offer-and (a .block) u (λ x. met (R .allowed) x (R .departing u) e) e (staysIn (a .counters .now) (u % 2048)) (c .before .before .before .before .before .before .before .offer-in .ensures .0)) in
     lo.went-on (R .from) (R .offer) (λ u x e. cond (inBlock (a .block) u && staysIn (a .counters .now) (u % 2048)) (met (R .allowed) x (R .departing u) e) e) (c .before .before .before .before .before .before .before .before .before .before .loop .inv) (c .before .before .before .before .before .before .before .before .before .loop-test .taken) (c .before .before .before .before .before .add-one .kept .0)
-    (le.fits-leads (c .before .before .before .before .before .add-one .ensures) (c .before .next .given .1)) (c .before .before .before .before .before .before .before .before .from-at .ensures) (c .before .before .before .before .before .before .before .offer-at .ensures .0)
+    (le.leads-same (le.fits-leads (c .before .before .before .before .before .add-one .ensures) (c .before .next .given .1)) g) (c .before .before .before .before .before .before .before .before .from-at .ensures) refl
 
 same-length-2 : tie.Need-same-length-2 Inv-loop μ-loop
 same-length-2 c = c .before .loop .inv .lengths
@@ -98,7 +111,7 @@ add-spec =
     add-n
     loop-holds
     from-at-requires
-    offer-at-requires
+    offer-in-requires
     add-one-requires
     (λ c. search needs)
     (λ c. search needs)

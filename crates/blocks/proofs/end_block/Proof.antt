@@ -45,7 +45,7 @@ returns c =
     let w = c .before .before .before .before .before .before .before .before .before .before .before .sweep .ensures in
     let counters = c .before .before .before .before .before .before .before .before .before .before .before .before .before .before .before .note-new .last .1 .1 .1 .1 .1 .1 .1 .0 in
     let e = ap (goes (R .from) (adds R counters (a .block)) n) (w .holds .map) ∙ block-done R n (a .block) m counters (c .before .before .before .before .before .before .before .before .before .before .before .before .before .before .before .note-new .ensures) (c .before .before .before .before .before .before .before .before .before .before .before .before .before .before .before .before .before .before .before .before .before .before .before .pre .0 .fresh) in
-    (nx.ends-at (a .t) (c .before .before .before .before .before .before .before .before .before .before .before .sweep .result) (c .before .before .before .before .before .before .add .last .0) (w .capacity) (c .before .before .before .before .before .before .add .result) e (c .before .before .before .before .before .before .add .ensures), c .before .before .clear .ensures)
+    (nx.ends-at (a .t) (c .before .before .before .before .before .before .before .before .before .before .before .sweep .result) (c .before .before .before .before .before .before .add .last .0) (w .room) (c .before .before .before .before .before .before .add .result) e (c .before .before .before .before .before .before .add .ensures), c .before .before .clear .ensures)
 
 pub end-block-spec : {M : Type 1} → statement M
 end-block-spec =

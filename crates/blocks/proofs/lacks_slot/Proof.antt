@@ -15,21 +15,21 @@ returns : tie.Need-returns
 unfolding isNew
 returns c =
     let a = c .before .before .before .before .args in
-    let k = eqb (a .t .capacity - size (mapOf (a .t) (a .held .now))) 0 in
+    let k = eqb (a .t .room - size (mapOf (a .t) (a .held .now))) 0 in
     ap (λ (n : ℕ). eqb n 0) (c .free .ensures) ∙ sym (ap (λ (p : Passed). isNew p && k) (c .before .enum-told .given .1))
 
 returns-2 : tie.Need-returns-2
 unfolding isNew
 returns-2 c =
     let a = c .before .before .before .args in
-    let k = eqb (a .t .capacity - size (mapOf (a .t) (a .held .now))) 0 in
+    let k = eqb (a .t .room - size (mapOf (a .t) (a .held .now))) 0 in
     sym (ap (λ (p : Passed). isNew p && k) (c .enum-told2 .given .1))
 
 returns-3 : tie.Need-returns-3
 unfolding isNew
 returns-3 c =
     let a = c .before .before .before .args in
-    let k = eqb (a .t .capacity - size (mapOf (a .t) (a .held .now))) 0 in
+    let k = eqb (a .t .room - size (mapOf (a .t) (a .held .now))) 0 in
     sym (ap (λ (p : Passed). isNew p && k) (c .enum-told3 .given .1))
 
 pub lacks-slot-spec : {M : Type 1} → statement M

@@ -1,12 +1,15 @@
 -- `blocks::note_new` meets its contract: the counters are those after the first j records. Assumes nothing.
 use mathlib.Core.Path.{_≡_, refl, ap, _∙_}
-use Prim.Native.Nat.{ℕ, _-_, _/_, _≤_, _<_}
+use mathlib.Core.Bool.{_&&_}
+use Prim.Native.Nat.{ℕ, _-_, _/_, _%_, _≤_, _<_}
 use native.Mathlib.Omega.{arith}
+use lib.Dec.{eqb}
 use lib.ListN.{length, getD}
 use Rattle.passing.specs.Row.{rowOf, passes}
 use Rattle.passing.proofs.Few.{hops-few}
 use Rattle.worktable.specs.Table.{mapOf}
-use Rattle.blocks.specs.Block.{noting}
+use Rattle.meeting.specs.Passing.{missing}
+use Rattle.blocks.specs.Block.{chance, noting}
 use Rattle.blocks.proofs.NextRecord as nx
 use borrow.Author.Needs.{needs}
 use Rattle.blocks.proofs.note_new.Statement.{statement}
@@ -29,8 +32,8 @@ loop-holds c = let s = c .before .before .before .before .before .before in (ome
 from-at-requires : tie.Need-from-at-requires Inv-loop μ-loop
 from-at-requires c κs = (c .before .before .before .before .before .before .before .before .pre .0 .sound .counted, c .loop-test .taken)
 
-offer-at-requires : tie.Need-offer-at-requires Inv-loop μ-loop
-offer-at-requires c κs = (c .before .before .before .before .before .before .before .before .before .pre .0 .sound, c .before .loop-test .taken)
+offer-in-requires : tie.Need-offer-in-requires Inv-loop μ-loop
+offer-in-requires c κs = (c .before .before .before .before .before .before .before .before .before .pre .0 .sound, c .before .loop-test .taken)
 
 note-one-requires : tie.Need-note-one-requires Inv-loop μ-loop
 note-one-requires c κs =
@@ -53,7 +56,9 @@ loop-again c =
     let a = c .before .before .before .before .before .before .before .before .before .before .before .before .before .before .args in
     let L = c .before .before .before .before .before .before .before .loop in
     let R = rowOf (a .vertices .now) (a .walks .now) (a .hops .now) (a .arriving) in
-    (omega arith, c .before .before .note-one .kept .1 .1 .1 .1 .1 .1 .1 .0 ∙ L .inv .1, λ k h. nx.noting-step R (a .block) (mapOf (a .t) (a .held .now)) (L .j) k (c .before .before .before .before .before .from-at .ensures) (c .before .before .before .before .offer-at .ensures .0) (L .inv .2 k h) (c .before .before .note-one .ensures k h))
+    let m = mapOf (a .t) (a .held .now) in
+    let u = c .before .before .before .before .before .from-at .result in
+    (omega arith, c .before .before .note-one .kept .1 .1 .1 .1 .1 .1 .1 .0 ∙ L .inv .1, λ k h. nx.noting-step R (a .block) m (L .j) k (c .before .before .before .before .before .from-at .ensures) refl (L .inv .2 k h) (c .before .before .note-one .ensures k h ∙ nx.in-offer-and (a .block) u (λ x. chance (R .allowed) x (R .departing u) (getD (L .counters) k 0)) (getD (L .counters) k 0) (missing (m u) && eqb (u % 2048) k) (c .before .before .before .before .offer-in .ensures .0)))
 
 same-length : tie.Need-same-length Inv-loop μ-loop
 same-length c = c .before .loop .inv .1
@@ -75,7 +80,7 @@ note-new-spec =
     add-n
     loop-holds
     from-at-requires
-    offer-at-requires
+    offer-in-requires
     note-one-requires
     add-j
     (λ c. search needs)

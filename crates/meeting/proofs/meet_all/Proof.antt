@@ -1,15 +1,14 @@
 -- `meeting::meet_all` meets its contract. The loop has passed the first j records, each of which took one free slot at most, and a futile one none. Assumes nothing.
-use mathlib.Core.Path.{_≡_, sym, ap₂, _∙_}
+use mathlib.Core.Path.{_≡_, sym, ap, ap₂, _∙_}
 use mathlib.Core.Bool.{false}
 use Prim.Native.Nat.{ℕ, _-_, _<_}
 use native.Mathlib.Omega.{arith}
-use Rattle.worktable.specs.Map.{size}
+use Rattle.worktable.specs.Map.{absent, Map, size}
 use Rattle.worktable.specs.Table.{mapOf}
 use Rattle.passing.specs.Row.{rowOf, passes}
 use Rattle.meeting.specs.Passing.{met, meets, futile}
 use Rattle.meeting.proofs.Loops as lo
 use Rattle.meeting.proofs.Loops.{Went}
-use Rattle.meeting.proofs.Sizes.{passed-size, one-comer}
 use Rattle.passing.proofs.Few.{hops-few}
 use borrow.Author.Needs.{needs}
 use Rattle.meeting.proofs.meet_all.Statement.{statement}
@@ -46,10 +45,9 @@ meet-requires c κs =
     let q = c .before .before .from-at .ensures in
     let l = c .before .before .before .loop-test .taken in
     let i = L .inv .leads in
-    let grown = passed-size R m (L .j) (λ k h. lo.from-low (a .vertices .now) (a .walks .now) (a .hops .now) (a .arriving) (y .leaves) k (omega (arith, l))) in
-    let room : futile (R .allowed) (R .offer (L .j)) (R .departing (R .from (L .j))) ≡ false → size (mapOf (L .table) (L .held)) < L .table .capacity = λ f.
-    rw (i .holds .map, i .capacity) (omega (arith, grown, s .pre .1, one-comer R (passes (a .arriving)) (L .j) l f)) in
-    ((i .holds .order, rw q (y .leaves .low (L .j) l), y .leaves .vertices, c .before .offer-at .ensures .1, omega (arith, y .sound .allowed)), (lo.passed-left R (passes (a .arriving)) m (L .j) l q (y .enough) (i .holds .map), λ z f. room (ap₂ (λ (x u : ℕ). futile (R .allowed) x (R .departing u)) (sym (c .before .offer-at .ensures .0)) (sym q) ∙ f)))
+    let room : mapOf (L .table) (L .held) (R .from (L .j)) ≡ absent → futile (R .allowed) (R .offer (L .j)) (R .departing (R .from (L .j))) ≡ false → size (mapOf (L .table) (L .held)) < L .table .room = λ z f.
+    rw (i .holds .map, i .room) (s .pre .1 (L .j) l (ap (λ (k : Map). k (R .from (L .j))) (sym (i .holds .map)) ∙ z) f) in
+    ((i .holds .order, rw q (y .leaves .low (L .j) l), y .leaves .vertices, c .before .offer-at .ensures .1, omega (arith, y .sound .allowed)), (lo.passed-left R (passes (a .arriving)) m (L .j) l q (y .enough) (i .holds .map), λ z f. room (ap (mapOf (L .table) (L .held)) (sym q) ∙ z) (ap₂ (λ (x u : ℕ). futile (R .allowed) x (R .departing u)) (sym (c .before .offer-at .ensures .0)) (sym q) ∙ f)))
 
 add-j : tie.Need-add-j Inv-loop μ-loop
 add-j c = let s = c .before .before .before .before .before .before .before .before .before .before .before .before .before in record { fits = omega (arith, c .before .before .before .before .before .before .loop-test .taken, s .pre .0 .sound .counted .walks, hops-few (s .pre .0 .sound .counted), s .good) }

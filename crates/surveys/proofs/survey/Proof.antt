@@ -1,19 +1,21 @@
 -- `surveys::survey` meets its contract: the counters are those after the first j records, and the tally tells how many entries these bring or take. Assumes nothing.
 use mathlib.Core.Path.{_≡_, refl, ap, _∙_}
-use mathlib.Core.Bool.{cond}
+use mathlib.Core.Bool.{cond, _&&_}
 use Prim.Native.Nat.{ℕ, _+_, _-_, _%_, _≤_, _<_}
 use native.Mathlib.Omega.{arith}
+use lib.Dec.{eqb}
 use lib.ListN.{length, getD}
 use Rattle.passing.specs.Row.{rowOf, passes}
 use Rattle.passing.proofs.Few.{hops-few}
-use Rattle.worktable.specs.Map.{size, touched}
+use Rattle.worktable.specs.Map.{put, size, touched}
 use Rattle.worktable.specs.Table.{mapOf}
-use Rattle.meeting.specs.Passing.{goes}
+use Rattle.meeting.specs.Passing.{missing, goes}
+use Rattle.meeting.proofs.Leading as le
 use Rattle.meeting.proofs.Loops as lo
 use Rattle.meeting.proofs.Loops.{Went}
-use Rattle.blocks.specs.Block.{inBlock, noting}
+use Rattle.blocks.specs.Block.{inBlock, chance, noting}
 use Rattle.blocks.proofs.NextRecord as nx
-use Rattle.surveys.specs.Survey.{touchesIn, meetsIn}
+use Rattle.surveys.specs.Survey.{tallied, touchesIn, meetsIn}
 use Rattle.surveys.proofs.TallyIsGrowth as ta
 use borrow.Author.Needs.{needs}
 use Rattle.surveys.proofs.survey.Statement.{statement}
@@ -41,8 +43,8 @@ loop-holds c =
 from-at-requires : tie.Need-from-at-requires Inv-loop μ-loop
 from-at-requires c κs = (c .before .before .before .before .before .before .before .before .pre .0 .sound .counted, c .loop-test .taken)
 
-offer-at-requires : tie.Need-offer-at-requires Inv-loop μ-loop
-offer-at-requires c κs = (c .before .before .before .before .before .before .before .before .before .pre .0 .sound, c .before .loop-test .taken)
+offer-in-requires : tie.Need-offer-in-requires Inv-loop μ-loop
+offer-in-requires c κs = (c .before .before .before .before .before .before .before .before .before .pre .0 .sound, c .before .loop-test .taken)
 
 survey-one-requires : tie.Need-survey-one-requires Inv-loop μ-loop
 survey-one-requires c κs =
@@ -54,7 +56,7 @@ survey-one-requires c κs =
     let q = c .before .before .before .from-at .ensures in
     let R = rowOf (a .vertices .now) (a .walks .now) (a .hops .now) (a .arriving) in
     let i = L .inv .0 .leads in (
-      (i .holds .order, rw q (y .leaves .low (L .j) l), c .before .before .offer-at .ensures .1, omega (arith, y .sound .allowed), L .inv .1 ∙ nx.zero-length (s .pre .1), omega (arith, L .inv .4, l), omega (arith, L .inv .5, l, y .sound .counted .walks, hops-few (y .sound .counted), s .good)),
+      (i .holds .order, rw q (y .leaves .low (L .j) l), c .before .before .offer-in .ensures .1, omega (arith, y .sound .allowed), L .inv .1 ∙ nx.zero-length (s .pre .1), omega (arith, L .inv .4, l), omega (arith, L .inv .5, l, y .sound .counted .walks, hops-few (y .sound .counted), s .good)),
       ta.survey-some R (passes (a .arriving)) (a .block) (mapOf (a .t) (a .held .now)) (y .enough) (L .j) l q (i .holds .map),
     )
 
@@ -70,18 +72,19 @@ loop-again c =
     let L = c .before .before .before .before .before .before .before .before .before .before .loop in
     let R = rowOf (a .vertices .now) (a .walks .now) (a .hops .now) (a .arriving) in
     let q = c .before .before .before .before .before .before .before .before .from-at .ensures in
-    let b = c .before .before .before .before .before .before .before .offer-at .ensures .0 in
+    let b = c .before .before .before .before .before .before .before .offer-in .ensures .0 in
     let l = c .before .before .before .before .before .before .before .before .before .loop-test .taken in
     let i = L .inv .0 .leads .holds .map in
     let m = mapOf (a .t) (a .held .now) in
     let n = passes (a .arriving) in
     let x = c .before .before .before .before .survey-one in
     let u = c .before .before .before .before .before .before .before .before .from-at .result in
-    let near = ta.tallied-near (inBlock (a .block) u) (a .arriving .allowed .0) (c .before .before .before .before .before .before .before .offer-at .result .0) (R .departing u) (getD (L .counters) (u % 2048) 0) (L .tally) (mapOf (a .t) (L .held) u) (omega (arith, L .inv .4)) in (
-      lo.went-on (R .from) (R .offer) (λ v z e. cond (inBlock (a .block) v) (touched z e) e) (L .inv .0) l (x .kept .0) (x .ensures .0) q b,
+    let e = mapOf (a .t) (L .held) u in
+    let near = ta.tallied-near (inBlock (a .block) u) (a .arriving .allowed .0) (c .before .before .before .before .before .before .before .offer-in .result .0) (R .departing u) (getD (L .counters) (u % 2048) 0) (L .tally) (mapOf (a .t) (L .held) u) (omega (arith, L .inv .4)) in (
+      lo.went-on (R .from) (R .offer) (λ v z e. cond (inBlock (a .block) v) (touched z e) e) (L .inv .0) l (x .kept .0) (le.leads-same (x .ensures .0) (ap (put (mapOf (a .t) (L .held)) u) (nx.in-offer (a .block) u (λ z. touched z e) e b))) q refl,
       x .kept .1 .1 .1 .1 .1 .1 .1 .1 .0 ∙ L .inv .1,
-      λ k h. ta.survey-noting R n (a .block) m (y .enough) (L .j) l q i k b (L .inv .2 k h) (x .ensures .1 .1 k h),
-      ta.tally-more R n (a .block) m (y .enough) (L .j) l q i (L .tally) (x .result) (omega (arith, L .inv .4)) (lo.from-low (a .vertices .now) (a .walks .now) (a .hops .now) (a .arriving) (y .leaves) (L .j) l) (L .counters) b (L .inv .2) (x .ensures .1 .0) (L .inv .3),
+      λ k h. ta.survey-noting R n (a .block) m (y .enough) (L .j) l q i k refl (L .inv .2 k h) (x .ensures .1 .1 k h ∙ nx.in-offer-and (a .block) u (λ z. chance (R .allowed) z (R .departing u) (getD (L .counters) k 0)) (getD (L .counters) k 0) (missing e && eqb (u % 2048) k) b),
+      ta.tally-more R n (a .block) m (y .enough) (L .j) l q i (L .tally) (x .result) (omega (arith, L .inv .4)) (lo.from-low (a .vertices .now) (a .walks .now) (a .hops .now) (a .arriving) (y .leaves) (L .j) l) (L .counters) refl (L .inv .2) (x .ensures .1 .0 ∙ nx.in-offer (a .block) u (λ z. tallied (R .allowed) z (R .departing u) (getD (L .counters) (u % 2048) 0) (L .tally) e) (L .tally) b) (L .inv .3),
       omega (arith, x .ensures .1 .0, near .0, L .inv .4),
       omega (arith, x .ensures .1 .0, near .1, L .inv .5),
     )
@@ -113,7 +116,7 @@ survey-spec =
     add-n
     loop-holds
     from-at-requires
-    offer-at-requires
+    offer-in-requires
     survey-one-requires
     add-j
     (λ c. search needs)

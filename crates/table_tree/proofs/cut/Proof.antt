@@ -9,6 +9,11 @@ use Rattle.table_tree.proofs.LinkLaws.{cut-head, cut-next, cut-first, c
 use Rattle.table_tree.proofs.cut.Statement.{statement}
 use Rattle.table_tree.proofs.cut.Tie as tie
 
+head-requires : tie.Need-head-requires
+head-requires c κs =
+    let start = c .before .before .before .before .before .before in
+    (start .pre .0 .len, omega (arith, c .before .bucket .ensures .1, start .pre .1 .mask, sized (start .args .r) (start .args .b .now) .h))
+
 set-head-requires : tie.Need-set-head-requires
 set-head-requires c κs =
     let after-bucket = c .before .before .before .before .before .before in
@@ -18,7 +23,7 @@ set-head-requires c κs =
     let after-next = c .before .before in
     let ek = after-bucket .bucket .ensures .0 ∙ ap (bucketOf (start .args .mask)) (after-vertex-in .vertex-in .ensures .0 ∙ ap vertexIn (after-word .word .ensures)) in (
       start .pre .0 .len,
-      omega (arith, after-bucket .bucket .ensures .1, start .pre .1 .mask, start .pre .0 .fits),
+      omega (arith, after-bucket .bucket .ensures .1, start .pre .1 .mask, sized (start .args .r) (start .args .b .now) .h),
       omega (arith, cut-next (sized (start .args .r) (start .args .b .now)) (start .pre .0 .fits) (start .pre .1) (start .pre .2) (start .pre .3) ek (after-next .next .ensures), start .pre .2, start .pre .0 .small),
     )
 
@@ -85,7 +90,7 @@ cut-spec =
     (λ c κs. search needs)
     (λ c κs. search needs)
     (λ c κs. search needs)
-    (λ c κs. search needs)
+    head-requires
     (λ c κs. search needs)
     set-head-requires
     (λ c. search needs)

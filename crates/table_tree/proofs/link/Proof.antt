@@ -1,11 +1,32 @@
 -- `link`: s is alone in its bucket, the first of it, or behind p.
 use borrow.Author.Needs.{needs}
+use native.Mathlib.Omega.{arith}
 use mathlib.Core.Path.{ap, _∙_}
 use Rattle.table_bytes.proofs.Access.{sized}
 use Rattle.table_tree.specs.Words.{bucketOf}
 use Rattle.table_tree.proofs.LinkLaws.{link-alone, link-first, link-above, link-behind}
 use Rattle.table_tree.proofs.link.Statement.{statement}
 use Rattle.table_tree.proofs.link.Tie as tie
+
+push-requires : tie.Need-push-requires
+push-requires c κs =
+    let start = c .before .before .before .before .before .before .before in (
+      start .pre .0 .len,
+      omega (arith, c .before .before .before .before .bucket .ensures .1, start .pre .1 .mask, sized (start .args .r) (start .args .b .now) .h),
+      omega (arith, start .pre .2, start .pre .0 .fits),
+      omega (arith, start .pre .2, start .pre .0 .small),
+      omega (arith, start .pre .2, start .pre .0 .small),
+    )
+
+push-requires-2 : tie.Need-push-requires-2
+push-requires-2 c κs =
+    let start = c .before .before .before .before .before .before .before .before in (
+      start .pre .0 .len,
+      omega (arith, c .before .before .before .before .before .bucket .ensures .1, start .pre .1 .mask, sized (start .args .r) (start .args .b .now) .h),
+      omega (arith, start .pre .2, start .pre .0 .fits),
+      omega (arith, start .pre .2, start .pre .0 .small),
+      omega (arith, c .before .if2 .taken, start .pre .2, start .pre .0 .small),
+    )
 
 returns : tie.Need-returns
 returns c =
@@ -66,10 +87,10 @@ link-spec =
     (λ c κs. search needs)
     (λ c κs. search needs)
     (λ c κs. search needs)
-    (λ c κs. search needs)
+    push-requires
     (λ c. search needs)
     returns
-    (λ c κs. search needs)
+    push-requires-2
     (λ c. search needs)
     returns-2
     before-requires
