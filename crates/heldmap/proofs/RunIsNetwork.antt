@@ -51,7 +51,7 @@ unfolding departs departing
 departs-field N Q u = refl
 
 -- an offer asks no more of a query than its arrival and its speed
-same-offer : (Q : Query) (x : Record) (d : ℕ) → offer (asking (Q .arrival) (Q .speed)) x d ≡ offer Q x d
+pub same-offer : (Q : Query) (x : Record) (d : ℕ) → offer (asking (Q .arrival) (Q .speed)) x d ≡ offer Q x d
 unfolding offer
 same-offer Q (walked y) d = refl
 same-offer Q (ridden y) d = refl

@@ -56,7 +56,7 @@ same-is [] (y ∷ ys) e = never e refl
 same-is (x ∷ xs) [] e = never e refl
 same-is (x ∷ xs) (y ∷ ys) e = let p = and-both (eqb x y) _ e in ap₂ (λ (a : ℕ) (b : List ℕ). a ∷ b) (eqb-true x y (p .0)) (same-is xs ys (p .1))
 
-each-passes : {A : Type 0} (test : A → Bool) (cs : List A) → every test cs ≡ true → (c : A) → In c cs → test c ≡ true
+pub each-passes : {A : Type 0} (test : A → Bool) (cs : List A) → every test cs ≡ true → (c : A) → In c cs → test c ≡ true
 each-passes test [] e c i = absurd i
 each-passes test (x ∷ cs) e c (inl q) = ap test q ∙ and-both (test x) _ e .0
 each-passes test (x ∷ cs) e c (inr i) = each-passes test cs (and-both (test x) _ e .1) c i

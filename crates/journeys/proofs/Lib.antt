@@ -31,3 +31,5 @@ pub mod Moments
 pub mod Waits
 pub mod Clock
 pub mod Judged
+pub mod VendorLists
+pub mod VendorCases

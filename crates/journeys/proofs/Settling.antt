@@ -149,7 +149,7 @@ module _ (G : Network) (W : Ways) (L : Laws G W) (D : ℕ) (Di : D < none) where
     order-each = follows-each G (Dist G W) D [] l (O .steps)
 
     -- each of the order is what is chosen when those before it are settled
-    step-chosen : (k : ℕ) → k < length l → Chosen G (Dist G W) D (take k l) (getD l k (settled 0 0))
+    pub step-chosen : (k : ℕ) → k < length l → Chosen G (Dist G W) D (take k l) (getD l k (settled 0 0))
     step-chosen k h = let f : Follows G (Dist G W) D (take k l) (getD l k (settled 0 0) ∷ drop (suc k) l) = rw (drop-cons l k (settled 0 0) h) at (rest k) in f .0
 
     -- Nothing outside S is known within D exactly if nothing of the order is left.

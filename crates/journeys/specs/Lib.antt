@@ -13,6 +13,7 @@ pub mod Valid
 pub mod Lists
 pub mod Answers
 pub mod PartAnswers
+pub mod VendorLists
 pub mod OneRun
 pub mod Clock
 pub mod Marked
@@ -20,3 +21,4 @@ pub mod Limits
 pub mod PartLimits
 pub mod Moments
 pub mod Waits
+pub mod VendorCases

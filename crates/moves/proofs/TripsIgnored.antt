@@ -1,4 +1,4 @@
--- Journeys do not ask for the trip: over hop tables that say the same hops the check, the run and the parts have the same answers. So over a table of
+-- Journeys do not ask for the trip: over hop tables that say the same hops the check, the run, the parts and the judge of lists have the same answers. So over a table of
 -- 16-byte hops and that table moved forward, and over tables of 20-byte hops that differ in trips alone. Assumes nothing.
 use mathlib.Core.Path.{_≡_, sym, ap, ap₂, subst, _∙_}
 use mathlib.Core.Bool.{Bool, cond}
@@ -20,6 +20,7 @@ use Rattle.journeys.specs.Parts.{Part, partList, partBytes}
 use Rattle.journeys.specs.Lists.{listRefusal, settledIn}
 use Rattle.journeys.specs.Answers.{Lent, Answer, heldBytes, settledBytes, early, refusedEarly, refusedLate, roomAt, roomUpTo, acceptedAfter, answerOver, Allowed}
 use Rattle.journeys.specs.PartAnswers.{PartsLent, PartsAnswer, listLengths, partsEarly, partsRoomAt, partsRoom, partsRefused, partsAccepted, partsAnswer}
+use Rattle.journeys.specs.VendorLists.{vendorRefusal, judgeRefusal}
 use Rattle.journeys.proofs.Counting.{joined-same}
 use Rattle.moves.specs.Moved.{common, lengthened}
 use Rattle.moves.specs.Alike.{Alike}
@@ -149,6 +150,13 @@ module _ (s s′ : ℕ) (v w h h′ : List ℕ) (same : Alike s s′ h h′) whe
     same-parts =
         ap₂ (λ (r : Refusal) (a : PartsAnswer). cond (eqb (r .number) 0) a (partsRefused lentOne Q r parts)) same-parts-early
         (ap₂ (λ (r : Refusal) (a : PartsAnswer). cond (eqb (r .number) 0) a (partsRefused lentOne Q r (cleared parts))) same-parts-room same-parts-accepted)
+
+  -- And so does the judge of bought lists: walks come first, so that a record's number does not depend on the size of a hop.
+  pub same-judge : (list : List ℕ) (Q : Query)
+      → judgeRefusal (record { vertices = v; walks = w; hops = h; hopSize = s; list = list }) Q ≡ judgeRefusal (record { vertices = v; walks = w; hops = h′; hopSize = s′; list = list }) Q
+  unfolding judgeRefusal
+  same-judge list Q =
+      ap₂ (λ (r : Refusal) (N : Tables). chain (r ∷ unless (wholeOf 12 list) 1 4 ∷ contents N ∷ queryRefusal N Q ∷ vendorRefusal N Q list ∷ [])) same-lengths same-tables
 
 -- ---- the two cases
 -- A table of 16-byte hops, and the same moved forward.

@@ -45,7 +45,7 @@ module _ (b : Lent) (Q : Query) (ok : Valid (tables b) Q) where
   pub walk-low : Q .walk < length (b .walks) / 16
   walk-low = rw (walk-count (b .hopSize) (b .vertices) (b .walks) (b .hops)) at (ok .query .walk-low)
 
-  asked-is : asked N Q ≡ walkAt (b .walks) (Q .walk)
+  pub asked-is : asked N Q ≡ walkAt (b .walks) (Q .walk)
   asked-is = walk-at (b .hopSize) (b .vertices) (b .walks) (b .hops) (Q .walk) walk-low
 
   good : GoodWalk N (Q .walk)
@@ -59,10 +59,10 @@ module _ (b : Lent) (Q : Query) (ok : Valid (tables b) Q) where
   road-fits = (walk-low, subst (λ (x : Walk). Q .offset ≤ x .len) asked-is (ok .query .offset-low), ok .query .speed-high)
 
   -- the ticks of both seeds
-  from-ticks : fromTicksOf road ≡ fromTicks N Q
+  pub from-ticks : fromTicksOf road ≡ fromTicks N Q
   from-ticks = ap (λ (k : ℕ). Q .offset + k) (sym (past-is (b .hopSize) (b .vertices) (b .walks) (b .hops) Q (Q .walk) (Q .offset)))
 
-  to-ticks : toTicksOf road ≡ toTicks N Q
+  pub to-ticks : toTicksOf road ≡ toTicks N Q
   to-ticks =
       sym
       (ap (λ (x : Walk). placeTicks Q (walk N (x .twin)) (x .len - Q .offset)) asked-is
@@ -79,7 +79,7 @@ module _ (b : Lent) (Q : Query) (ok : Valid (tables b) Q) where
       (omega (arith, good .from-low, vertices-as), omega (arith, good .to-low, vertices-as), good .apart)
 
   -- the place is the end of the road exactly if nothing is left behind it
-  to-is-seed-as : toIsSeed road ≡ two N Q ok
+  pub to-is-seed-as : toIsSeed road ≡ two N Q ok
   unfolding toIsSeed atEnd
   to-is-seed-as =
       ap₂ (λ (x : Walk) (t : Bool). not (eqb (x .twin) none) || t) (sym asked-is) (go (ℕ-discrete (Q .offset) (walkAt (b .walks) (Q .walk) .len)))

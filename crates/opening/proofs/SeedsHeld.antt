@@ -89,12 +89,12 @@ module _ (N : Tables) (Q : Query) (ok : Valid N Q) where
   abbrev pub two : Bool
   two = not (eqb (e .twin) none) || eqb (Q .offset) (e .len)
 
-  seed-from : seed N Q (e .from) ≡ fromTicks N Q
+  pub seed-from : seed N Q (e .from) ≡ fromTicks N Q
   unfolding seed
   seed-from =
       rw (eq-eqb (e .from) (e .from) refl, ne-eqb (e .to) (e .from) (λ z. good .apart (sym z))) (omega (arith, from-fits N Q ok))
 
-  seed-to : seed N Q (e .to) ≡ cond two (toTicks N Q) none
+  pub seed-to : seed N Q (e .to) ≡ cond two (toTicks N Q) none
   unfolding seed
   seed-to = rw (ne-eqb (e .from) (e .to) (good .apart), eq-eqb (e .to) (e .to) refl) (go two)
     where
@@ -102,7 +102,7 @@ module _ (N : Tables) (Q : Query) (ok : Valid N Q) where
       go true = omega (arith, to-fits N Q ok)
       go false = omega arith
 
-  seed-other : (u : ℕ) → u ≢ e .from → u ≢ e .to → seed N Q u ≡ none
+  pub seed-other : (u : ℕ) → u ≢ e .from → u ≢ e .to → seed N Q u ≡ none
   unfolding seed
   seed-other u a b = rw (ne-eqb (e .from) u (λ z. a (sym z)), ne-eqb (e .to) u (λ z. b (sym z))) (omega arith)
 

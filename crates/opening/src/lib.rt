@@ -65,7 +65,7 @@ fn seeds(
 
 // The ticks of the two seeds: what it takes to the query place, from "from" of its road and from "to" along the twin, the wait that the place is past
 // among it.
-fn from_ticks(e: Road) -> Ticks
+pub fn from_ticks(e: Road) -> Ticks
     requires { ⌜ fromTicksOf e ≤ 112000 ⌝ }
     ensures { λ r. ⌜ r .0 ≡ fromTicksOf e ⌝ }
 {
@@ -74,7 +74,7 @@ fn from_ticks(e: Road) -> Ticks
     Ticks(walked(near).0 + past.0)
 }
 
-fn to_ticks(e: Road) -> Ticks
+pub fn to_ticks(e: Road) -> Ticks
     requires { ⌜ toTicksOf e ≤ 112000 ⌝ }
     ensures { λ r. ⌜ r .0 ≡ toTicksOf e ⌝ }
 {
@@ -92,7 +92,7 @@ fn at_end(e: Road) -> bool
 }
 
 // Whether "to" of the road is a seed too: it has a twin, or the place is its end.
-fn to_is_seed(e: Road) -> bool
+pub fn to_is_seed(e: Road) -> bool
     ensures { λ r. ⌜ r ≡ toIsSeed e ⌝ }
 {
     (e.twin != words::NONE) | at_end(e)

@@ -6,10 +6,12 @@ use Prim.Native.Nat.{ℕ}
 use Rattle.journeys.specs.Query.{Query}
 use Rattle.journeys.specs.Refusals.{check}
 use Rattle.journeys.specs.PartAnswers as answers
+use Rattle.journeys.specs.VendorLists.{judgeRefusal}
 use Rattle.intake.specs.Lending.{lent}
 use Rattle.covering.specs.Lending.{partsLent}
+use Rattle.vendors.specs.Lending.{judgeLent}
 use Rattle.moves.specs.Alike.{Alike}
-use Rattle.moves.proofs.TripsIgnored.{same-check, same-run, same-parts}
+use Rattle.moves.proofs.TripsIgnored.{same-check, same-run, same-parts, same-judge}
 use Rattle.siltbrow.specs.Packed.{packed}
 use Rattle.siltbrow.specs.Ran.{Ran}
 use Rattle.siltbrow.specs.PartsRan.{PartsRan, partsAnswerBytes}
@@ -20,6 +22,10 @@ module _ (s s′ : ℕ) (v w h h′ : List ℕ) (same : Alike s s′ h h′) whe
   -- The check.
   pub check-alike : packed (check s v w h) ≡ packed (check s′ v w h′)
   check-alike = ap packed (same-check s s′ v w h h′ same)
+
+  -- The judge of bought lists, with the same list and query.
+  pub judge-alike : (list : List ℕ) (Q : Query) → packed (judgeRefusal (judgeLent v w h s list) Q) ≡ packed (judgeRefusal (judgeLent v w h′ s′ list) Q)
+  judge-alike list Q = ap packed (same-judge s s′ v w h h′ same list Q)
 
   -- The run, with the same buffers, query, limit and answer slice.
   pub run-alike : (held settled : List ℕ) (Q : Query) (limit : ℕ) (slice x y z x′ y′ z′ : List ℕ) (r r′ : ℕ)

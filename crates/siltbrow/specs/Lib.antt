@@ -5,3 +5,4 @@ pub mod FrameCall
 pub mod PartsRan
 pub mod PartsCall
 pub mod Pair
+pub mod JudgeCall

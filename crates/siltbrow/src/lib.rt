@@ -1,7 +1,8 @@
 // What the map server in C calls: include/siltbrow.h declares it.
 // Promises: the numbers of RULES 13, for every byte string of every length; the tables are only read.
-// Rests on: `audit`, whose scratch it lends, `search`, which has the run, `covering`, which has the parts, `frame`, and `moves`.
+// Rests on: `audit`, whose scratch it lends, `search`, which has the run, `covering`, which has the parts, `frame`, `moves`, and `vendors`.
 mod framing;
+mod judging;
 mod moving;
 mod streets;
 

@@ -1,0 +1,6 @@
+pub mod Firsts
+pub mod AllRecords
+pub mod Exactly
+pub mod OwnBytes
+pub mod Accepted
+pub mod Determined
