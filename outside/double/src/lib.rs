@@ -267,3 +267,52 @@ pub unsafe extern "C" fn siltbrow_hops_backward(
         [source, ("target", target, target_len)],
     )
 }
+
+/// # Safety
+/// Each pointer begins as many bytes as the length behind it says.
+#[no_mangle]
+pub unsafe extern "C" fn siltbrow_judge(
+    vertices: *const u8,
+    vertices_len: usize,
+    walks: *const u8,
+    walks_len: usize,
+    hops: *const u8,
+    hops_len: usize,
+    hop_size: u32,
+    record: u32,
+    offset: u32,
+    arrival: i32,
+    duration: u32,
+    speed: u32,
+    list: *const u8,
+    list_len: usize,
+) -> u64 {
+    let tables = Tables {
+        vertices: slice(vertices, vertices_len),
+        walks: slice(walks, walks_len),
+        hops: slice(hops, hops_len),
+        hop_size,
+    };
+    let query = Query {
+        record,
+        offset,
+        arrival,
+        duration,
+        speed,
+    };
+    let entries = slice(list, list_len);
+    let returned = by(
+        |fast| fast.judge(tables, query, entries),
+        |fast| fast.judge(tables, query, entries),
+    );
+    stray(
+        "judge",
+        &[
+            ("vertices", vertices.cast_mut(), vertices_len),
+            ("walks", walks.cast_mut(), walks_len),
+            ("hops", hops.cast_mut(), hops_len),
+            ("list", list.cast_mut(), list_len),
+        ],
+    );
+    returned
+}
