@@ -58,6 +58,23 @@ extern "C" {
         answer_len: usize,
     ) -> u32;
 
+    fn siltbrow_judge(
+        vertices: *const u8,
+        vertices_len: usize,
+        walks: *const u8,
+        walks_len: usize,
+        hops: *const u8,
+        hops_len: usize,
+        hop_size: u32,
+        record: u32,
+        offset: u32,
+        arrival: i32,
+        duration: u32,
+        speed: u32,
+        list: *const u8,
+        list_len: usize,
+    ) -> u64;
+
     fn siltbrow_frame(
         vertices: *const u8,
         vertices_len: usize,
@@ -179,6 +196,29 @@ impl Program for Linked {
                 source.len(),
                 target.as_mut_ptr(),
                 target.len(),
+            )
+        }
+    }
+
+    fn judge(&self, tables: Tables, query: Query, list: &[u8]) -> u64 {
+        let (v, w, h) = (tables.vertices, tables.walks, tables.hops);
+        // SAFETY: each pair is a whole slice, which the library only reads.
+        unsafe {
+            siltbrow_judge(
+                v.as_ptr(),
+                v.len(),
+                w.as_ptr(),
+                w.len(),
+                h.as_ptr(),
+                h.len(),
+                tables.hop_size,
+                query.record,
+                query.offset,
+                query.arrival,
+                query.duration,
+                query.speed,
+                list.as_ptr(),
+                list.len(),
             )
         }
     }
