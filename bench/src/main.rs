@@ -5,7 +5,7 @@ mod linked;
 use std::fs::{read_to_string, write};
 use std::process::ExitCode;
 
-use bench::{checks, figures, frames, hubs, moves, page, speed};
+use bench::{bought, checks, figures, frames, hubs, moves, page, speed};
 use linked::Linked;
 
 const USAGE: &str = "usage:
@@ -47,6 +47,7 @@ fn measure(rounds: usize, page: Option<&str>) -> Result<(), String> {
         checks::table(&Linked, rounds)?,
         frames::table(&Linked, rounds)?,
         moves::table(&Linked, rounds)?,
+        bought::table(&Linked, rounds)?,
     ]
     .join("\n");
     print!("{report}");

@@ -2,7 +2,6 @@
 
 use std::time::Duration;
 
-use outside::cases::bought::whole;
 use outside::cases::trips::widen;
 use outside::commands::bench::{city_scenes, growing_scenes, middle, own_list};
 use outside::network::Scene;
@@ -138,8 +137,6 @@ struct Measured {
     /// Check and run over the same hops with their trips.
     check_trips: Spent,
     run_trips: Spent,
-    /// The run's own list, judged as a bought one.
-    judge: Spent,
 }
 
 /// The same hops in records of 20 bytes, each with a trip.
@@ -172,7 +169,6 @@ fn measure<P: Program>(library: &P, scene: &Scene, rounds: usize) -> Result<Meas
         both.clone(),
         with_trips(scene.network.check_case()),
         with_trips(run),
-        scene.judge_case(&whole(scene)),
     ];
     let (mut stands, mut one) = (cases.map(Stand::new), Stand::new(both));
     for round in 0..rounds {
@@ -182,7 +178,7 @@ fn measure<P: Program>(library: &P, scene: &Scene, rounds: usize) -> Result<Meas
         // The bytes of the two are those of the one run too.
         one.round(library, &OneRun, round % 2 == 0)?;
     }
-    let [check, start, run, tight, parts, both, check_trips, run_trips, judge] =
+    let [check, start, run, tight, parts, both, check_trips, run_trips] =
         stands.map(|stand| Spent::of(&stand.times));
     Ok(Measured {
         answer,
@@ -196,7 +192,6 @@ fn measure<P: Program>(library: &P, scene: &Scene, rounds: usize) -> Result<Meas
         one_run: Spent::of(&one.times),
         check_trips,
         run_trips,
-        judge,
     })
 }
 
@@ -222,8 +217,6 @@ fn city_table<P: Program>(library: &P, rounds: usize) -> Result<String, String> 
             ("run + parts beside one run", measured.one_run),
             ("check, hops of 20 bytes", measured.check_trips),
             ("run, hops of 20 bytes", measured.run_trips),
-            ("judge less check", measured.judge.less(check)),
-            ("judge its own list", measured.judge),
         ];
         for (part, spent) in parts {
             let first = [format!("{name}, {settled} settled"), part.to_string()];
@@ -285,7 +278,6 @@ mod tests {
             Mutant::PartsNoStart,
             Mutant::ListDistanceTight,
             Mutant::ClipTwin,
-            Mutant::BoughtEqual,
         ];
         for mutant in wrong.into_iter().chain([Mutant::LimitZero]).chain(parts) {
             assert!(measure(&Rust(mutant), &scene, 2).is_err(), "{mutant:?}");
