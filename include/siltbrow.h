@@ -203,15 +203,49 @@
  *
  * They are judged in this order. A refused move changes no byte of the target.
  *
+ * siltbrow_judge tells whether a list from elsewhere is right for a query: it
+ * has just the vertices within the duration, with their distances, and says of
+ * each why. The tables, the size of a hop and the query are those of
+ * siltbrow_parts. It only reads, and returns refusal * 2^32 + place.
+ *
+ *   list, 12 bytes a record: vertex, distance, and the record with which a
+ *         journey from there starts: walks are numbered first, then hops, so
+ *         that hop h has the number of walks plus h; FFFFFFFF where the vertex
+ *         is an end of the query's walk and goes straight to the place
+ *
+ * The settled records of a finished run, with such a record behind each, are
+ * always right, in their order. Any other order is right too in which each
+ * named record leads to the vertex of an earlier entry. An empty list is right
+ * where neither end of the query's walk reaches the place in time.
+ *
+ *   refusals 1 to 7: as in the run; 1 also where the length of the list is no
+ *               whole number of records (place: 4)
+ *   refusal 25: the entry's vertex does not exist, or an earlier entry has it
+ *               (place: the entry, counted from 0)
+ *   refusal 26: its distance is above the duration in ticks (the entry)
+ *   refusal 27: its record is not one that leads from its vertex to that of an
+ *               earlier entry and gives its distance from the one listed there;
+ *               or it is FFFFFFFF, and the way straight to the place does not
+ *               give that distance (the entry)
+ *   refusal 28: a listed vertex can be nearer, or one that is not listed can be
+ *               within the duration: by the way straight to the place (place:
+ *               FFFFFFFE from "from" of the query's walk, FFFFFFFF from its
+ *               "to"), or, where neither gives that, by a record to a listed
+ *               vertex (the lowest such record, walks numbered first)
+ *
+ * They are judged in this order, so that every 25 comes before any 26, and of
+ * one number the first is given, for 28 the two ends before the records. 0
+ * says that the list is right.
+ *
  * Until it returns, a call uses its buffers, its target and its answer alone:
  * they overlap neither one another nor what the call reads.
  *
  * What a call costs:
  *
  * - Each run checks its tables first, which takes as long as siltbrow_check,
- *   and so does each siltbrow_parts. At the full size of 65,536 vertices and
- *   9.2 MB that is some 5 to 20 ms, more than the search of a short query.
- *   docs/BENCH.md has the times.
+ *   and so do siltbrow_parts and siltbrow_judge. At the full size of 65,536
+ *   vertices and 9.2 MB that is some 5 to 20 ms, more than the search of a short
+ *   query. docs/BENCH.md has the times.
  * - Vertices that lie near one another should have near numbers: what a call
  *   reads then lies together.
  * - Every lent buffer is written whole, with zero behind the records. A buffer
@@ -219,7 +253,8 @@
  * - One held record for each vertex keeps the search fast on any tables. With
  *   less room tables can be made on which a run takes over a second.
  * - A frame of 65,536 entries takes about a millisecond.
- * - A call uses less than 8 KB of stack, 4,096 bytes of them for its arrays.
+ * - A call uses less than 8 KB of stack, 4,096 bytes of them for its arrays;
+ *   siltbrow_judge less than 264 KB, 256 KB of them for an array.
  * - The library is code for x86-64 Linux. It needs memset and nothing else.
  *   siltbrow_frame compares floats: call it with denormal numbers as they are,
  *   not taken for zero (the bit DAZ of MXCSR, which -ffast-math can set).
@@ -234,6 +269,7 @@
 /* The second number moves where a call changes, the third where only the
  * inside does; the first becomes 1 when all calls are there.
  *
+ * 0.8: siltbrow_judge is new, and with it refusals 25 to 28.
  * 0.7: siltbrow_run no longer holds a vertex that can never be settled. Its held
  *      list, and the room that it needs for that, can be smaller; what is
  *      settled and covered stays.
@@ -252,9 +288,9 @@
  *      refusal 10 is gone from it; siltbrow_parts makes the parts. A page that
  *      shows streets calls it with the records that the run has settled.
  * 0.2: siltbrow_frame is new. */
-#define SILTBROW_VERSION "0.7.0"
+#define SILTBROW_VERSION "0.8.0"
 #define SILTBROW_VERSION_MAJOR 0
-#define SILTBROW_VERSION_MINOR 7
+#define SILTBROW_VERSION_MINOR 8
 #define SILTBROW_VERSION_PATCH 0
 
 #ifdef __cplusplus
@@ -294,8 +330,16 @@ uint64_t siltbrow_hops_forward(const uint8_t *source, size_t source_len,
 uint64_t siltbrow_hops_backward(const uint8_t *source, size_t source_len,
                                 uint8_t *target, size_t target_len);
 
-/* The bytes of each record, of a point of the coordinate table, of the answer
- * of a run or a frame, and of that of siltbrow_parts. */
+uint64_t siltbrow_judge(const uint8_t *vertices, size_t vertices_len,
+                        const uint8_t *walks, size_t walks_len,
+                        const uint8_t *hops, size_t hops_len, uint32_t hop_size,
+                        uint32_t record, uint32_t offset, int32_t arrival,
+                        uint32_t duration, uint32_t speed,
+                        const uint8_t *list, size_t list_len);
+
+/* The bytes of each record, of an entry of siltbrow_judge, of a point of the
+ * coordinate table, of the answer of a run or a frame, and of that of
+ * siltbrow_parts. */
 #define SILTBROW_VERTEX_SIZE 12u
 #define SILTBROW_WALK_SIZE 16u
 #define SILTBROW_HOP_SIZE 16u
@@ -303,12 +347,18 @@ uint64_t siltbrow_hops_backward(const uint8_t *source, size_t source_len,
 #define SILTBROW_HELD_SIZE 16u
 #define SILTBROW_SETTLED_SIZE 8u
 #define SILTBROW_PART_SIZE 12u
+#define SILTBROW_ENTRY_SIZE 12u
 #define SILTBROW_POINT_SIZE 8u
 #define SILTBROW_ANSWER_SIZE 24u
 #define SILTBROW_PARTS_ANSWER_SIZE 12u
 
 /* "None" as a distance, and "no twin". */
 #define SILTBROW_NONE 0xFFFFFFFFu
+/* In an entry of siltbrow_judge: straight to the place, by no record. */
+#define SILTBROW_SEED 0xFFFFFFFFu
+/* The places of refusal 28 that are no record: the ends of the query's walk. */
+#define SILTBROW_SEED_FROM 0xFFFFFFFEu
+#define SILTBROW_SEED_TO 0xFFFFFFFFu
 /* No step limit. */
 #define SILTBROW_NO_LIMIT 0xFFFFFFFFu
 
@@ -326,7 +376,7 @@ uint64_t siltbrow_hops_backward(const uint8_t *source, size_t source_len,
 
 /* The refusals: 1 to 6 of the check; 1 to 9 of a run; 1 to 7, 21 and 10 of
  * parts; 1, 21, 23 and 24 of a frame; 1 of a move, and 11 where it goes
- * backward. */
+ * backward; 1 to 7 and 25 to 28 of siltbrow_judge. */
 #define SILTBROW_ACCEPTED 0u
 #define SILTBROW_BAD_LENGTH 1u
 #define SILTBROW_BAD_WALK 2u
@@ -342,6 +392,10 @@ uint64_t siltbrow_hops_backward(const uint8_t *source, size_t source_len,
 #define SILTBROW_BAD_ENTRY 21u
 #define SILTBROW_BAD_POINT 23u
 #define SILTBROW_EMPTY_LIST 24u
+#define SILTBROW_LISTED_VERTEX 25u
+#define SILTBROW_LISTED_DISTANCE 26u
+#define SILTBROW_LISTED_RECORD 27u
+#define SILTBROW_BETTER_OFFER 28u
 
 /* The bytes of a list, from the settled count of a run: what siltbrow_parts and
  * siltbrow_frame are given of the settled buffer. */
@@ -486,7 +540,16 @@ static inline void siltbrow_put_trip(uint8_t *hop, uint32_t trip)
     siltbrow_put(hop + SILTBROW_HOP_SIZE, trip);
 }
 
-/* Refusal and place in what siltbrow_check or a move returns. */
+/* An entry of siltbrow_judge, put into the 12 bytes at "at". The record is that
+ * of a walk, the number of walks plus that of a hop, or SILTBROW_SEED. */
+static inline void siltbrow_put_entry(uint8_t *at, uint32_t vertex, uint32_t distance, uint32_t record)
+{
+    siltbrow_put(at, vertex);
+    siltbrow_put(at + 4, distance);
+    siltbrow_put(at + 8, record);
+}
+
+/* Refusal and place in what siltbrow_check, siltbrow_judge or a move returns. */
 static inline uint32_t siltbrow_check_refusal(uint64_t checked)
 {
     return (uint32_t)(checked >> 32);
@@ -516,6 +579,10 @@ static inline const char *siltbrow_refusal_text(uint32_t refusal)
     case SILTBROW_BAD_ENTRY: return "an entry of the list names no vertex, one that an earlier entry has or, for parts, a distance above the duration";
     case SILTBROW_BAD_POINT: return "a coordinate is not finite";
     case SILTBROW_EMPTY_LIST: return "the list is empty";
+    case SILTBROW_LISTED_VERTEX: return "an entry of a bought list names no vertex, or one that an earlier entry has";
+    case SILTBROW_LISTED_DISTANCE: return "an entry of a bought list has a distance above the duration";
+    case SILTBROW_LISTED_RECORD: return "an entry of a bought list names a record that does not give its distance from an earlier entry";
+    case SILTBROW_BETTER_OFFER: return "a vertex can be nearer than a bought list says, or is missing there";
     default: return "there is no such refusal";
     }
 }
@@ -535,7 +602,11 @@ static inline const char *siltbrow_place_text(uint32_t refusal)
     case SILTBROW_HELD_ROOM:
     case SILTBROW_SETTLED_ROOM: return "step";
     case SILTBROW_PART_ROOM: return "step: 0 at the query place, otherwise the entry of the list plus 1";
-    case SILTBROW_BAD_ENTRY: return "entry of the list";
+    case SILTBROW_BAD_ENTRY:
+    case SILTBROW_LISTED_VERTEX:
+    case SILTBROW_LISTED_DISTANCE:
+    case SILTBROW_LISTED_RECORD: return "entry of the list";
+    case SILTBROW_BETTER_OFFER: return "record, hops behind the walks; 4294967294 the query walk's \"from\", 4294967295 its \"to\"";
     case SILTBROW_BAD_POINT: return "vertex";
     default: return "nothing";
     }

@@ -4,60 +4,17 @@ use bench::frames::Framer;
 use bench::program::Program;
 use outside::records::{Lent, Query, Tables, Way};
 
+macro_rules! declared {
+    ($name:ident($($argument:ident: $kind:ty),*) -> $out:ty) => {
+        extern "C" {
+            fn $name($($argument: $kind),*) -> $out;
+        }
+    };
+}
+
+outside::calls!(declared);
+
 extern "C" {
-    fn siltbrow_check(
-        vertices: *const u8,
-        vertices_len: usize,
-        walks: *const u8,
-        walks_len: usize,
-        hops: *const u8,
-        hops_len: usize,
-        hop_size: u32,
-    ) -> u64;
-
-    fn siltbrow_run(
-        vertices: *const u8,
-        vertices_len: usize,
-        walks: *const u8,
-        walks_len: usize,
-        hops: *const u8,
-        hops_len: usize,
-        hop_size: u32,
-        record: u32,
-        offset: u32,
-        arrival: i32,
-        duration: u32,
-        speed: u32,
-        limit: u32,
-        held: *mut u8,
-        held_len: usize,
-        settled: *mut u8,
-        settled_len: usize,
-        answer: *mut u8,
-        answer_len: usize,
-    ) -> u32;
-
-    fn siltbrow_parts(
-        vertices: *const u8,
-        vertices_len: usize,
-        walks: *const u8,
-        walks_len: usize,
-        hops: *const u8,
-        hops_len: usize,
-        hop_size: u32,
-        record: u32,
-        offset: u32,
-        arrival: i32,
-        duration: u32,
-        speed: u32,
-        list: *const u8,
-        list_len: usize,
-        parts: *mut u8,
-        parts_len: usize,
-        answer: *mut u8,
-        answer_len: usize,
-    ) -> u32;
-
     fn siltbrow_frame(
         vertices: *const u8,
         vertices_len: usize,
@@ -68,20 +25,28 @@ extern "C" {
         answer: *mut u8,
         answer_len: usize,
     ) -> u32;
+}
 
-    fn siltbrow_hops_forward(
-        source: *const u8,
-        source_len: usize,
-        target: *mut u8,
-        target_len: usize,
-    ) -> u64;
-
-    fn siltbrow_hops_backward(
-        source: *const u8,
-        source_len: usize,
-        target: *mut u8,
-        target_len: usize,
-    ) -> u64;
+/// A call over tables: numbers, slices that are read, slices that are written.
+macro_rules! call {
+    ($name:ident, $tables:expr, [$($number:expr),*], [$($read:expr),*], [$($written:expr),*]) => {{
+        let (v, w, h) = ($tables.vertices, $tables.walks, $tables.hops);
+        // SAFETY: each pair is a whole slice; those written to are borrowed alone.
+        unsafe {
+            $name(
+                v.as_ptr(),
+                v.len(),
+                w.as_ptr(),
+                w.len(),
+                h.as_ptr(),
+                h.len(),
+                $tables.hop_size,
+                $($number,)*
+                $($read.as_ptr(), $read.len(),)*
+                $($written.as_mut_ptr(), $written.len(),)*
+            )
+        }
+    }};
 }
 
 /// The library that this program is linked with.
@@ -89,82 +54,35 @@ pub struct Linked;
 
 impl Program for Linked {
     fn check(&self, tables: Tables) -> u64 {
-        let (v, w, h) = (tables.vertices, tables.walks, tables.hops);
-        // SAFETY: each pair is a whole slice, which the library only reads.
-        unsafe {
-            siltbrow_check(
-                v.as_ptr(),
-                v.len(),
-                w.as_ptr(),
-                w.len(),
-                h.as_ptr(),
-                h.len(),
-                tables.hop_size,
-            )
-        }
+        call!(siltbrow_check, tables, [], [], [])
     }
 
-    fn run(&self, tables: Tables, query: Query, limit: u32, lent: Lent, answer: &mut [u8]) -> u32 {
-        let (v, w, h) = (tables.vertices, tables.walks, tables.hops);
+    fn run(&self, tables: Tables, q: Query, limit: u32, lent: Lent, answer: &mut [u8]) -> u32 {
         let Lent { held, settled } = lent;
-        // SAFETY: each pair is a whole slice; those written to are borrowed alone.
-        unsafe {
-            siltbrow_run(
-                v.as_ptr(),
-                v.len(),
-                w.as_ptr(),
-                w.len(),
-                h.as_ptr(),
-                h.len(),
-                tables.hop_size,
-                query.record,
-                query.offset,
-                query.arrival,
-                query.duration,
-                query.speed,
-                limit,
-                held.as_mut_ptr(),
-                held.len(),
-                settled.as_mut_ptr(),
-                settled.len(),
-                answer.as_mut_ptr(),
-                answer.len(),
-            )
-        }
+        call!(
+            siltbrow_run,
+            tables,
+            [q.record, q.offset, q.arrival, q.duration, q.speed, limit],
+            [],
+            [held, settled, answer]
+        )
     }
 
     fn parts(
         &self,
         tables: Tables,
-        query: Query,
+        q: Query,
         list: &[u8],
         parts: &mut [u8],
         answer: &mut [u8],
     ) -> u32 {
-        let (v, w, h) = (tables.vertices, tables.walks, tables.hops);
-        // SAFETY: each pair is a whole slice; those written to are borrowed alone.
-        unsafe {
-            siltbrow_parts(
-                v.as_ptr(),
-                v.len(),
-                w.as_ptr(),
-                w.len(),
-                h.as_ptr(),
-                h.len(),
-                tables.hop_size,
-                query.record,
-                query.offset,
-                query.arrival,
-                query.duration,
-                query.speed,
-                list.as_ptr(),
-                list.len(),
-                parts.as_mut_ptr(),
-                parts.len(),
-                answer.as_mut_ptr(),
-                answer.len(),
-            )
-        }
+        call!(
+            siltbrow_parts,
+            tables,
+            [q.record, q.offset, q.arrival, q.duration, q.speed],
+            [list],
+            [parts, answer]
+        )
     }
 
     fn move_hops(&self, way: Way, source: &[u8], target: &mut [u8]) -> u64 {
@@ -181,6 +99,16 @@ impl Program for Linked {
                 target.len(),
             )
         }
+    }
+
+    fn judge(&self, tables: Tables, q: Query, list: &[u8]) -> u64 {
+        call!(
+            siltbrow_judge,
+            tables,
+            [q.record, q.offset, q.arrival, q.duration, q.speed],
+            [list],
+            []
+        )
     }
 }
 

@@ -7,7 +7,7 @@ use std::fs::{read_to_string, write};
 use std::path::Path;
 use std::process::ExitCode;
 
-use bench::{checks, evening, figures, frames, growth, hubs, limit, machine, moves, page};
+use bench::{bought, checks, evening, figures, frames, growth, hubs, limit, machine, moves, page};
 use bench::{speed, stall};
 use linked::Linked;
 
@@ -90,6 +90,7 @@ fn measure(rounds: usize, page: Option<&str>) -> Result<(), String> {
         checks::table(&Linked, rounds)?,
         frames::table(&Linked, rounds)?,
         moves::table(&Linked, rounds)?,
+        bought::table(&Linked, rounds)?,
     ]
     .join("\n");
     let report = format!("{report}\n{}", verdict(&report));

@@ -16,7 +16,7 @@
 
 #include "siltbrow.h"
 
-enum { END = 0, CHECK = 1, RUN = 2, PARTS_ALONE = 3, PAIR = 4, FORWARD = 5, BACKWARD = 6 };
+enum { END = 0, CHECK = 1, RUN = 2, PARTS_ALONE = 3, PAIR = 4, FORWARD = 5, BACKWARD = 6, JUDGE = 7 };
 
 /* An odd length, so that no slice begins at an even address by design: the
  * library may not count on more than bytes. */
@@ -220,6 +220,13 @@ static uint32_t parts(const Slice *s, uint32_t hop_size, Query q, const uint8_t 
                           s[PARTS_ANSWER].bytes, s[PARTS_ANSWER].len);
 }
 
+static uint64_t judge(const Slice *s, uint32_t hop_size, Query q)
+{
+    return siltbrow_judge(s[VERTICES].bytes, s[VERTICES].len, s[WALKS].bytes, s[WALKS].len,
+                          s[HOPS].bytes, s[HOPS].len, hop_size, q.record, q.offset, q.arrival,
+                          q.duration, q.speed, s[LIST].bytes, s[LIST].len);
+}
+
 /* The run, and where it is accepted the parts of its own list: as many bytes of
  * its settled buffer as it tells, where they stand. */
 static uint64_t pair(const Slice *s, uint32_t hop_size, Query q, uint32_t limit)
@@ -277,7 +284,7 @@ static void do_case(int kind, int null)
         for (int i = HELD; i <= ANSWER; i++)
             s[i] = read_slice(null, i);
     }
-    if (kind == PARTS_ALONE)
+    if (kind == PARTS_ALONE || kind == JUDGE)
         s[LIST] = read_slice(null, LIST);
     for (int i = PARTS; makes_parts && i <= PARTS_ANSWER; i++)
         s[i] = read_slice(null, i);
@@ -286,6 +293,7 @@ static void do_case(int kind, int null)
     case RUN: value = run(s, hop_size, q, limit); break;
     case PARTS_ALONE: value = parts(s, hop_size, q, s[LIST].bytes, s[LIST].len); break;
     case PAIR: value = pair(s, hop_size, q, limit); break;
+    case JUDGE: value = judge(s, hop_size, q); break;
     default: fail("no such kind of case");
     }
     write_number((uint64_t)kind, 1);

@@ -245,6 +245,39 @@ static void parts_test(void)
     uncovered(0, l, p, SILTBROW_BAD_ENTRY, 1, "no such vertex");
 }
 
+static void judged(const uint8_t *list, size_t len, uint32_t refusal, uint32_t place, const char *what)
+{
+    uint64_t answer = siltbrow_judge(vertices, sizeof vertices, walks, sizeof walks, hops, sizeof hops, SILTBROW_HOP_SIZE, 0, 300,
+                                     SILTBROW_MAX_TIME, 200, 10, list, len);
+    count(siltbrow_check_refusal(answer) == refusal && siltbrow_check_place(answer) == place, what);
+}
+
+/* The road is 1,000 long, the place 300 from vertex 1, and D is 2,000. */
+static void judge_test(void)
+{
+    uint8_t list[2 * SILTBROW_ENTRY_SIZE];
+    size_t l = sizeof list, e = SILTBROW_ENTRY_SIZE;
+    fill();
+    siltbrow_put_length(walks, 1000, 0);
+    siltbrow_put_length(walks + SILTBROW_WALK_SIZE, 1000, 0);
+    siltbrow_put_entry(list, 1, 300, SILTBROW_SEED);
+    siltbrow_put_entry(list + e, 0, 700, SILTBROW_SEED);
+    count(siltbrow_get(list + e) == 0 && siltbrow_get(list + e + 4) == 700 && siltbrow_get(list + e + 8) == SILTBROW_SEED, "an entry comes back from its bytes");
+    judged(list, l, SILTBROW_ACCEPTED, 0, "a right list");
+    judged(list, l - 1, SILTBROW_BAD_LENGTH, 4, "a cut entry");
+    judged(NULL, 0, SILTBROW_BETTER_OFFER, SILTBROW_SEED_FROM, "an empty list");
+    judged(list, e, SILTBROW_BETTER_OFFER, SILTBROW_SEED_TO, "without the other end");
+    siltbrow_put_entry(list + e, 0, 1300, 1);
+    judged(list, l, SILTBROW_BETTER_OFFER, SILTBROW_SEED_TO, "the way around instead of the way straight");
+    siltbrow_put_entry(list + e, 0, 1300, 0);
+    judged(list, l, SILTBROW_LISTED_RECORD, 1, "a record from elsewhere");
+    siltbrow_put_entry(list + e, 0, 2001, 1);
+    judged(list, l, SILTBROW_LISTED_DISTANCE, 1, "a distance above the duration");
+    siltbrow_put_entry(list + e, 1, 300, SILTBROW_SEED);
+    judged(list, l, SILTBROW_LISTED_VERTEX, 1, "a vertex twice");
+    fill();
+}
+
 static void count_test(void)
 {
     static uint8_t many[(SILTBROW_MAX_VERTICES + 1) * SILTBROW_VERTEX_SIZE];
@@ -332,7 +365,7 @@ static void frame_test(void)
 
 static void text_test(void)
 {
-    static const uint32_t refusals[] = {0, 1, 2, 3, 4, 5, 6, 7, 8, 9, 10, SILTBROW_KNOWN_TRIP, SILTBROW_BAD_ENTRY, SILTBROW_BAD_POINT, SILTBROW_EMPTY_LIST, 99};
+    static const uint32_t refusals[] = {0, 1, 2, 3, 4, 5, 6, 7, 8, 9, 10, SILTBROW_KNOWN_TRIP, SILTBROW_BAD_ENTRY, SILTBROW_BAD_POINT, SILTBROW_EMPTY_LIST, 25, 26, 27, 28, 99};
     char version[32];
     for (size_t a = 0; a < sizeof refusals / sizeof *refusals; a++)
         for (size_t b = 0; b < a; b++)
@@ -352,6 +385,7 @@ int main(void)
     crossing_test();
     query_test();
     parts_test();
+    judge_test();
     count_test();
     move_test();
     frame_test();

@@ -9,7 +9,7 @@
 
 #include "siltbrow.h"
 
-enum { SIDE = 160, VERTICES = SIDE * SIDE, WALKS = 4 * SIDE * (SIDE - 1), STACK = 1 << 18, MOST = 8192 };
+enum { SIDE = 160, VERTICES = SIDE * SIDE, WALKS = 4 * SIDE * (SIDE - 1), STACK = 1 << 20, MOST = 8192, MOST_JUDGE = MOST + (1 << 18) };
 
 static uint8_t vertices[VERTICES * SILTBROW_VERTEX_SIZE];
 static uint8_t walks[WALKS * SILTBROW_WALK_SIZE];
@@ -20,7 +20,10 @@ static uint8_t points[VERTICES * SILTBROW_POINT_SIZE];
 static uint8_t wide[SILTBROW_FORWARD_BYTES(sizeof walks)], narrow[SILTBROW_BACKWARD_BYTES(sizeof wide)];
 static uint8_t answer[SILTBROW_ANSWER_SIZE];
 
+static uint8_t bought[VERTICES * SILTBROW_ENTRY_SIZE];
+
 static uint32_t limit;
+static uint64_t judged;
 static size_t held_len, list_len;
 static const uint8_t *top; /* where the frame of the caller lies */
 
@@ -74,6 +77,35 @@ static void *check(void *unused)
     if (siltbrow_check(vertices, sizeof vertices, walks, sizeof walks, NULL, 0, SILTBROW_HOP_SIZE) != 0)
         exit(2);
     return unused;
+}
+
+/* The list that is made of what the run has settled. */
+static void *judge(void *unused)
+{
+    uint8_t here = 0;
+    top = &here;
+    judged = siltbrow_judge(vertices, sizeof vertices, walks, sizeof walks, NULL, 0, SILTBROW_HOP_SIZE, WALKS / 2, 10,
+                            36000, SILTBROW_MAX_DURATION, 14, bought, list_len);
+    return unused;
+}
+
+/* Makes a bought list of all settled vertices, each with the lowest record that is its reason. */
+static void buy(void)
+{
+    static uint32_t place[VERTICES], ticks[VERTICES];
+    uint32_t count = siltbrow_read_answer(answer).settled;
+    for (uint32_t i = 0; i < count; i++) {
+        uint32_t vertex = siltbrow_get(settled + 8 * i);
+        place[vertex] = i;
+        ticks[vertex] = siltbrow_get(settled + 8 * i + 4);
+        siltbrow_put_entry(bought + SILTBROW_ENTRY_SIZE * i, vertex, ticks[vertex], SILTBROW_SEED);
+    }
+    for (uint32_t record = 0; record < WALKS; record++) {
+        uint32_t from = siltbrow_get(walks + 16 * record), to = siltbrow_get(walks + 16 * record + 4);
+        if (place[to] < place[from] && ticks[to] + siltbrow_get_length(walks + 16 * record) == ticks[from])
+            siltbrow_put(bought + SILTBROW_ENTRY_SIZE * place[from] + 8, record);
+    }
+    list_len = SILTBROW_ENTRY_SIZE * (size_t)count;
 }
 
 /* The frame of all vertices, which stand in the settled buffer. */
@@ -142,16 +174,22 @@ int main(void)
             covering = depth > covering ? depth : covering;
             whole += list_len == sizeof settled && siltbrow_read_parts(answer).parts >= WALKS;
         }
+    limit = SILTBROW_NO_LIMIT;
+    held_len = sizeof held;
+    (void)used(run);
+    buy();
+    size_t judging = used(judge);
+    int right = judged == 0 && list_len == sizeof bought;
     size_t depth = used(check);
     for (uint32_t v = 0; v < VERTICES; v++)
         siltbrow_put(settled + 8 * v, v);
     size_t framing = used(frame);
     int framed = siltbrow_read_frame(answer).refusal == SILTBROW_ACCEPTED;
     size_t moving = used(forward), back = used(backward);
-    printf("a check uses %zu bytes of stack, a run at most %zu, parts at most %zu, a frame %zu, the moves %zu and %zu\n", depth, most, covering,
-           framing, moving, back);
+    printf("a check uses %zu bytes of stack, a run at most %zu, parts at most %zu, a frame %zu, the moves %zu and %zu, judging %zu\n", depth, most, covering,
+           framing, moving, back, judging);
     int good = whole > 0 && framed && depth > 1000 && most > 1000 && covering > 1000 && framing > 1000 && depth < MOST && most < MOST
-               && covering < MOST && framing < MOST && moving < MOST && back < MOST && memcmp(narrow, walks, sizeof walks) == 0;
+               && covering < MOST && framing < MOST && moving < MOST && back < MOST && right && judging < MOST_JUDGE && memcmp(narrow, walks, sizeof walks) == 0;
     printf("%d passed, %d failed\n", good, !good);
     return !good;
 }

@@ -6,264 +6,199 @@ use outside::mutant::{Mutant, Sound};
 use outside::outcome::{Fast, Program};
 use outside::records::{Lent, Query, Tables, Way};
 
-/// An empty slice may come as NULL, which no Rust slice can begin at.
-///
-/// # Safety
-/// `bytes` begins `len` readable bytes that nobody writes meanwhile.
-unsafe fn slice<'a>(bytes: *const u8, len: usize) -> &'a [u8] {
-    match len {
-        0 => &[],
-        _ => std::slice::from_raw_parts(bytes, len),
+/// An argument as C gives it.
+#[derive(Clone, Copy)]
+enum Given {
+    Number(usize),
+    Bytes(*mut u8),
+}
+
+impl From<usize> for Given {
+    fn from(number: usize) -> Self {
+        Given::Number(number)
     }
 }
 
-/// # Safety
-/// `bytes` begins `len` writable bytes that nobody else uses meanwhile.
-unsafe fn slice_mut<'a>(bytes: *mut u8, len: usize) -> &'a mut [u8] {
-    match len {
-        0 => &mut [],
-        _ => std::slice::from_raw_parts_mut(bytes, len),
+impl From<u32> for Given {
+    fn from(number: u32) -> Self {
+        Given::Number(number as usize)
     }
 }
 
-/// The fast program, or the wrong version of it that is asked for.
-fn by<T>(sound: impl FnOnce(Fast<Sound>) -> T, wrong: impl FnOnce(Fast<Mutant>) -> T) -> T {
-    match Mutant::from_environment() {
-        Ok(None) => sound(Fast(Sound)),
-        Ok(Some(mutant)) => wrong(Fast(mutant)),
-        Err(message) => {
-            eprintln!("double: {message}");
-            std::process::exit(2)
+impl From<i32> for Given {
+    fn from(number: i32) -> Self {
+        Given::from(number as u32)
+    }
+}
+
+impl From<*mut u8> for Given {
+    fn from(bytes: *mut u8) -> Self {
+        Given::Bytes(bytes)
+    }
+}
+
+impl From<*const u8> for Given {
+    fn from(bytes: *const u8) -> Self {
+        Given::Bytes(bytes.cast_mut())
+    }
+}
+
+/// A call with its arguments by name. The length of a slice stands behind it.
+struct Call<'a> {
+    name: &'a str,
+    given: &'a [(&'static str, Given)],
+}
+
+impl<'a> Call<'a> {
+    fn number(&self, name: &str) -> u32 {
+        let named = |&&(own, _): &&(&str, Given)| own == name;
+        match self.given.iter().find(named) {
+            Some(&(_, Given::Number(number))) => number as u32,
+            _ => unreachable!("{} has no number {name}", self.name),
+        }
+    }
+
+    fn slice(&self, name: &str) -> Option<(*mut u8, usize)> {
+        let at = self.given.iter().position(|&(own, _)| own == name)?;
+        match self.given[at..] {
+            [(_, Given::Bytes(bytes)), (_, Given::Number(len)), ..] => Some((bytes, len)),
+            _ => None,
+        }
+    }
+
+    /// An empty slice may come as NULL, which no Rust slice can begin at.
+    ///
+    /// # Safety
+    /// The pointer begins as many readable bytes as its length says, which nobody
+    /// writes meanwhile.
+    unsafe fn read(&self, name: &str) -> &'a [u8] {
+        match self.slice(name) {
+            None | Some((_, 0)) => &[],
+            Some((bytes, len)) => std::slice::from_raw_parts(bytes, len),
+        }
+    }
+
+    /// # Safety
+    /// The same of bytes that nobody else uses meanwhile.
+    unsafe fn write(&self, name: &str) -> &'a mut [u8] {
+        match self.slice(name) {
+            None | Some((_, 0)) => &mut [],
+            Some((bytes, len)) => std::slice::from_raw_parts_mut(bytes, len),
+        }
+    }
+
+    unsafe fn tables(&self) -> Tables<'a> {
+        Tables {
+            vertices: self.read("vertices"),
+            walks: self.read("walks"),
+            hops: self.read("hops"),
+            hop_size: self.number("hop_size"),
+        }
+    }
+
+    fn query(&self) -> Query {
+        Query {
+            record: self.number("record"),
+            offset: self.number("offset"),
+            arrival: self.number("arrival") as i32,
+            duration: self.number("duration"),
+            speed: self.number("speed"),
+        }
+    }
+
+    unsafe fn lent(&self) -> Lent<'a> {
+        Lent {
+            held: self.write("held"),
+            settled: self.write("settled"),
+        }
+    }
+
+    unsafe fn moved<P: Program>(&self, program: P, way: Way) -> u64 {
+        program.move_hops(way, self.read("source"), self.write("target"))
+    }
+
+    /// What a program returns, in the slices that are lent.
+    unsafe fn by<P: Program>(&self, program: P) -> u64 {
+        match self.name {
+            "check" => program.check(self.tables()),
+            "run" => {
+                let (query, limit) = (self.query(), self.number("limit"));
+                let answer = self.write("answer");
+                program
+                    .run(self.tables(), query, limit, self.lent(), answer)
+                    .into()
+            }
+            "parts" => {
+                let (list, parts) = (self.read("list"), self.write("parts"));
+                let answer = self.write("answer");
+                program
+                    .parts(self.tables(), self.query(), list, parts, answer)
+                    .into()
+            }
+            "hops_forward" => self.moved(program, Way::Forward),
+            "hops_backward" => self.moved(program, Way::Backward),
+            "judge" => program.judge(self.tables(), self.query(), self.read("list")),
+            name => unreachable!("{name} is not among these calls"),
+        }
+    }
+
+    /// With DOUBLE_STRAY set to a call, one of its slices, and `before`, `behind`
+    /// or `inside`, as in `run held behind`, one byte there is changed: a library
+    /// that the driver's guards have to find out.
+    ///
+    /// # Safety
+    /// The byte meant is writable, as it is between the driver's guards.
+    unsafe fn stray(&self) {
+        let Ok(text) = std::env::var("DOUBLE_STRAY") else {
+            return;
+        };
+        let words: Vec<&str> = text.split_whitespace().collect();
+        let [own, name, place] = words[..] else {
+            return;
+        };
+        let Some((bytes, len)) = self.slice(name).filter(|_| own == self.name) else {
+            return;
+        };
+        let at = match place {
+            "before" => bytes.wrapping_sub(1),
+            "behind" => bytes.wrapping_add(len),
+            _ => bytes,
+        };
+        if !bytes.is_null() && len > 0 {
+            *at ^= 0x10;
         }
     }
 }
 
-/// A slice as C has it, by the name it has in that call.
-type Named = (&'static str, *mut u8, usize);
-
-/// With DOUBLE_STRAY set to a call, one of its slices, and `before`, `behind`
-/// or `inside`, as in `run held behind`, one byte there is changed: a library
-/// that the driver's guards have to find out.
+/// The answer of the fast program, or of the wrong version of it that is asked for.
 ///
 /// # Safety
-/// The byte meant is writable, as it is between the driver's guards.
-unsafe fn stray(call: &str, slices: &[Named]) {
-    let Ok(text) = std::env::var("DOUBLE_STRAY") else {
-        return;
+/// Each pointer begins as many bytes as the length behind it says, and those that
+/// are written overlap nothing else.
+unsafe fn answered(name: &str, given: &[(&'static str, Given)]) -> u64 {
+    let name = name.trim_start_matches("siltbrow_");
+    let call = Call { name, given };
+    let returned = match Mutant::from_environment() {
+        Ok(None) => call.by(Fast(Sound)),
+        Ok(Some(mutant)) => call.by(Fast(mutant)),
+        Err(message) => {
+            eprintln!("double: {message}");
+            std::process::exit(2)
+        }
     };
-    let words: Vec<&str> = text.split_whitespace().collect();
-    let [own, name, place] = words[..] else {
-        return;
-    };
-    let slice = slices.iter().find(|slice| slice.0 == name);
-    let Some(&(_, bytes, len)) = slice.filter(|_| own == call) else {
-        return;
-    };
-    let at = match place {
-        "before" => bytes.wrapping_sub(1),
-        "behind" => bytes.wrapping_add(len),
-        _ => bytes,
-    };
-    if !bytes.is_null() && len > 0 {
-        *at ^= 0x10;
-    }
-}
-
-/// # Safety
-/// Each pointer begins as many bytes as the length behind it says.
-#[no_mangle]
-pub unsafe extern "C" fn siltbrow_check(
-    vertices: *const u8,
-    vertices_len: usize,
-    walks: *const u8,
-    walks_len: usize,
-    hops: *const u8,
-    hops_len: usize,
-    hop_size: u32,
-) -> u64 {
-    let tables = Tables {
-        vertices: slice(vertices, vertices_len),
-        walks: slice(walks, walks_len),
-        hops: slice(hops, hops_len),
-        hop_size,
-    };
-    let returned = by(|fast| fast.check(tables), |fast| fast.check(tables));
-    stray(
-        "check",
-        &[
-            ("vertices", vertices.cast_mut(), vertices_len),
-            ("walks", walks.cast_mut(), walks_len),
-            ("hops", hops.cast_mut(), hops_len),
-        ],
-    );
+    call.stray();
     returned
 }
 
-/// # Safety
-/// Each pointer begins as many bytes as the length behind it says, and those
-/// of the two buffers and the answer overlap nothing else.
-#[no_mangle]
-pub unsafe extern "C" fn siltbrow_run(
-    vertices: *const u8,
-    vertices_len: usize,
-    walks: *const u8,
-    walks_len: usize,
-    hops: *const u8,
-    hops_len: usize,
-    hop_size: u32,
-    record: u32,
-    offset: u32,
-    arrival: i32,
-    duration: u32,
-    speed: u32,
-    limit: u32,
-    held: *mut u8,
-    held_len: usize,
-    settled: *mut u8,
-    settled_len: usize,
-    answer: *mut u8,
-    answer_len: usize,
-) -> u32 {
-    let tables = Tables {
-        vertices: slice(vertices, vertices_len),
-        walks: slice(walks, walks_len),
-        hops: slice(hops, hops_len),
-        hop_size,
+macro_rules! exported {
+    ($name:ident($($argument:ident: $kind:ty),*) -> $out:ty) => {
+        /// # Safety
+        /// As of `answered`.
+        #[no_mangle]
+        pub unsafe extern "C" fn $name($($argument: $kind),*) -> $out {
+            answered(stringify!($name), &[$((stringify!($argument), $argument.into())),*]) as $out
+        }
     };
-    let query = Query {
-        record,
-        offset,
-        arrival,
-        duration,
-        speed,
-    };
-    let lent = || Lent {
-        held: slice_mut(held, held_len),
-        settled: slice_mut(settled, settled_len),
-    };
-    let told = || slice_mut(answer, answer_len);
-    let returned = by(
-        |fast| fast.run(tables, query, limit, lent(), told()),
-        |fast| fast.run(tables, query, limit, lent(), told()),
-    );
-    stray(
-        "run",
-        &[
-            ("vertices", vertices.cast_mut(), vertices_len),
-            ("walks", walks.cast_mut(), walks_len),
-            ("hops", hops.cast_mut(), hops_len),
-            ("held", held, held_len),
-            ("settled", settled, settled_len),
-            ("answer", answer, answer_len),
-        ],
-    );
-    returned
 }
 
-/// # Safety
-/// Each pointer begins as many bytes as the length behind it says, and those
-/// of the part buffer and the answer overlap nothing else.
-#[no_mangle]
-pub unsafe extern "C" fn siltbrow_parts(
-    vertices: *const u8,
-    vertices_len: usize,
-    walks: *const u8,
-    walks_len: usize,
-    hops: *const u8,
-    hops_len: usize,
-    hop_size: u32,
-    record: u32,
-    offset: u32,
-    arrival: i32,
-    duration: u32,
-    speed: u32,
-    list: *const u8,
-    list_len: usize,
-    parts: *mut u8,
-    parts_len: usize,
-    answer: *mut u8,
-    answer_len: usize,
-) -> u32 {
-    let tables = Tables {
-        vertices: slice(vertices, vertices_len),
-        walks: slice(walks, walks_len),
-        hops: slice(hops, hops_len),
-        hop_size,
-    };
-    let query = Query {
-        record,
-        offset,
-        arrival,
-        duration,
-        speed,
-    };
-    let entries = slice(list, list_len);
-    let buffer = || slice_mut(parts, parts_len);
-    let told = || slice_mut(answer, answer_len);
-    let returned = by(
-        |fast| fast.parts(tables, query, entries, buffer(), told()),
-        |fast| fast.parts(tables, query, entries, buffer(), told()),
-    );
-    stray(
-        "parts",
-        &[
-            ("vertices", vertices.cast_mut(), vertices_len),
-            ("walks", walks.cast_mut(), walks_len),
-            ("hops", hops.cast_mut(), hops_len),
-            ("list", list.cast_mut(), list_len),
-            ("parts", parts, parts_len),
-            ("answer", answer, answer_len),
-        ],
-    );
-    returned
-}
-
-/// # Safety
-/// Each pointer begins as many bytes as the length behind it says, and those
-/// of the target overlap nothing else.
-unsafe fn moved(way: Way, name: &str, [source, target]: [Named; 2]) -> u64 {
-    let from = slice(source.1, source.2);
-    let to = || slice_mut(target.1, target.2);
-    let returned = by(
-        |fast| fast.move_hops(way, from, to()),
-        |fast| fast.move_hops(way, from, to()),
-    );
-    stray(name, &[source, target]);
-    returned
-}
-
-/// # Safety
-/// Each pointer begins as many bytes as the length behind it says, and those
-/// of the target overlap nothing else.
-#[no_mangle]
-pub unsafe extern "C" fn siltbrow_hops_forward(
-    source: *const u8,
-    source_len: usize,
-    target: *mut u8,
-    target_len: usize,
-) -> u64 {
-    let source = ("source", source.cast_mut(), source_len);
-    moved(
-        Way::Forward,
-        "forward",
-        [source, ("target", target, target_len)],
-    )
-}
-
-/// # Safety
-/// Each pointer begins as many bytes as the length behind it says, and those
-/// of the target overlap nothing else.
-#[no_mangle]
-pub unsafe extern "C" fn siltbrow_hops_backward(
-    source: *const u8,
-    source_len: usize,
-    target: *mut u8,
-    target_len: usize,
-) -> u64 {
-    let source = ("source", source.cast_mut(), source_len);
-    moved(
-        Way::Backward,
-        "backward",
-        [source, ("target", target, target_len)],
-    )
-}
+outside::calls!(exported);

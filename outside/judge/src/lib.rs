@@ -4,6 +4,7 @@
 //! straight from the definitions. The two share the record types in `records`
 //! and nothing else, so that one can judge the other, and both the library.
 
+pub mod c;
 pub mod cases;
 pub mod commands;
 pub mod fast;

@@ -2,8 +2,9 @@
 //! as one table. `fast`, `slow` and the library are held against it. The cases
 //! are pairs: a run, and the parts of its own list. Behind them stand vertices
 //! that are forgotten, lists of all kinds, for the parts operation alone, then
-//! hops with trips and moves, rides of no minutes, and waits.
+//! hops with trips and moves, rides of no minutes, waits, and bought lists.
 
+mod bought;
 mod forgetting;
 mod lists;
 mod moments;
@@ -55,10 +56,11 @@ const fn marked(name: &'static str, make: fn() -> Case, wanted: &'static [Wanted
 }
 
 /// Every row: the marked cases, forgotten vertices, the lists, trips and moves,
-/// rides of no minutes, waits.
+/// rides of no minutes, waits, bought lists.
 pub fn all() -> impl Iterator<Item = &'static Marked> {
     let rows = MARKED.iter().chain(forgetting::ALL).chain(lists::ALL);
-    rows.chain(trips::ALL).chain(moments::ALL).chain(waits::ALL)
+    let rows = rows.chain(trips::ALL).chain(moments::ALL);
+    rows.chain(waits::ALL).chain(bought::ALL)
 }
 
 const MARKED: &[Marked] = &[
@@ -357,7 +359,7 @@ fn parts_behind(case: &Case, after: &Outcome) -> bool {
     let asked = match case.call {
         Call::Parts => true,
         Call::Pair => Answer::read(&after.answer).refusal == 0,
-        Call::Check | Call::Run | Call::Move(_) => false,
+        Call::Check | Call::Run | Call::Move(_) | Call::Judge => false,
     };
     if !asked {
         return case.parts == after.parts && case.parts_answer == after.parts_answer;

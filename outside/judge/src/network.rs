@@ -2,7 +2,7 @@
 
 use crate::outcome::{Call, Case};
 use crate::records::{
-    Hop, Query, Settled, Vertex, Walk, ANSWER, HELD, HOP, NONE, PART, PARTS_ANSWER, SETTLED,
+    Hop, Listed, Query, Settled, Vertex, Walk, ANSWER, HELD, HOP, NONE, PART, PARTS_ANSWER, SETTLED,
 };
 use crate::rng::Rng;
 
@@ -177,6 +177,16 @@ impl Scene {
             list: list.iter().flat_map(|entry| entry.bytes()).collect(),
             parts: vec![0; (self.network.walks.len() + 2) * PART],
             parts_answer: vec![0; PARTS_ANSWER],
+            ..self.network.check_case()
+        }
+    }
+
+    /// The judgement of a bought list.
+    pub fn judge_case(&self, list: &[Listed]) -> Case {
+        Case {
+            call: Call::Judge,
+            query: self.query,
+            list: list.iter().flat_map(|entry| entry.bytes()).collect(),
             ..self.network.check_case()
         }
     }

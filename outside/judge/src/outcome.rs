@@ -14,6 +14,8 @@ pub enum Call {
     Pair,
     /// The hop table is the source.
     Move(Way),
+    /// A bought list.
+    Judge,
 }
 
 impl Call {
@@ -29,7 +31,12 @@ impl Call {
 
     /// Whether the value returned tells refusal and place.
     pub fn returns_refusal(self) -> bool {
-        matches!(self, Call::Check | Call::Move(_))
+        matches!(self, Call::Check | Call::Move(_) | Call::Judge)
+    }
+
+    /// Whether a list is lent.
+    pub fn takes_list(self) -> bool {
+        matches!(self, Call::Parts | Call::Judge)
     }
 
     /// Whether parts can be asked for.
@@ -54,6 +61,9 @@ pub trait Program {
     ) -> u32;
 
     fn move_hops(&self, way: Way, source: &[u8], target: &mut [u8]) -> u64;
+
+    /// Judges a bought list.
+    fn judge(&self, tables: Tables, query: Query, list: &[u8]) -> u64;
 
     /// The run, then the parts of the list that it wrote: as many bytes as its
     /// settled count tells, not the zeros behind them. Where the run writes no
@@ -109,6 +119,10 @@ impl<F: Fault> Program for Fast<F> {
     fn move_hops(&self, way: Way, source: &[u8], target: &mut [u8]) -> u64 {
         fast::call_move(way, source, target, self.0)
     }
+
+    fn judge(&self, tables: Tables, query: Query, list: &[u8]) -> u64 {
+        fast::call_judge(tables, query, list, self.0)
+    }
 }
 
 /// The program that takes every answer from the definitions.
@@ -137,6 +151,10 @@ impl Program for Slow {
     fn move_hops(&self, way: Way, source: &[u8], target: &mut [u8]) -> u64 {
         slow::call_move(way, source, target)
     }
+
+    fn judge(&self, tables: Tables, query: Query, list: &[u8]) -> u64 {
+        slow::call_judge(tables, query, list)
+    }
 }
 
 /// One call of the library: all its arguments, the buffers as they are lent.
@@ -154,7 +172,7 @@ pub struct Case {
     pub limit: u32,
     pub held: Vec<u8>,
     pub settled: Vec<u8>,
-    /// The settled list of the parts operation.
+    /// The settled list of the parts operation, or a bought list.
     pub list: Vec<u8>,
     pub parts: Vec<u8>,
     pub answer: Vec<u8>,
@@ -238,6 +256,7 @@ impl Case {
                 run << 32 | parts
             }
             Call::Move(way) => program.move_hops(way, &self.hops, &mut after.target),
+            Call::Judge => program.judge(tables, query, &self.list),
         }
     }
 
@@ -253,7 +272,9 @@ impl Case {
             (three.refusal, three.place)
         };
         match self.call {
-            Call::Check | Call::Move(_) => ((after.returned >> 32) as u32, after.returned as u32),
+            Call::Check | Call::Move(_) | Call::Judge => {
+                ((after.returned >> 32) as u32, after.returned as u32)
+            }
             Call::Run => run(),
             Call::Parts => parts(),
             Call::Pair if run().0 != 0 => run(),

@@ -100,6 +100,10 @@ impl Program for OneRun {
         Fast(Sound).move_hops(way, source, target)
     }
 
+    fn judge(&self, tables: Tables, query: Query, list: &[u8]) -> u64 {
+        Fast(Sound).judge(tables, query, list)
+    }
+
     /// For accepted runs with room for all parts.
     fn pair(&self, case: &Case, after: &mut Outcome) -> [u32; 2] {
         let mut lent = Lent {

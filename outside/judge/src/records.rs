@@ -11,6 +11,8 @@ pub const TRIP_HOP: usize = 20;
 pub const HELD: usize = 16;
 pub const SETTLED: usize = 8;
 pub const PART: usize = 12;
+/// An entry of a bought list.
+pub const LISTED: usize = 12;
 pub const ANSWER: usize = 24;
 pub const PARTS_ANSWER: usize = 12;
 pub const JOB: usize = 20;
@@ -176,6 +178,31 @@ impl Settled {
 
     pub fn bytes(&self) -> [u8; SETTLED] {
         lay(&[self.vertex, self.distance])
+    }
+}
+
+/// An entry of a bought list: a settled record, and the record that a journey
+/// from there starts with, walks numbered first, FFFFFFFF for a seed.
+#[derive(Clone, Copy, Debug, PartialEq, Eq)]
+pub struct Listed {
+    pub vertex: u32,
+    pub distance: u32,
+    pub record: u32,
+}
+
+impl Listed {
+    #[inline]
+    pub fn read(table: &[u8], index: usize) -> Self {
+        let bytes = &table[index * LISTED..][..LISTED];
+        Listed {
+            vertex: word(bytes, 0),
+            distance: word(bytes, 4),
+            record: word(bytes, 8),
+        }
+    }
+
+    pub fn bytes(&self) -> [u8; LISTED] {
+        lay(&[self.vertex, self.distance, self.record])
     }
 }
 

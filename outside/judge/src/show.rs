@@ -4,8 +4,8 @@ use std::fmt::Write;
 
 use crate::outcome::{Call, Case, Outcome};
 use crate::records::{
-    trip, Answer, Held, Hop, Part, PartsAnswer, Settled, Vertex, Walk, Way, ANSWER, HELD, HOP,
-    NONE, PART, PARTS_ANSWER, SETTLED, TRIP_HOP, VERTEX, WALK,
+    trip, Answer, Held, Hop, Listed, Part, PartsAnswer, Settled, Vertex, Walk, Way, ANSWER, HELD,
+    HOP, LISTED, NONE, PART, PARTS_ANSWER, SETTLED, TRIP_HOP, VERTEX, WALK,
 };
 
 /// More records than this are only counted.
@@ -107,9 +107,13 @@ pub fn case(case: &Case) -> String {
             case.answer.len()
         );
     }
-    if case.call == Call::Parts {
-        let _ = writeln!(text, "# list:{}", settled_rows(&case.list));
-        let rest = case.list.len() % SETTLED;
+    if case.call.takes_list() {
+        let (rows, size) = match case.call {
+            Call::Judge => (listed_rows(&case.list), LISTED),
+            _ => (settled_rows(&case.list), SETTLED),
+        };
+        let _ = writeln!(text, "# list:{rows}");
+        let rest = case.list.len() % size;
         if rest != 0 {
             let _ = writeln!(text, "# and {rest} bytes more");
         }
@@ -170,6 +174,13 @@ fn settled_rows(bytes: &[u8]) -> String {
     rows(bytes, SETTLED, |i| {
         let s = Settled::read(bytes, i);
         format!(" ({} {})", s.vertex, s.distance)
+    })
+}
+
+fn listed_rows(bytes: &[u8]) -> String {
+    rows(bytes, LISTED, |i| {
+        let l = Listed::read(bytes, i);
+        format!(" ({} {} {})", l.vertex, l.distance, l.record)
     })
 }
 

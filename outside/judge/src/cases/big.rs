@@ -2,10 +2,11 @@
 
 use super::big_lists as lists;
 use super::big_trips as trips;
+use super::bought;
 use super::hubs;
 use crate::network::{full_scene, Network, Plan, Scene};
 use crate::outcome::Case;
-use crate::records::{Query, Vertex, NONE};
+use crate::records::{Listed, Query, Vertex, NONE};
 
 /// A case and the refusal and place that it is built to give.
 pub struct Big {
@@ -142,6 +143,29 @@ pub const ALL: &[Big] = &[
         8,
         1,
     ),
+    big("its own list, judged", || judged(full(), |_| ()), 0, 0),
+    somewhere(
+        "its own list, the last left out",
+        || judged(full(), |list| list.truncate(list.len() - 1)),
+        28,
+    ),
+    somewhere(
+        "its own list, the last twice",
+        || judged(full(), |list| list.push(list[list.len() - 1])),
+        25,
+    ),
+    big(
+        "65,536 entries at one moment, judged",
+        || judged(moment(), |_| ()),
+        0,
+        0,
+    ),
+    big(
+        "65,536 entries at one moment, backwards",
+        || judged(moment(), |list| list.reverse()),
+        27,
+        0,
+    ),
     big("65,536 entries", || lists::listed(|list| list), 0, 0),
     big(
         "65,536 entries, backwards",
@@ -246,6 +270,13 @@ pub const ALL: &[Big] = &[
 
 pub fn full() -> Scene {
     full_scene(3_600)
+}
+
+/// What a run settles, with the record of each, and something done to it.
+fn judged(scene: Scene, change: fn(&mut Vec<Listed>)) -> Case {
+    let mut list = bought::whole(&scene);
+    change(&mut list);
+    scene.judge_case(&list)
 }
 
 /// The full network and so many records more than it may have.

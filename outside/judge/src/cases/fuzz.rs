@@ -2,13 +2,13 @@
 //! rooms and jobs are changed without a plan. Some are mended afterwards, so
 //! that what was changed comes as far as the search.
 
-use super::{hopeless, jobs, small, trips};
+use super::{bought, hopeless, jobs, small, trips};
 use crate::mutant::Sound;
 use crate::network::{Network, Scene};
 use crate::outcome::{Call, Case};
 use crate::records::{
-    word, Answer, Hop, Walk, Way, ANSWER, HELD, HOP, JOB, NONE, PART, PARTS_ANSWER, SETTLED,
-    TRIP_HOP, VERTEX, WALK,
+    word, Answer, Hop, Walk, Way, ANSWER, HELD, HOP, JOB, LISTED, NONE, PART, PARTS_ANSWER,
+    SETTLED, TRIP_HOP, VERTEX, WALK,
 };
 use crate::rng::Rng;
 
@@ -34,9 +34,13 @@ pub fn case(seed: u64, index: u64) -> Case {
     case.call = match rng.below(20) {
         0..=2 => Call::Check,
         3..=6 => Call::Run,
-        7..=12 => Call::Pair,
+        7..=11 => Call::Pair,
+        12..=14 => Call::Judge,
         _ => Call::Parts,
     };
+    if case.call == Call::Judge {
+        judged(&mut case, &scene, rng);
+    }
     if case.call == Call::Parts {
         list(&mut case, &scene, rng);
     }
@@ -98,6 +102,17 @@ fn list(case: &mut Case, scene: &Scene, rng: &mut Rng) {
     case.list.truncate(end * SETTLED);
     for _ in 0..rng.pick(&[0, 0, 0, 1, 1, 2, 3]) {
         damage(&mut case.list, SETTLED, rng);
+    }
+}
+
+/// A run's own list with its records, and some changes to it.
+fn judged(case: &mut Case, scene: &Scene, rng: &mut Rng) {
+    if !scene.network.walks.is_empty() {
+        let list = bought::whole(scene);
+        case.list = list.iter().flat_map(|entry| entry.bytes()).collect();
+    }
+    for _ in 0..rng.pick(&[0, 0, 0, 1, 1, 2, 3]) {
+        damage(&mut case.list, LISTED, rng);
     }
 }
 

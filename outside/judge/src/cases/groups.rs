@@ -3,7 +3,7 @@
 use std::collections::BTreeSet;
 
 use super::damage::{any, several, sweep};
-use super::{hopeless, lists, small, trips};
+use super::{bought, hopeless, lists, small, trips};
 use crate::mutant::Sound;
 use crate::network::Scene;
 use crate::outcome::{Call, Case};
@@ -33,23 +33,24 @@ pub fn group(seed: u64, index: u64) -> Vec<Case> {
 /// Whether the group has a network with hopeless vertices: every other one of
 /// those about room, and some of those about limits.
 fn forgets(index: u64) -> bool {
-    (2..8).contains(&(index % 26)) && index / 26 % 2 == 1
+    (2..8).contains(&(index % 29)) && index / 29 % 2 == 1
 }
 
 /// Twelve groups about the run and its pair, twelve about lists, one about the
-/// size of a hop and one about the moves.
+/// size of a hop, one about the moves and three about bought lists.
 fn varied(index: u64, scene: &Scene, rng: &mut Rng) -> Vec<Case> {
-    match index % 26 {
+    match index % 29 {
         0..=3 => limits(scene, rng),
         4..=6 => rooms(scene, rng),
         7 => every_room(scene),
         8 => each_place(scene, rng),
         9 => sweep(&one_of_all(scene, rng), rng),
         10 => several_faults(scene, rng),
-        11 if index % 52 == 11 => lengths(scene, rng),
+        11 if index % 58 == 11 => lengths(scene, rng),
         11 => queries(scene, rng),
         24 => trips::sizes(scene, rng),
         25 => trips::moves(scene, rng),
+        26.. => bought::varied(index % 29 - 26, scene, rng),
         turn => lists::varied(turn - 12, scene, rng),
     }
 }
@@ -79,9 +80,10 @@ fn dress(mut case: Case, rng: &mut Rng) -> Case {
     case
 }
 
-/// A check, a run, or parts over the same tables.
+/// A check, a run, parts, or a bought list over the same tables.
 pub fn one_of_all(scene: &Scene, rng: &mut Rng) -> Case {
-    match rng.below(10) {
+    match rng.below(12) {
+        10.. => bought::some_case(scene, rng),
         0..=2 => scene.network.check_case(),
         3..=5 => lists::some_case(scene, rng),
         6..=7 => scene.pair_case(u32::MAX),
@@ -208,6 +210,7 @@ fn few(scene: &Scene, rng: &mut Rng) -> Vec<Case> {
         cases.push(scene.run_case(limit));
     }
     cases.extend(lists::few(scene, rng));
+    cases.extend(bought::few(scene, rng));
     cases
 }
 
@@ -222,6 +225,7 @@ fn each_place(scene: &Scene, rng: &mut Rng) -> Vec<Case> {
             cases.push(scene.network.check_case());
             cases.push(scene.run_case(u32::MAX));
             cases.push(lists::some_case(&scene, rng));
+            cases.push(scene.judge_case(&[]));
         }
     }
     cases
@@ -304,9 +308,10 @@ fn lengths(scene: &Scene, rng: &mut Rng) -> Vec<Case> {
 
 /// Each field of the query at its limits and beyond.
 fn queries(scene: &Scene, rng: &mut Rng) -> Vec<Case> {
-    let case = match rng.chance(50) {
-        true => scene.run_case(u32::MAX),
-        false => lists::some_case(scene, rng),
+    let case = match rng.below(6) {
+        0 | 1 => scene.run_case(u32::MAX),
+        2 | 3 => lists::some_case(scene, rng),
+        _ => bought::some_case(scene, rng),
     };
     let record = scene.query.record as usize;
     let at = record * 16 + 8;

@@ -4,6 +4,7 @@
 pub mod big;
 mod big_lists;
 mod big_trips;
+pub mod bought;
 pub mod damage;
 pub mod fuzz;
 pub mod groups;

@@ -2,7 +2,7 @@
 
 use std::collections::{BTreeMap, BTreeSet};
 
-use super::{big, fuzz, groups, hopeless, jobs, stream};
+use super::{big, bought, fuzz, groups, hopeless, jobs, small, stream};
 use crate::fast;
 use crate::mutant::{Mutant, Sound};
 use crate::outcome::{Call, Case, Outcome};
@@ -14,7 +14,7 @@ use crate::records::{
 use crate::rng::Rng;
 use crate::slow;
 
-const CASES: usize = 60_000;
+const CASES: usize = 66_000;
 
 /// The refusals (or 0) and places that the operations of a case answer.
 fn answers(case: &Case, after: &Outcome) -> Vec<(&'static str, (u32, u32))> {
@@ -30,6 +30,7 @@ fn answers(case: &Case, after: &Outcome) -> Vec<(&'static str, (u32, u32))> {
         Call::Pair => vec![("run", accepted), ("parts", refusal)],
         Call::Move(Way::Forward) => vec![("forward", refusal)],
         Call::Move(Way::Backward) => vec![("backward", refusal)],
+        Call::Judge => vec![("judge", refusal)],
     }
 }
 
@@ -49,6 +50,7 @@ fn every_refusal_arises() {
         ("check", &[0, 1, 2][..]),
         ("run", &[0, 1, 2, 3, 4]),
         ("parts", &[0, 1, 2, 4, 5]),
+        ("judge", &[0, 1, 2, 4]),
     ] {
         for &place in places {
             often(operation, 1, place, 10);
@@ -64,6 +66,7 @@ fn every_refusal_arises() {
     for place in 0..5 {
         often("run", 7, place, 20);
         often("parts", 7, place, 20);
+        often("judge", 7, place, 10);
     }
     for step in 0..7 {
         often("run", 8, step, 10);
@@ -71,6 +74,15 @@ fn every_refusal_arises() {
         often("parts", 10, step, 10);
         often("parts", 21, step, 20);
     }
+    for place in 0..7 {
+        often("judge", 25, place, 10);
+        often("judge", 26, place, 3);
+        often("judge", 27, place, 10);
+        often("judge", 28, place, 10);
+    }
+    often("judge", 28, NONE - 1, 50);
+    often("judge", 28, NONE, 50);
+    often("judge", 0, 0, 500);
     for way in ["forward", "backward"] {
         often(way, 0, 0, 50);
         often(way, 1, 2, 50);
@@ -79,8 +91,8 @@ fn every_refusal_arises() {
     for record in 0..7 {
         often("backward", 11, record, 10);
     }
-    often("run", 0, 0, CASES / 8);
-    often("parts", 0, 0, CASES / 8);
+    often("run", 0, 0, CASES / 9);
+    often("parts", 0, 0, CASES / 9);
 }
 
 /// The features of an accepted pair that rules turn on.
@@ -268,7 +280,7 @@ fn every_feature_arises() {
         }
     }
     assert_eq!(seen.len(), 29, "{seen:#?}");
-    assert!(seen.values().all(|&count| count >= 50), "{seen:#?}");
+    assert!(seen.values().all(|&count| count >= 40), "{seen:#?}");
 }
 
 /// The features of a list that rules turn on, accepted or refused.
@@ -528,8 +540,8 @@ fn forgetting_takes_the_hopeless_alone() {
 fn exact_room_is_tried_at_every_limit() {
     let mut limits = 0;
     // Every 80th group is a town, and in some the vertices lie far apart.
-    for index in (7..2_600)
-        .step_by(26)
+    for index in (7..2_900)
+        .step_by(29)
         .filter(|index| index % 80 != 79 && ![119, 199].contains(&(index % 240)))
     {
         let cases = groups::group(1, index);
@@ -643,7 +655,7 @@ fn fast_and_slow_agree() {
 /// often enough as far as an accepted run.
 #[test]
 fn damaged_cases_come_everywhere() {
-    let mut seen = [0; 22];
+    let mut seen = [0; 29];
     let mut strange = 0;
     for index in 0..6_000 {
         let case = fuzz::case(1, index);
@@ -655,12 +667,38 @@ fn damaged_cases_come_everywhere() {
     }
     assert!(strange >= 100, "{strange} answers of another length");
     assert!(seen[0] >= 800, "{} accepted", seen[0]);
-    for number in (0..=11).chain([21]) {
+    for number in (0..=11).chain([21]).chain(25..=28) {
         let count = seen[number];
         // Walks that are moved mostly lose their twins first, which is refusal 2.
-        assert!(
-            count >= 20 || number == 4 && count >= 3,
-            "refusal {number}: {count}"
-        );
+        let least = match number {
+            4 => 3,
+            25.. => 10,
+            _ => 20,
+        };
+        assert!(count >= least, "refusal {number}: {count}");
     }
+}
+
+/// A run's own list passes with any records that are reasons, in any order that
+/// these allow; and it always has them.
+#[test]
+fn own_lists_pass() {
+    let mut passed = 0;
+    for index in 0..1_500 {
+        let rng = &mut Rng::new(3, index);
+        let scene = small::scene(rng);
+        if scene.network.walks.is_empty() {
+            continue;
+        }
+        for list in [
+            bought::own(&scene, rng),
+            bought::reordered(&scene, rng),
+            bought::whole(&scene),
+        ] {
+            let case = scene.judge_case(&list);
+            assert_eq!(case.slow().returned, 0, "scene {index}");
+            passed += usize::from(list.len() > 2);
+        }
+    }
+    assert!(passed > 1_000, "{passed}");
 }

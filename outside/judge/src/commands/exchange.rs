@@ -47,6 +47,7 @@ const PARTS: u8 = 3;
 const PAIR: u8 = 4;
 const FORWARD: u8 = 5;
 const BACKWARD: u8 = 6;
+const JUDGE: u8 = 7;
 
 fn kind(call: Call) -> u8 {
     match call {
@@ -56,6 +57,7 @@ fn kind(call: Call) -> u8 {
         Call::Pair => PAIR,
         Call::Move(Way::Forward) => FORWARD,
         Call::Move(Way::Backward) => BACKWARD,
+        Call::Judge => JUDGE,
     }
 }
 
@@ -93,7 +95,7 @@ pub fn write_case(out: &mut impl Write, case: &Case) -> std::io::Result<()> {
         write_slice(out, &case.settled)?;
         write_slice(out, &case.answer)?;
     }
-    if case.call == Call::Parts {
+    if case.call.takes_list() {
         write_slice(out, &case.list)?;
     }
     if case.call.parts() {

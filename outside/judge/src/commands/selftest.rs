@@ -4,7 +4,7 @@ use super::Tally;
 use crate::cases::{big, jobs, stream};
 use crate::fast;
 use crate::mutant::{Fault, Sound};
-use crate::outcome::{Case, Outcome, Slow};
+use crate::outcome::{Call, Case, Outcome, Slow};
 use crate::pair;
 use crate::records::{Answer, Walk, ANSWER, WALK};
 use crate::show;
@@ -29,6 +29,14 @@ pub fn run<F: Fault>(seed: u64, cases: usize, fault: F) -> Result<(), String> {
             tally.count(same, || {
                 let shown = show::case(&case);
                 format!("case {number}: trips matter, or the way back differs\n{shown}")
+            });
+        }
+        if let Some(same) = passes_settled(&case, &slow) {
+            tally.count(same, || {
+                format!(
+                    "case {number}: what passes is not settled\n{}",
+                    show::case(&case)
+                )
             });
         }
         if finished(&case, &slow) {
@@ -75,6 +83,17 @@ fn judge_big<F: Fault>(big: &big::Big, fault: F, tally: &mut Tally) {
     tally.count(built && old && fast == slow, || {
         told(big.name, &case, &fast, &slow)
     });
+}
+
+/// Whether a bought list that passes has what is settled, with its distances, by
+/// the journeys. None where none passes.
+fn passes_settled(case: &Case, outcome: &Outcome) -> Option<bool> {
+    let passed = case.call == Call::Judge && outcome.returned == 0;
+    let right = || {
+        let (tables, query) = (case.tables(), case.query);
+        slow::is_settled(tables, query, &case.list) && slow::mistimed(tables, query).is_none()
+    };
+    passed.then(right)
 }
 
 /// An accepted run to the end.

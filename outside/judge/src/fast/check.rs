@@ -6,7 +6,8 @@ use std::ops::RangeInclusive;
 use super::hops;
 use crate::mutant::{Fault, Mutant, Sound};
 use crate::records::{
-    word, Lent, Query, Refusal, Tables, Vertex, Walk, HELD, NONE, PART, SETTLED, VERTEX, WALK,
+    word, Lent, Query, Refusal, Tables, Vertex, Walk, HELD, LISTED, NONE, PART, SETTLED, VERTEX,
+    WALK,
 };
 
 const MOST_VERTICES: usize = 65_536;
@@ -48,6 +49,20 @@ pub fn judge_parts<F: Fault>(
         return judge(tables, query, &[rows[1], rows[0]], fault);
     }
     judge(tables, query, &rows, fault)
+}
+
+/// Everything that is judged before the entries of a bought list.
+pub fn judge_bought<F: Fault>(
+    tables: Tables,
+    query: Query,
+    list: usize,
+    fault: F,
+) -> Option<Refusal> {
+    let list = match fault.is(Mutant::BoughtCut) {
+        true => list / LISTED * LISTED,
+        false => list,
+    };
+    judge(tables, query, &[(4, list, LISTED)], fault)
 }
 
 /// Everything that the one run of RULES 11.7 judges before step 0.

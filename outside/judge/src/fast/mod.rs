@@ -1,5 +1,6 @@
 //! The rules with a binary heap and ordinary arrays: judge and speed baseline.
 
+mod bought;
 mod check;
 mod held;
 mod hops;
@@ -29,6 +30,16 @@ pub fn call_check<F: Fault>(tables: Tables, fault: F) -> u64 {
 /// A move as C sees it.
 pub fn call_move<F: Fault>(way: Way, source: &[u8], target: &mut [u8], fault: F) -> u64 {
     in_one(moves::moved(way, source, target, fault))
+}
+
+/// The judgement of a bought list as C sees it.
+pub fn call_judge<F: Fault>(tables: Tables, query: Query, list: &[u8], fault: F) -> u64 {
+    in_one(bought::judged(
+        hops::named(tables, fault),
+        query,
+        list,
+        fault,
+    ))
 }
 
 /// Refusal and place in one number.

@@ -1,6 +1,7 @@
 //! The same answers straight from the definitions: distances by a fixpoint
 //! over all records, every set of every step computed from scratch.
 
+mod bought;
 mod check;
 mod job;
 mod journeys;
@@ -12,6 +13,7 @@ mod points;
 mod run;
 mod write;
 
+pub use bought::{is_settled, judged};
 pub use check::check;
 pub use job::print;
 pub use journeys::mistimed;
@@ -30,6 +32,11 @@ pub fn call_check(tables: Tables) -> u64 {
 /// A move as C sees it.
 pub fn call_move(way: Way, source: &[u8], target: &mut [u8]) -> u64 {
     moves::moved(way, source, target).map_or(0, |(number, place)| number * (1 << 32) + place)
+}
+
+/// The judgement of a bought list as C sees it.
+pub fn call_judge(tables: Tables, query: Query, list: &[u8]) -> u64 {
+    judged(tables, query, list).map_or(0, |(number, place)| number * (1 << 32) + place)
 }
 
 /// The run as C sees it.

@@ -1,0 +1,30 @@
+//! The calls of include/siltbrow.h over walks and hops as Rust has them, each
+//! written once: for the stand-in, which defines them, and for the bench, which
+//! calls the library. A slice is a pointer and then its length.
+
+/// Gives `$make!` each call: its name, its arguments, what it returns.
+#[rustfmt::skip] // a kind of arguments a line
+#[macro_export]
+macro_rules! calls {
+    ($make:ident) => {
+        $make! { siltbrow_check(
+            vertices: *const u8, vertices_len: usize, walks: *const u8, walks_len: usize, hops: *const u8, hops_len: usize, hop_size: u32
+        ) -> u64 }
+        $make! { siltbrow_run(
+            vertices: *const u8, vertices_len: usize, walks: *const u8, walks_len: usize, hops: *const u8, hops_len: usize, hop_size: u32,
+            record: u32, offset: u32, arrival: i32, duration: u32, speed: u32, limit: u32,
+            held: *mut u8, held_len: usize, settled: *mut u8, settled_len: usize, answer: *mut u8, answer_len: usize
+        ) -> u32 }
+        $make! { siltbrow_parts(
+            vertices: *const u8, vertices_len: usize, walks: *const u8, walks_len: usize, hops: *const u8, hops_len: usize, hop_size: u32,
+            record: u32, offset: u32, arrival: i32, duration: u32, speed: u32,
+            list: *const u8, list_len: usize, parts: *mut u8, parts_len: usize, answer: *mut u8, answer_len: usize
+        ) -> u32 }
+        $make! { siltbrow_hops_forward(source: *const u8, source_len: usize, target: *mut u8, target_len: usize) -> u64 }
+        $make! { siltbrow_hops_backward(source: *const u8, source_len: usize, target: *mut u8, target_len: usize) -> u64 }
+        $make! { siltbrow_judge(
+            vertices: *const u8, vertices_len: usize, walks: *const u8, walks_len: usize, hops: *const u8, hops_len: usize, hop_size: u32,
+            record: u32, offset: u32, arrival: i32, duration: u32, speed: u32, list: *const u8, list_len: usize
+        ) -> u64 }
+    };
+}
