@@ -27,13 +27,13 @@ module _ (One : Runs) (size : ℕ) (one : (held share : List ℕ) (q : Ask) (h s
       let f = in-turn-one asks (y .0) (drop size settled) h (x .3) (x .4) h′ (y .3) (y .4) w (y .6) in
       (f .0, x .7 ∙ ap₂ (λ (m n : List ℕ). m ++ n) (e .1) (f .1) ∙ sym (y .7), x .8 ∙ ap₂ (λ (m n : List ℕ). m ++ n) (e .2) (f .2) ∙ sym (y .8))
 
-  -- What follows from a single run follows for each of the runs in turn.
-  pub in-turn-each : (Two : Runs) → ((held share : List ℕ) (q : Ask) (h s a : List ℕ) → One held share q h s a → Two held share q h s a)
-      → (asks : List Ask) (held settled h s a : List ℕ) → InTurn One size asks held settled h s a → InTurn Two size asks held settled h s a
+-- What follows from a single run follows for each of the runs in turn.
+module _ (One Two : Runs) (size : ℕ) (to : (held share : List ℕ) (q : Ask) (h s a : List ℕ) → One held share q h s a → Two held share q h s a) where
+  pub in-turn-each : (asks : List Ask) (held settled h s a : List ℕ) → InTurn One size asks held settled h s a → InTurn Two size asks held settled h s a
   unfolding InTurn
-  in-turn-each Two to [] held settled h s a x = x
-  in-turn-each Two to (q ∷ asks) held settled h s a x =
-      (x .0, x .1, x .2, x .3, x .4, to held (take size settled) q (x .0) (x .1) (x .2) (x .5), in-turn-each Two to asks (x .0) (drop size settled) h (x .3) (x .4) (x .6), x .7, x .8)
+  in-turn-each [] held settled h s a x = x
+  in-turn-each (q ∷ asks) held settled h s a x =
+      (x .0, x .1, x .2, x .3, x .4, to held (take size settled) q (x .0) (x .1) (x .2) (x .5), in-turn-each asks (x .0) (drop size settled) h (x .3) (x .4) (x .6), x .7, x .8)
 
 pub left-one : (b : Lent) (Q : Query) (limit : ℕ) (h s a h′ s′ a′ : List ℕ) → Left b Q limit h s a → Left b Q limit h′ s′ a′ → (h ≡ h′) × (s ≡ s′) × (a ≡ a′)
 left-one b Q limit h s a h′ s′ a′ x y =
