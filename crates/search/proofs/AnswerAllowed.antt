@@ -57,133 +57,133 @@ module _ (b : Lent) (Q : Query) (limit : ℕ) (fault : audit.Refusal) (F : told 
     ap (λ (x : Answer). x .parts) e,
   )
 
-  module _ (fine : fault .number ≡ 0) where
-    passes : early b Q .number ≡ 0
-    passes = number-is ∙ fine
+  pub passed : fault .number ≡ 0 → early b Q .number ≡ 0
+  passed fine = number-is ∙ fine
 
-    pub valid : Valid (tables b) Q
-    valid = early-valid b Q passes
+module _ (b : Lent) (Q : Query) (limit : ℕ) (passes : early b Q .number ≡ 0) where
+  pub valid : Valid (tables b) Q
+  valid = early-valid b Q passes
 
-    pub whole-held : length (b .held) % 16 ≡ 0
-    unfolding early bufferLengths wholeOf
-    whole-held =
-        let x = or-fine (tableLengths (b .hopSize) (b .vertices) (b .walks) (b .hops)) _ passes in
-        let y = or-fine (bufferLengths (b .held) (b .settled)) _ (x .1) in
-        eqb-true _ 0 (unless-fine (wholeOf 16 (b .held)) 1 3 (omega arith) (or-fine (unless (wholeOf 16 (b .held)) 1 3) _ (y .0) .0))
+  pub whole-held : length (b .held) % 16 ≡ 0
+  unfolding early bufferLengths wholeOf
+  whole-held =
+      let x = or-fine (tableLengths (b .hopSize) (b .vertices) (b .walks) (b .hops)) _ passes in
+      let y = or-fine (bufferLengths (b .held) (b .settled)) _ (x .1) in
+      eqb-true _ 0 (unless-fine (wholeOf 16 (b .held)) 1 3 (omega arith) (or-fine (unless (wholeOf 16 (b .held)) 1 3) _ (y .0) .0))
 
-    pub hop-fits : 16 ≤ b .hopSize
-    unfolding early
-    hop-fits = size-fits (b .hopSize) (b .vertices) (b .walks) (b .hops) (or-fine (tableLengths (b .hopSize) (b .vertices) (b .walks) (b .hops)) _ passes .0)
+  pub hop-fits : 16 ≤ b .hopSize
+  unfolding early
+  hop-fits = size-fits (b .hopSize) (b .vertices) (b .walks) (b .hops) (or-fine (tableLengths (b .hopSize) (b .vertices) (b .walks) (b .hops)) _ passes .0)
 
-    abbrev order : List Settled
-    order = orderOf (tables b) Q valid
+  abbrev order : List Settled
+  order = orderOf (tables b) Q valid
 
-    allow : (a : answers.Answer) → a ≡ answerOver b Q order limit → Allowed b Q limit a
-    allow a e = record { refused = λ n. absurd (n passes); accepted = λ z. (order, order-is (tables b) Q valid, e) }
+  allow : (a : answers.Answer) → a ≡ answerOver b Q order limit → Allowed b Q limit a
+  allow a e = record { refused = λ n. absurd (n passes); accepted = λ z. (order, order-is (tables b) Q valid, e) }
 
-    module _ (held settled : List ℕ) (end : Ended) (S : Ends (b .hopSize) (b .vertices) (b .walks) (b .hops) (length (b .held)) (length (b .settled)) Q limit held settled end) where
-      ended : EndedIs b Q order limit held settled end
-      unfolding Ends
-      ended = S (b .held) (b .settled) refl refl order (order-is (tables b) Q valid)
+  module _ (held settled : List ℕ) (end : Ended) (S : Ends (b .hopSize) (b .vertices) (b .walks) (b .hops) (length (b .held)) (length (b .settled)) Q limit held settled end) where
+    ended : EndedIs b Q order limit held settled end
+    unfolding Ends
+    ended = S (b .held) (b .settled) refl refl order (order-is (tables b) Q valid)
 
-      -- Room was found for every step.
-      module _ (p : Progress) (finished : ℕ) (done : end ≡ Done p finished) where
-        over : Over b Q order limit p finished held settled
-        unfolding EndedIs
-        over = subst (EndedIs b Q order limit held settled) done ended
+    -- Room was found for every step.
+    module _ (p : Progress) (finished : ℕ) (done : end ≡ Done p finished) where
+      over : Over b Q order limit p finished held settled
+      unfolding EndedIs
+      over = subst (EndedIs b Q order limit held settled) done ended
 
-        abbrev k : ℕ
-        k = min limit (length order)
+      abbrev k : ℕ
+      k = min limit (length order)
 
-        abbrev M : Map
-        M = heldMap (network (tables b) Q) (distanceIn (take (p .settled) order))
+      abbrev M : Map
+      M = heldMap (network (tables b) Q) (distanceIn (take (p .settled) order))
 
-        here : Room b Q order (p .settled)
-        here = over .running .room (p .settled) (let z : p .settled ≤ p .settled = omega arith in z)
+      here : Room b Q order (p .settled)
+      here = over .running .room (p .settled) (let z : p .settled ≤ p .settled = omega arith in z)
 
-        S-long : length (take (p .settled) order) ≡ p .settled
-        S-long = omega (arith, length-take (p .settled) order, over .steps)
+      S-long : length (take (p .settled) order) ≡ p .settled
+      S-long = omega (arith, length-take (p .settled) order, over .steps)
 
-        -- the numbers that the end asks for
-        pub fits-end : InOrder (p .table) held × (8 * p .settled ≤ length settled) × (p .settled < 4294967296)
-        fits-end =
-            let few = order-size (tables b) Q valid (order-is (tables b) Q valid) in
-            (over .running .table .order, omega (arith, here .1, S-long, over .running .long), omega (arith, over .steps, few, valid .tables .vertices-few))
+      -- the numbers that the end asks for
+      pub fits-end : InOrder (p .table) held × (8 * p .settled ≤ length settled) × (p .settled < 4294967296)
+      fits-end =
+          let few = order-size (tables b) Q valid (order-is (tables b) Q valid) in
+          (over .running .table .order, omega (arith, here .1, S-long, over .running .long), omega (arith, over .steps, few, valid .tables .vertices-few))
 
-        pub concluded : (held′ settled′ : List ℕ) (r : Answer) → Concluded p finished held settled held′ settled′ r → length held ≡ length (b .held)
-            → Allowed b Q limit (answerOf r held′ settled′) × (r .parts ≡ 0)
-        unfolding answerOver acceptedAfter
-        concluded held′ settled′ r C eh = (
-          allow (answerOf r held′ settled′) (
-              ap (λ (x : Answer). answerOf x held′ settled′) (C .answer) ∙ fields ∙ ap (acceptedAfter b Q order) (over .steps)
-              ∙ sym (cond-true (acceptedAfter b Q order k) (refusedLate b (roomUpTo b Q order k)) room)),
-          ap (λ (x : Answer). x .parts) (C .answer),
-        )
-          where
-            G : Network
-            G = network (tables b) Q
+      pub concluded : (held′ settled′ : List ℕ) (r : Answer) → Concluded p finished held settled held′ settled′ r → length held ≡ length (b .held)
+          → Allowed b Q limit (answerOf r held′ settled′) × (r .parts ≡ 0)
+      unfolding answerOver acceptedAfter
+      concluded held′ settled′ r C eh = (
+        allow (answerOf r held′ settled′) (
+            ap (λ (x : Answer). answerOf x held′ settled′) (C .answer) ∙ fields ∙ ap (acceptedAfter b Q order) (over .steps)
+            ∙ sym (cond-true (acceptedAfter b Q order k) (refusedLate b (roomUpTo b Q order k)) room)),
+        ap (λ (x : Answer). x .parts) (C .answer),
+      )
+        where
+          G : Network
+          G = network (tables b) Q
 
-            room : eqb (roomUpTo b Q order k .number) 0 ≡ true
-            room = eq-eqb _ 0 (room-exactly b Q order k .1 (λ j h. over .running .room j (omega (arith, over .steps))))
+          room : eqb (roomUpTo b Q order k .number) 0 ≡ true
+          room = eq-eqb _ 0 (room-exactly b Q order k .1 (λ j h. over .running .room j (omega (arith, over .steps))))
 
-            low : Bounded G
-            low = bounded-is (tables b) Q valid
+          low : Bounded G
+          low = bounded-is (tables b) Q valid
 
-            held-end : held′ ≡ filled (b .held) (flatMap heldBytes (heldAfter b Q order (p .settled)))
-            held-end =
-                C .held-is
-                ∙ ap (λ (m : Map). filled held (flatMap heldBytes (rows m))) (over .running .table .map)
-                ∙ ap (λ (x : List Held). filled held (flatMap heldBytes x)) (rows-held G (distanceIn (take (p .settled) order)) low (valid .tables .vertices-few))
-                ∙ filled-as held (b .held) _ eh
+          held-end : held′ ≡ filled (b .held) (flatMap heldBytes (heldAfter b Q order (p .settled)))
+          held-end =
+              C .held-is
+              ∙ ap (λ (m : Map). filled held (flatMap heldBytes (rows m))) (over .running .table .map)
+              ∙ ap (λ (x : List Held). filled held (flatMap heldBytes x)) (rows-held G (distanceIn (take (p .settled) order)) low (valid .tables .vertices-few))
+              ∙ filled-as held (b .held) _ eh
 
-            held-count : size (mapOf (p .table) held) ≡ length (heldAfter b Q order (p .settled))
-            held-count = ap size (over .running .table .map) ∙ size-held G (distanceIn (take (p .settled) order)) low (valid .tables .vertices-few)
+          held-count : size (mapOf (p .table) held) ≡ length (heldAfter b Q order (p .settled))
+          held-count = ap size (over .running .table .map) ∙ size-held G (distanceIn (take (p .settled) order)) low (valid .tables .vertices-few)
 
-            settled-end : settled′ ≡ filled (b .settled) (flatMap settledBytes (take (p .settled) order))
-            settled-end = C .settled-is ∙ ap (filled settled) (over .running .listed) ∙ filled-as settled (b .settled) _ (over .running .long)
+          settled-end : settled′ ≡ filled (b .settled) (flatMap settledBytes (take (p .settled) order))
+          settled-end = C .settled-is ∙ ap (filled settled) (over .running .listed) ∙ filled-as settled (b .settled) _ (over .running .long)
 
-            fields : answerOf (record { refusal = 0; place = 0; settled = p .settled; parts = 0; held = size (mapOf (p .table) held); finished = finished }) held′ settled′ ≡ acceptedAfter b Q order (p .settled)
-            fields i =
-                record {
-                  refusal = 0;
-                  place = 0;
-                  settledCount = sym S-long i;
-                  heldCount = held-count i;
-                  finished = over .finished-is i;
-                  held = held-end i;
-                  settled = settled-end i;
-                }
+          fields : answerOf (record { refusal = 0; place = 0; settled = p .settled; parts = 0; held = size (mapOf (p .table) held); finished = finished }) held′ settled′ ≡ acceptedAfter b Q order (p .settled)
+          fields i =
+              record {
+                refusal = 0;
+                place = 0;
+                settledCount = sym S-long i;
+                heldCount = held-count i;
+                finished = over .finished-is i;
+                held = held-end i;
+                settled = settled-end i;
+              }
 
-      -- One step lacks room.
-      module _ (n step : ℕ) (full : end ≡ Refused n step) where
-        short : Short b Q order limit n step
-        unfolding EndedIs
-        short = subst (EndedIs b Q order limit held settled) full ended
+    -- One step lacks room.
+    module _ (n step : ℕ) (full : end ≡ Refused n step) where
+      short : Short b Q order limit n step
+      unfolding EndedIs
+      short = subst (EndedIs b Q order limit held settled) full ended
 
-        pub step-low : step ≤ limit
-        step-low = omega (arith, short .made)
+      pub step-low : step ≤ limit
+      step-low = omega (arith, short .made)
 
-        number-short : roomAt b Q order step .number ≡ n
-        number-short = ap (λ (r : refusals.Refusal). r .number) (short .refusal)
+      number-short : roomAt b Q order step .number ≡ n
+      number-short = ap (λ (r : refusals.Refusal). r .number) (short .refusal)
 
-        first-short : roomUpTo b Q order (min limit (length order)) ≡ record { number = n; place = step }
-        first-short = room-first b Q order (min limit (length order)) step (short .made) (λ r. omega (arith, room-is b Q order step .1 r, number-short, short .some)) (short .before) ∙ short .refusal
+      first-short : roomUpTo b Q order (min limit (length order)) ≡ record { number = n; place = step }
+      first-short = room-first b Q order (min limit (length order)) step (short .made) (λ r. omega (arith, room-is b Q order step .1 r, number-short, short .some)) (short .before) ∙ short .refusal
 
-        pub late : (held′ settled′ : List ℕ) (r : Answer) → GivenUp n step held settled held′ settled′ r
-            → length held ≡ length (b .held) → length settled ≡ length (b .settled) → Allowed b Q limit (answerOf r held′ settled′) × (r .parts ≡ 0)
-        unfolding answerOver refusedLate cleared
-        late held′ settled′ r C eh es = (
-          allow (answerOf r held′ settled′) (
-              ap (λ (x : Answer). answerOf x held′ settled′) (C .answer) ∙ buffers ∙ ap (refusedLate b) (sym first-short)
-              ∙ sym (cond-false (acceptedAfter b Q order (min limit (length order))) (refusedLate b (roomUpTo b Q order (min limit (length order)))) lacks)),
-          ap (λ (x : Answer). x .parts) (C .answer),
-        )
-          where
-            zero : {x : List ℕ} {m n : ℕ} → x ≡ replicate m 0 → m ≡ n → x ≡ replicate n 0
-            zero p q = p ∙ ap (λ (m : ℕ). replicate m 0) q
+      pub late : (held′ settled′ : List ℕ) (r : Answer) → GivenUp n step held settled held′ settled′ r
+          → length held ≡ length (b .held) → length settled ≡ length (b .settled) → Allowed b Q limit (answerOf r held′ settled′) × (r .parts ≡ 0)
+      unfolding answerOver refusedLate cleared
+      late held′ settled′ r C eh es = (
+        allow (answerOf r held′ settled′) (
+            ap (λ (x : Answer). answerOf x held′ settled′) (C .answer) ∙ buffers ∙ ap (refusedLate b) (sym first-short)
+            ∙ sym (cond-false (acceptedAfter b Q order (min limit (length order))) (refusedLate b (roomUpTo b Q order (min limit (length order)))) lacks)),
+        ap (λ (x : Answer). x .parts) (C .answer),
+      )
+        where
+          zero : {x : List ℕ} {m n : ℕ} → x ≡ replicate m 0 → m ≡ n → x ≡ replicate n 0
+          zero p q = p ∙ ap (λ (m : ℕ). replicate m 0) q
 
-            lacks : eqb (roomUpTo b Q order (min limit (length order)) .number) 0 ≡ false
-            lacks = ne-eqb (roomUpTo b Q order (min limit (length order)) .number) 0 (λ (z : roomUpTo b Q order (min limit (length order)) .number ≡ 0). omega (arith, ap (λ (x : refusals.Refusal). x .number) first-short, short .some))
+          lacks : eqb (roomUpTo b Q order (min limit (length order)) .number) 0 ≡ false
+          lacks = ne-eqb (roomUpTo b Q order (min limit (length order)) .number) 0 (λ (z : roomUpTo b Q order (min limit (length order)) .number ≡ 0). omega (arith, ap (λ (x : refusals.Refusal). x .number) first-short, short .some))
 
-            buffers : answerOf (refusalOf n step) held′ settled′ ≡ refusedLate b (record { number = n; place = step })
-            buffers = ap₂ (answerOf (refusalOf n step)) (zero (C .held-is) eh) (zero (C .settled-is) es)
+          buffers : answerOf (refusalOf n step) held′ settled′ ≡ refusedLate b (record { number = n; place = step })
+          buffers = ap₂ (answerOf (refusalOf n step)) (zero (C .held-is) eh) (zero (C .settled-is) es)

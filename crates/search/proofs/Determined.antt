@@ -10,6 +10,7 @@ use Rattle.journeys.proofs.Determined.{answer-unique}
 use Rattle.search.specs.Outcome.{answerOf}
 use Rattle.records.specs.declared.Answer.{Answer}
 use Rattle.search.proofs.run.Reads as run
+use Rattle.search.proofs.run_judged.Reads as run-judged
 
 -- the six numbers again
 numbers : answers.Answer → ℕ → Answer
@@ -25,3 +26,8 @@ allowed-one b Q limit r r′ h s h′ s′ x y =
 pub one-run : (κs : _) (a : _) (z z′ : _) (e e′ : _) → run.Post κs a z e → run.Post κs a z′ e′
     → (z ≡ z′) × (now (e .1 .1 .1 .1 .0) ≡ now (e′ .1 .1 .1 .1 .0)) × (now (e .1 .1 .1 .1 .1 .0) ≡ now (e′ .1 .1 .1 .1 .1 .0))
 one-run κs a z z′ e e′ p q = allowed-one _ _ _ z z′ _ _ _ _ p q
+
+-- the same of the run behind refusals 1 to 7, and of its scratch
+pub one-run-judged : (κs : _) (a : _) (z z′ : _) (e e′ : _) → run-judged.Post κs a z e → run-judged.Post κs a z′ e′
+    → (z ≡ z′) × (now (e .1 .1 .1 .1 .0) ≡ now (e′ .1 .1 .1 .1 .0)) × (now (e .1 .1 .1 .1 .1 .0) ≡ now (e′ .1 .1 .1 .1 .1 .0)) × (now (e .1 .1 .1 .1 .1 .1 .0) ≡ now (e′ .1 .1 .1 .1 .1 .1 .0))
+one-run-judged κs a z z′ e e′ p q = let f = allowed-one _ _ _ z z′ _ _ _ _ (p .0, p .1 .0) (q .0, q .1 .0) in (f .0, f .1, f .2, p .1 .1 ∙ sym (q .1 .1))

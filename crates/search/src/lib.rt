@@ -11,7 +11,7 @@ ghost use mathlib.Core.Path.{_≡_};
 ghost use Prim.Native.Nat.{_%_, _≤_};
 ghost use lib.ListN.{length, replicate};
 ghost use Rattle.journeys.specs.Tables.{tablesOf};
-ghost use Rattle.journeys.specs.Answers.{Allowed};
+ghost use Rattle.journeys.specs.Answers.{early, Allowed};
 ghost use Rattle.records.specs.Asked.{queryOf};
 ghost use Rattle.intake.specs.Lending.{lent};
 ghost use Rattle.steps.specs.Running.{Ends};
@@ -54,6 +54,41 @@ fn all_steps<'a>(
     }
 }
 
+// The run behind refusals 1 to 7, for input that was judged: whoever makes several runs over the same tables judges them once. The scratch is lent by
+// the caller, and is zero again afterwards.
+pub fn run_judged<'a>(
+    vertices: &[u8],
+    walks: &'a [u8],
+    hops: &'a [u8],
+    hop_size: usize,
+    held: &mut [u8],
+    settled: &mut [u8],
+    scratch: &mut [u16],
+    q: Query,
+    limit: u32,
+) -> Answer
+    requires { ⌜ early (lent (now vertices) (now walks) (now hops) «hop_size» (now held) (now settled)) (queryOf q) .number ≡ 0 ⌝ }
+    requires { ⌜ now scratch ≡ replicate 2048 0 ⌝ }
+    ensures { λ r. ⌜ Allowed (lent (now (vertices .entry)) (now (walks .entry)) (now (hops .entry)) «hop_size» (now (held .entry)) (now (settled .entry))) (queryOf q) limit (answerOf r (now (held .exit)) (now (settled .exit))) ⌝ }
+    ensures { λ r. ⌜ r .parts ≡ 0 ⌝ }
+    ensures { λ _. ⌜ now (scratch .exit) ≡ replicate 2048 0 ⌝ }
+{
+    match all_steps(
+        vertices,
+        walks,
+        hops,
+        hop_size,
+        held,
+        settled,
+        scratch,
+        q,
+        limit,
+    ) {
+        Ended::Done(p, finished) => ending::conclude(held, settled, p, finished),
+        Ended::Refused(number, step) => ending::give_up(held, settled, number, step as u32),
+    }
+}
+
 // The run of RULES 11 and 12, for any bytes, query and limit. It lists no parts.
 pub fn run<'a>(
     vertices: &[u8],
@@ -82,7 +117,7 @@ pub fn run<'a>(
     if fault.number != 0 {
         return refusal(fault.number, fault.place);
     }
-    match all_steps(
+    run_judged(
         vertices,
         walks,
         hops,
@@ -92,8 +127,5 @@ pub fn run<'a>(
         &mut scratch[..],
         q,
         limit,
-    ) {
-        Ended::Done(p, finished) => ending::conclude(held, settled, p, finished),
-        Ended::Refused(number, step) => ending::give_up(held, settled, number, step as u32),
-    }
+    )
 }

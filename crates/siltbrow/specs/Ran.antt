@@ -1,16 +1,12 @@
 -- What a run called from C answers and leaves in every lent byte: RULES 13. Assumes nothing.
 use mathlib.Core.Path.{_≡_}
 use mathlib.Core.Logic.{_≢_}
-use mathlib.Core.List.{List, _++_}
+use mathlib.Core.List.{List}
 use Prim.Native.Nat.{ℕ}
 use lib.ListN.{length}
-use Rattle.journeys.specs.Bytes.{word}
 use Rattle.journeys.specs.Query.{Query}
 use Rattle.journeys.specs.Answers.{Lent, Answer, Allowed}
-
--- the 24 bytes of an answer: a run counts no parts
-abbrev pub answerBytes : Answer → List ℕ
-answerBytes a = word (a .refusal) ++ word (a .place) ++ word (a .settledCount) ++ word 0 ++ word (a .heldCount) ++ word (a .finished)
+pub use Rattle.calls.specs.CallBytes.{answerBytes}
 
 -- `slice` is the answer slice as it was lent, and behind it stand the three written slices after the call. A slice that is not 24 bytes gets nothing,
 -- and then nothing else is written either; in 24 bytes stands an answer that a run may give (RULES 13.5), and in the buffers what goes with it.

@@ -1,7 +1,7 @@
 use Rattle.frame.proofs.SixWords.{six-numbers}
 use borrow.Author.Needs.{needs}
-use Rattle.siltbrow.proofs.put_answer.Statement.{statement}
-use Rattle.siltbrow.proofs.put_answer.Tie as tie
+use Rattle.calls.proofs.put_answer.Statement.{statement}
+use Rattle.calls.proofs.put_answer.Tie as tie
 
 returns : tie.Need-returns
 returns c =

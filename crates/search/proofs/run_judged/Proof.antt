@@ -1,0 +1,69 @@
+-- `search::run_judged` meets its contract: step 0, the steps and the end give an answer that the rules allow. Assumes nothing.
+use native.Mathlib.Omega.{arith}
+use denote.Ref.{now}
+use Rattle.records.specs.Asked.{queryOf}
+use Rattle.intake.specs.Lending.{lent}
+use Rattle.search.proofs.AnswerAllowed.{valid, whole-held, hop-fits, fits-end, concluded, step-low, late}
+use borrow.Author.Needs.{needs}
+use Rattle.search.proofs.run_judged.Statement.{statement}
+use Rattle.search.proofs.run_judged.Tie as tie
+
+all-steps-requires : tie.Need-all-steps-requires
+all-steps-requires c κs =
+    let a = c .before .before .before .before .before .before .before .before .before in
+    let b = lent (now (a .args .vertices)) (now (a .args .walks)) (now (a .args .hops)) (a .args .hop-size) (now (a .args .held)) (now (a .args .settled)) in
+    (valid b (queryOf (a .args .q)) (a .args .limit) (a .pre .0), a .pre .1, whole-held b (queryOf (a .args .q)) (a .args .limit) (a .pre .0), hop-fits b (queryOf (a .args .q)) (a .args .limit) (a .pre .0))
+
+conclude-requires : tie.Need-conclude-requires
+conclude-requires c κs =
+    let a = c .before .before .before .before .before .before .before .before .before .before .before .before .before .before .before .before .before .before .before .before .before in
+    let done = c .before .before .before in
+    let steps = c .before .before .before .before .before .before .before .before .before .before .before in
+    fits-end (lent (now (a .args .vertices)) (now (a .args .walks)) (now (a .args .hops)) (a .args .hop-size) (now (a .args .held)) (now (a .args .settled))) (queryOf (a .args .q)) (a .args .limit) (a .pre .0) _ _ _ (steps .all-steps .ensures .0) _ _ (done .p .given .1)
+
+cast-give-up : tie.Need-cast-give-up
+cast-give-up c =
+    let a = c .before .before .before .before .before .before .before .before .before .before .before .before .before .before .before .before .before .before .before .before .before in
+    let full = c .before .before .before in
+    let steps = c .before .before .before .before .before .before .before .before .before .before .before in
+    omega (arith, step-low (lent (now (a .args .vertices)) (now (a .args .walks)) (now (a .args .hops)) (a .args .hop-size) (now (a .args .held)) (now (a .args .settled))) (queryOf (a .args .q)) (a .args .limit) (a .pre .0) _ _ _ (steps .all-steps .ensures .0) _ _ (full .number .given .1))
+
+returns : tie.Need-returns
+returns c =
+    let a = c .before .before .before .before .before .before .before .before .before .before .before .before .before .before .before .before .before .before .before .before .before .before .before .before .before .before in
+    let end = c .before .before .before .before in
+    let done = c .before .before .before .before .before .before .before .before in
+    let held = c .before .before .before .before .before .before .before .before .before .before .before .before .before .before .before in
+    let steps = c .before .before .before .before .before .before .before .before .before .before .before .before .before .before .before .before in
+    let z = concluded (lent (now (a .args .vertices)) (now (a .args .walks)) (now (a .args .hops)) (a .args .hop-size) (now (a .args .held)) (now (a .args .settled))) (queryOf (a .args .q)) (a .args .limit) (a .pre .0) _ _ _ (steps .all-steps .ensures .0) _ _ (done .p .given .1) _ _ _ (end .conclude .ensures) (held .held .given) in
+    (z .0, (z .1, steps .all-steps .ensures .1))
+
+returns-2 : tie.Need-returns-2
+returns-2 c =
+    let a = c .before .before .before .before .before .before .before .before .before .before .before .before .before .before .before .before .before .before .before .before .before .before .before .before .before .before in
+    let end = c .before .before .before .before in
+    let full = c .before .before .before .before .before .before .before .before in
+    let settled = c .before .before .before .before .before .before .before .before .before .before .before .before .before in
+    let held = c .before .before .before .before .before .before .before .before .before .before .before .before .before .before .before in
+    let steps = c .before .before .before .before .before .before .before .before .before .before .before .before .before .before .before .before in
+    let z = late (lent (now (a .args .vertices)) (now (a .args .walks)) (now (a .args .hops)) (a .args .hop-size) (now (a .args .held)) (now (a .args .settled))) (queryOf (a .args .q)) (a .args .limit) (a .pre .0) _ _ _ (steps .all-steps .ensures .0) _ _ (full .number .given .1) _ _ _ (end .give-up .ensures) (held .held .given) (settled .settled .given) in
+    (z .0, (z .1, steps .all-steps .ensures .1))
+
+pub run-judged-spec : {M : Type 1} → statement M
+run-judged-spec =
+    tie.close
+    (tie.spec
+    all-steps-requires
+    (λ c. search needs)
+    conclude-requires
+    (λ c. search needs)
+    cast-give-up
+    (λ c κs. search needs)
+    (λ c. search needs)
+    (λ c. search needs)
+    (λ c. search needs)
+    returns
+    (λ c. search needs)
+    (λ c. search needs)
+    (λ c. search needs)
+    returns-2)
