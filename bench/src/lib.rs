@@ -9,6 +9,7 @@ pub mod frames;
 pub mod hard;
 pub mod hubs;
 pub mod machine;
+pub mod many;
 pub mod moves;
 pub mod networks;
 pub mod page;
