@@ -1,14 +1,15 @@
 /* A map server in small: many queries at once, from threads over one copy of
  * the tables.
  *
- *   server VERTICES WALKS HOPS THREADS [parts] <queries
+ *   server VERTICES WALKS HOPS THREADS [parts | batch] <queries
  *
  * The first three words are files with the tables, as `make city` writes them.
  * A query is a line of numbers: record, offset, arrival, duration, speed. For
  * each query a line is printed, in the order in which they were asked: the list
  * page, which needs the run alone; with "parts" the map page, which also
- * needs the parts of the run's list. Where the library is installed (`make
- * install`):
+ * needs the parts of the run's list; with "batch" the list page again, for many
+ * queries in one call, which judges the tables once for all of them. Where the
+ * library is installed (`make install`):
  *
  *   gcc -std=c11 -pthread examples/server.c $(pkg-config --cflags --libs siltbrow)
  *
@@ -41,7 +42,7 @@ typedef struct {
     siltbrow_answer answer;
     siltbrow_parts_answer covered; /* with "parts" */
     uint64_t metres;               /* of it, both ways of a street counted */
-    uint32_t sum;                  /* over every byte that was answered */
+    uint32_t sum, held_sum;        /* over the lists that were answered, and over the held records */
 } Query;
 
 /* What one thread lends to the library. */
@@ -50,8 +51,11 @@ typedef struct {
     size_t held_len, settled_len, parts_len;
 } Room;
 
+/* How many queries a thread takes at once. */
+enum { BATCH = 24 };
+
 static Slice vertices, walks, hops;
-static int with_parts;
+static int with_parts, in_batches;
 
 static Query *queries;
 static size_t query_count;
@@ -95,7 +99,7 @@ static Room make_room(void)
 {
     Room room;
     room.held_len = SILTBROW_HELD_BYTES(vertices.len);
-    room.settled_len = SILTBROW_SETTLED_BYTES(vertices.len);
+    room.settled_len = SILTBROW_SETTLED_BYTES(vertices.len) * (in_batches ? BATCH : 1);
     room.parts_len = with_parts ? SILTBROW_PART_BYTES(walks.len) : 0;
     room.held = allocate(room.held_len);
     room.settled = allocate(room.settled_len);
@@ -143,20 +147,44 @@ static void answer_parts(Query *q, const Room *room)
     q->sum = add_up(q->sum, room->parts, SILTBROW_PART_SIZE * (size_t)q->covered.parts);
 }
 
+static uint32_t list_sum(const Query *q, const uint8_t *settled)
+{
+    return add_up(2166136261u, settled, SILTBROW_LIST_BYTES(q->answer.settled));
+}
+
 static void answer_one(Query *q, const Room *room)
 {
     q->answer = run(q, room);
-    q->sum = add_up(2166136261u, room->held, SILTBROW_HELD_SIZE * (size_t)q->answer.held);
-    q->sum = add_up(q->sum, room->settled, SILTBROW_LIST_BYTES(q->answer.settled));
+    q->sum = list_sum(q, room->settled);
+    q->held_sum = add_up(2166136261u, room->held, SILTBROW_HELD_SIZE * (size_t)q->answer.held);
     if (with_parts && q->answer.refusal == SILTBROW_ACCEPTED)
         answer_parts(q, room);
 }
 
-/* The next query that nobody has taken, or NULL. */
-static Query *take_query(void)
+/* Many list pages in one call: each query has a share of the settled buffer. */
+static void answer_batch(Query *q, size_t count, const Room *room)
+{
+    uint8_t asked[BATCH * SILTBROW_QUERY_SIZE] = {0}, bytes[BATCH * SILTBROW_ANSWER_SIZE];
+    for (size_t i = 0; i < count; i++)
+        siltbrow_put_query(asked + SILTBROW_QUERY_SIZE * i, q[i].record, q[i].offset, q[i].arrival,
+                           q[i].duration, q[i].speed, SILTBROW_NO_LIMIT);
+    (void)siltbrow_runs(vertices.bytes, vertices.len, walks.bytes, walks.len, hops.bytes, hops.len,
+                        SILTBROW_HOP_SIZE, asked, SILTBROW_QUERY_SIZE * count, room->held,
+                        room->held_len, room->settled, room->settled_len, bytes,
+                        SILTBROW_ANSWER_SIZE * count);
+    for (size_t i = 0; i < count; i++) {
+        q[i].answer = siltbrow_read_answer(bytes + SILTBROW_ANSWER_SIZE * i);
+        q[i].sum = list_sum(&q[i], room->settled + SILTBROW_SHARE_BYTES(room->settled_len, count) * i);
+    }
+}
+
+/* The next queries that nobody has taken, at most so many; how many they are. */
+static size_t take_queries(size_t most, Query **first)
 {
     pthread_mutex_lock(&next_lock);
-    Query *taken = next_query < query_count ? &queries[next_query++] : NULL;
+    size_t left = query_count - next_query, taken = left < most ? left : most;
+    *first = queries + next_query;
+    next_query += taken;
     pthread_mutex_unlock(&next_lock);
     return taken;
 }
@@ -164,9 +192,14 @@ static Query *take_query(void)
 static void *work(void *unused)
 {
     Room room = make_room();
+    Query *q;
+    size_t count;
     (void)unused;
-    for (Query *q = take_query(); q != NULL; q = take_query())
-        answer_one(q, &room);
+    while ((count = take_queries(in_batches ? BATCH : 1, &q)) > 0)
+        if (in_batches)
+            answer_batch(q, count, &room);
+        else
+            answer_one(q, &room);
     free(room.held);
     free(room.settled);
     free(room.parts);
@@ -201,7 +234,10 @@ static int print_query(size_t number, const Query *q)
     printf("%" PRIu32 " corners, ", q->answer.settled);
     if (with_parts)
         printf("%" PRIu64 " m in %" PRIu32 " parts, ", q->metres, q->covered.parts);
-    printf("%" PRIu32 " held, sum %08" PRIx32 "\n", q->answer.held, q->sum);
+    printf("%" PRIu32 " held, sum %08" PRIx32, q->answer.held, q->sum);
+    if (!in_batches)
+        printf(", of the held %08" PRIx32, q->held_sum);
+    printf("\n");
     return 0;
 }
 
@@ -210,9 +246,10 @@ int main(int words, char **word)
     enum { MOST_THREADS = 256 };
     pthread_t thread[MOST_THREADS];
     with_parts = words == 6 && strcmp(word[5], "parts") == 0;
-    int threads = words == 5 || with_parts ? atoi(word[4]) : 0, refused = 0;
+    in_batches = words == 6 && strcmp(word[5], "batch") == 0;
+    int threads = words == 5 || with_parts || in_batches ? atoi(word[4]) : 0, refused = 0;
     if (threads < 1 || threads > MOST_THREADS) {
-        fprintf(stderr, "usage: server VERTICES WALKS HOPS THREADS [parts] <queries\n");
+        fprintf(stderr, "usage: server VERTICES WALKS HOPS THREADS [parts | batch] <queries\n");
         return 2;
     }
     vertices = map_table(word[1]);

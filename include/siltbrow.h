@@ -237,6 +237,28 @@
  * one number the first is given, for 28 the two ends before the records. 0
  * says that the list is right.
  *
+ * siltbrow_runs answers many queries over the same tables, which it judges
+ * once. It is what as many calls of siltbrow_run would be, one after the other.
+ *
+ *   queries, 24 bytes a record: record, offset, arrival (signed), duration,
+ *            speed, limit (siltbrow_put_query)
+ *   held:    serves each query in turn: its contents are those of the last
+ *            query that was not refused with 1 to 7
+ *   settled: has a share for each query, in their order, each of as many
+ *            records: all of its records divided by the queries, rounded down
+ *            (SILTBROW_SHARE_BYTES). What is behind the last share is not
+ *            written.
+ *   answers: 24 bytes for each query, as of siltbrow_run
+ *
+ * It returns 1 and writes nothing at all where the queries are no whole number
+ * of records, or the answers are not 24 bytes for each; otherwise 0, also for
+ * no query.
+ *
+ * Each query has its own refusal, which changes nothing for the next: 1 to 6,
+ * which are then those of every query, 7, 8 or 9. Of 1 the places are 0 to 3:
+ * a share has whole records whatever the length of the settled buffer. 1 to 7
+ * leave its share and the held buffer as they are, 8 and 9 leave both zero.
+ *
  * Until it returns, a call uses its buffers, its target and its answer alone:
  * they overlap neither one another nor what the call reads.
  *
@@ -245,7 +267,8 @@
  * - Each run checks its tables first, which takes as long as siltbrow_check,
  *   and so do siltbrow_parts and siltbrow_judge. At the full size of 65,536
  *   vertices and 9.2 MB that is some 5 to 20 ms, more than the search of a short
- *   query. docs/BENCH.md has the times.
+ *   query. siltbrow_runs checks them once for all its queries. docs/BENCH.md has
+ *   the times.
  * - Vertices that lie near one another should have near numbers: what a call
  *   reads then lies together.
  * - Every lent buffer is written whole, with zero behind the records. A buffer
@@ -269,6 +292,7 @@
 /* The second number moves where a call changes, the third where only the
  * inside does; the first becomes 1 when all calls are there.
  *
+ * 0.9: siltbrow_runs is new.
  * 0.8: siltbrow_judge is new, and with it refusals 25 to 28.
  * 0.7: siltbrow_run no longer holds a vertex that can never be settled. Its held
  *      list, and the room that it needs for that, can be smaller; what is
@@ -288,9 +312,9 @@
  *      refusal 10 is gone from it; siltbrow_parts makes the parts. A page that
  *      shows streets calls it with the records that the run has settled.
  * 0.2: siltbrow_frame is new. */
-#define SILTBROW_VERSION "0.8.0"
+#define SILTBROW_VERSION "0.9.0"
 #define SILTBROW_VERSION_MAJOR 0
-#define SILTBROW_VERSION_MINOR 8
+#define SILTBROW_VERSION_MINOR 9
 #define SILTBROW_VERSION_PATCH 0
 
 #ifdef __cplusplus
@@ -337,9 +361,17 @@ uint64_t siltbrow_judge(const uint8_t *vertices, size_t vertices_len,
                         uint32_t duration, uint32_t speed,
                         const uint8_t *list, size_t list_len);
 
-/* The bytes of each record, of an entry of siltbrow_judge, of a point of the
- * coordinate table, of the answer of a run or a frame, and of that of
- * siltbrow_parts. */
+uint32_t siltbrow_runs(const uint8_t *vertices, size_t vertices_len,
+                       const uint8_t *walks, size_t walks_len,
+                       const uint8_t *hops, size_t hops_len, uint32_t hop_size,
+                       const uint8_t *queries, size_t queries_len,
+                       uint8_t *held, size_t held_len,
+                       uint8_t *settled, size_t settled_len,
+                       uint8_t *answers, size_t answers_len);
+
+/* The bytes of each record, of an entry of siltbrow_judge, of a query of
+ * siltbrow_runs, of a point of the coordinate table, of the answer of a run or
+ * a frame, and of that of siltbrow_parts. */
 #define SILTBROW_VERTEX_SIZE 12u
 #define SILTBROW_WALK_SIZE 16u
 #define SILTBROW_HOP_SIZE 16u
@@ -348,6 +380,7 @@ uint64_t siltbrow_judge(const uint8_t *vertices, size_t vertices_len,
 #define SILTBROW_SETTLED_SIZE 8u
 #define SILTBROW_PART_SIZE 12u
 #define SILTBROW_ENTRY_SIZE 12u
+#define SILTBROW_QUERY_SIZE 24u
 #define SILTBROW_POINT_SIZE 8u
 #define SILTBROW_ANSWER_SIZE 24u
 #define SILTBROW_PARTS_ANSWER_SIZE 12u
@@ -374,7 +407,7 @@ uint64_t siltbrow_judge(const uint8_t *vertices, size_t vertices_len,
 #define SILTBROW_MAX_DURATION 86400u
 #define SILTBROW_MAX_SPEED 100u
 
-/* The refusals: 1 to 6 of the check; 1 to 9 of a run; 1 to 7, 21 and 10 of
+/* The refusals: 1 to 6 of the check; 1 to 9 of a run, one or many; 1 to 7, 21 and 10 of
  * parts; 1, 21, 23 and 24 of a frame; 1 of a move, and 11 where it goes
  * backward; 1 to 7 and 25 to 28 of siltbrow_judge. */
 #define SILTBROW_ACCEPTED 0u
@@ -400,6 +433,11 @@ uint64_t siltbrow_judge(const uint8_t *vertices, size_t vertices_len,
 /* The bytes of a list, from the settled count of a run: what siltbrow_parts and
  * siltbrow_frame are given of the settled buffer. */
 #define SILTBROW_LIST_BYTES(settled) ((size_t)(settled) * SILTBROW_SETTLED_SIZE)
+
+/* The bytes of a share of siltbrow_runs, from those of the settled buffer and
+ * the number of queries, which is not 0: share i begins i times as far in. */
+#define SILTBROW_SHARE_BYTES(settled_len, queries) \
+    ((size_t)(settled_len) / SILTBROW_SETTLED_SIZE / (queries) * SILTBROW_SETTLED_SIZE)
 
 /* The bytes of the target of a move, from those of its source. */
 #define SILTBROW_FORWARD_BYTES(source_len) ((source_len) / SILTBROW_HOP_SIZE * SILTBROW_HOP_WITH_TRIP_SIZE)
@@ -547,6 +585,18 @@ static inline void siltbrow_put_entry(uint8_t *at, uint32_t vertex, uint32_t dis
     siltbrow_put(at, vertex);
     siltbrow_put(at + 4, distance);
     siltbrow_put(at + 8, record);
+}
+
+/* A query of siltbrow_runs, put into the 24 bytes at "at". */
+static inline void siltbrow_put_query(uint8_t *at, uint32_t record, uint32_t offset, int32_t arrival,
+                                      uint32_t duration, uint32_t speed, uint32_t limit)
+{
+    siltbrow_put(at, record);
+    siltbrow_put(at + 4, offset);
+    siltbrow_put(at + 8, (uint32_t)arrival);
+    siltbrow_put(at + 12, duration);
+    siltbrow_put(at + 16, speed);
+    siltbrow_put(at + 20, limit);
 }
 
 /* Refusal and place in what siltbrow_check, siltbrow_judge or a move returns. */

@@ -15,6 +15,7 @@ pub mod heap;
 pub mod hubs;
 pub mod limit;
 pub mod machine;
+pub mod many;
 pub mod moves;
 pub mod networks;
 pub mod page;

@@ -110,6 +110,11 @@ impl Program for Linked {
             []
         )
     }
+
+    fn runs(&self, tables: Tables, queries: &[u8], lent: Lent, answers: &mut [u8]) -> u32 {
+        let Lent { held, settled } = lent;
+        call!(siltbrow_runs, tables, [], [queries], [held, settled, answers])
+    }
 }
 
 impl Framer for Linked {

@@ -7,8 +7,8 @@ use std::fs::{read_to_string, write};
 use std::path::Path;
 use std::process::ExitCode;
 
-use bench::{bought, checks, evening, figures, frames, growth, hubs, limit, machine, moves, page};
-use bench::{speed, stall};
+use bench::{bought, checks, evening, figures, frames, growth, hubs, limit, machine, many};
+use bench::{moves, page, speed, stall};
 use linked::Linked;
 
 const USAGE: &str = "usage:
@@ -91,6 +91,7 @@ fn measure(rounds: usize, page: Option<&str>) -> Result<(), String> {
         frames::table(&Linked, rounds)?,
         moves::table(&Linked, rounds)?,
         bought::table(&Linked, rounds)?,
+        many::table(&Linked, rounds)?,
     ]
     .join("\n");
     let report = format!("{report}\n{}", verdict(&report));

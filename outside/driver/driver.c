@@ -16,13 +16,13 @@
 
 #include "siltbrow.h"
 
-enum { END = 0, CHECK = 1, RUN = 2, PARTS_ALONE = 3, PAIR = 4, FORWARD = 5, BACKWARD = 6, JUDGE = 7 };
+enum { END = 0, CHECK = 1, RUN = 2, PARTS_ALONE = 3, PAIR = 4, FORWARD = 5, BACKWARD = 6, JUDGE = 7, RUNS = 8 };
 
 /* An odd length, so that no slice begins at an even address by design: the
  * library may not count on more than bytes. */
 enum { GUARD = 61 };
 
-enum { VERTICES, WALKS, HOPS, HELD, SETTLED, ANSWER, LIST, PARTS, PARTS_ANSWER, TARGET, SLICES };
+enum { VERTICES, WALKS, HOPS, HELD, SETTLED, ANSWER, LIST, PARTS, PARTS_ANSWER, TARGET, QUERIES, SLICES };
 
 /* How long a record of a settled list is, and where the run's answer has the
  * refusal and the settled count. */
@@ -159,7 +159,7 @@ static Slice read_slice(int null, int number)
     for (size_t i = 0; i < slice.behind; i++)
         slice.start[slice.len + i] = guard_byte(i + 7);
     read_bytes(slice.start, slice.len);
-    if ((number <= HOPS || number == LIST) && slice.len != 0) {
+    if ((number <= HOPS || number == LIST || number == QUERIES) && slice.len != 0) {
         slice.copy = allocate(slice.len);
         memcpy(slice.copy, slice.start, slice.len);
     }
@@ -198,33 +198,19 @@ static void close_slices(Slice *slices)
     write_number(bits, 2);
 }
 
-static uint64_t check(const Slice *s, uint32_t hop_size)
-{
-    return siltbrow_check(s[VERTICES].bytes, s[VERTICES].len, s[WALKS].bytes, s[WALKS].len,
-                          s[HOPS].bytes, s[HOPS].len, hop_size);
-}
+/* A slice, the three tables and a query as the calls take them. */
+#define LENT(i) s[i].bytes, s[i].len
+#define TABLES LENT(VERTICES), LENT(WALKS), LENT(HOPS), hop_size
+#define QUERY q.record, q.offset, q.arrival, q.duration, q.speed
 
 static uint32_t run(const Slice *s, uint32_t hop_size, Query q, uint32_t limit)
 {
-    return siltbrow_run(s[VERTICES].bytes, s[VERTICES].len, s[WALKS].bytes, s[WALKS].len,
-                        s[HOPS].bytes, s[HOPS].len, hop_size, q.record, q.offset, q.arrival,
-                        q.duration, q.speed, limit, s[HELD].bytes, s[HELD].len, s[SETTLED].bytes,
-                        s[SETTLED].len, s[ANSWER].bytes, s[ANSWER].len);
+    return siltbrow_run(TABLES, QUERY, limit, LENT(HELD), LENT(SETTLED), LENT(ANSWER));
 }
 
 static uint32_t parts(const Slice *s, uint32_t hop_size, Query q, const uint8_t *list, size_t list_len)
 {
-    return siltbrow_parts(s[VERTICES].bytes, s[VERTICES].len, s[WALKS].bytes, s[WALKS].len,
-                          s[HOPS].bytes, s[HOPS].len, hop_size, q.record, q.offset, q.arrival,
-                          q.duration, q.speed, list, list_len, s[PARTS].bytes, s[PARTS].len,
-                          s[PARTS_ANSWER].bytes, s[PARTS_ANSWER].len);
-}
-
-static uint64_t judge(const Slice *s, uint32_t hop_size, Query q)
-{
-    return siltbrow_judge(s[VERTICES].bytes, s[VERTICES].len, s[WALKS].bytes, s[WALKS].len,
-                          s[HOPS].bytes, s[HOPS].len, hop_size, q.record, q.offset, q.arrival,
-                          q.duration, q.speed, s[LIST].bytes, s[LIST].len);
+    return siltbrow_parts(TABLES, QUERY, list, list_len, LENT(PARTS), LENT(PARTS_ANSWER));
 }
 
 /* The run, and where it is accepted the parts of its own list: as many bytes of
@@ -270,35 +256,38 @@ static void do_move(int kind, int null)
 static void do_case(int kind, int null)
 {
     Slice s[SLICES] = {{NULL, NULL, NULL, 0, 0, NULL}};
-    int runs = kind == RUN || kind == PAIR, makes_parts = kind == PARTS_ALONE || kind == PAIR;
+    int runs = kind == RUN || kind == PAIR, searches = runs || kind == RUNS;
+    int makes_parts = kind == PARTS_ALONE || kind == PAIR;
     Query q = {0, 0, 0, 0, 0};
     uint32_t limit = 0;
     uint64_t value;
     for (int i = VERTICES; i <= HOPS; i++)
         s[i] = read_slice(null, i);
     uint32_t hop_size = read_number();
-    if (kind != CHECK)
+    if (kind != CHECK && kind != RUNS)
         q = read_query();
-    if (runs) {
+    if (runs)
         limit = read_number();
-        for (int i = HELD; i <= ANSWER; i++)
-            s[i] = read_slice(null, i);
-    }
+    if (kind == RUNS)
+        s[QUERIES] = read_slice(null, QUERIES);
+    for (int i = HELD; searches && i <= ANSWER; i++)
+        s[i] = read_slice(null, i);
     if (kind == PARTS_ALONE || kind == JUDGE)
         s[LIST] = read_slice(null, LIST);
     for (int i = PARTS; makes_parts && i <= PARTS_ANSWER; i++)
         s[i] = read_slice(null, i);
     switch (kind) {
-    case CHECK: value = check(s, hop_size); break;
+    case CHECK: value = siltbrow_check(TABLES); break;
     case RUN: value = run(s, hop_size, q, limit); break;
     case PARTS_ALONE: value = parts(s, hop_size, q, s[LIST].bytes, s[LIST].len); break;
     case PAIR: value = pair(s, hop_size, q, limit); break;
-    case JUDGE: value = judge(s, hop_size, q); break;
+    case JUDGE: value = siltbrow_judge(TABLES, QUERY, LENT(LIST)); break;
+    case RUNS: value = siltbrow_runs(TABLES, LENT(QUERIES), LENT(HELD), LENT(SETTLED), LENT(ANSWER)); break;
     default: fail("no such kind of case");
     }
     write_number((uint64_t)kind, 1);
     write_number(value, 8);
-    for (int i = HELD; runs && i <= ANSWER; i++)
+    for (int i = HELD; searches && i <= ANSWER; i++)
         write_slice(&s[i]);
     for (int i = PARTS; makes_parts && i <= PARTS_ANSWER; i++)
         write_slice(&s[i]);

@@ -278,6 +278,37 @@ static void judge_test(void)
     fill();
 }
 
+/* Two queries, a bad one between them: each has its share of five records, and two are left over. */
+static void runs_test(void)
+{
+    uint8_t asked[3 * SILTBROW_QUERY_SIZE], answers[3 * SILTBROW_ANSWER_SIZE];
+    uint8_t held[2 * SILTBROW_HELD_SIZE], settled[17 * SILTBROW_SETTLED_SIZE];
+    size_t q = SILTBROW_QUERY_SIZE, share = SILTBROW_SHARE_BYTES(sizeof settled, 3u);
+    fill();
+    siltbrow_put_length(walks, 1000, 0);
+    siltbrow_put_length(walks + SILTBROW_WALK_SIZE, 1000, 0);
+    memset(settled, 9, sizeof settled);
+    siltbrow_put_query(asked, 0, 300, SILTBROW_MAX_TIME, 200, 10, SILTBROW_NO_LIMIT);
+    siltbrow_put_query(asked + q, 0, 300, -1, 200, 10, SILTBROW_NO_LIMIT);
+    siltbrow_put_query(asked + 2 * q, 0, 400, SILTBROW_MAX_TIME, 200, 10, 1);
+    count(siltbrow_get_time(asked + q + 8) == -1 && siltbrow_get(asked + q + 20) == SILTBROW_NO_LIMIT, "a query comes back from its bytes");
+    count(share == 5 * SILTBROW_SETTLED_SIZE, "a share of five records");
+    count(siltbrow_runs(vertices, sizeof vertices, walks, sizeof walks, hops, sizeof hops, SILTBROW_HOP_SIZE, asked, sizeof asked, held, sizeof held,
+                        settled, sizeof settled, answers, sizeof answers) == 0, "three queries");
+    siltbrow_answer first = siltbrow_read_answer(answers), bad = siltbrow_read_answer(answers + SILTBROW_ANSWER_SIZE);
+    siltbrow_answer last = siltbrow_read_answer(answers + 2 * SILTBROW_ANSWER_SIZE);
+    count(first.settled == 2 && first.finished == 1 && siltbrow_get(settled) == 1 && siltbrow_get(settled + 4) == 300, "the first query");
+    count(bad.refusal == SILTBROW_BAD_QUERY && bad.place == 2 && settled[share] == 9 && settled[2 * share - 1] == 9, "the bad query");
+    count(last.settled == 1 && last.finished == 0 && siltbrow_get(settled + 2 * share + 4) == 400 && settled[3 * share - 1] == 0, "the last query");
+    count(settled[3 * share] == 9 && settled[sizeof settled - 1] == 9, "behind the last share");
+    count(siltbrow_runs(vertices, sizeof vertices, walks, sizeof walks, hops, sizeof hops, SILTBROW_HOP_SIZE, asked, sizeof asked - 1, held, sizeof held,
+                        settled, sizeof settled, answers, sizeof answers) == 1, "a cut query");
+    count(siltbrow_runs(vertices, sizeof vertices, walks, sizeof walks, hops, sizeof hops, SILTBROW_HOP_SIZE, asked, sizeof asked, held, sizeof held,
+                        settled, sizeof settled, answers, sizeof answers - 1) == 1, "a cut answer");
+    count(siltbrow_runs(NULL, 0, NULL, 0, NULL, 0, SILTBROW_HOP_SIZE, NULL, 0, NULL, 0, NULL, 0, NULL, 0) == 0, "no query");
+    fill();
+}
+
 static void count_test(void)
 {
     static uint8_t many[(SILTBROW_MAX_VERTICES + 1) * SILTBROW_VERTEX_SIZE];
@@ -386,6 +417,7 @@ int main(void)
     query_test();
     parts_test();
     judge_test();
+    runs_test();
     count_test();
     move_test();
     frame_test();

@@ -23,6 +23,7 @@ static uint8_t answer[SILTBROW_ANSWER_SIZE];
 static uint8_t bought[VERTICES * SILTBROW_ENTRY_SIZE];
 
 static uint32_t limit;
+static size_t many;
 static uint64_t judged;
 static size_t held_len, list_len;
 static const uint8_t *top; /* where the frame of the caller lies */
@@ -76,6 +77,20 @@ static void *check(void *unused)
     top = &here;
     if (siltbrow_check(vertices, sizeof vertices, walks, sizeof walks, NULL, 0, SILTBROW_HOP_SIZE) != 0)
         exit(2);
+    return unused;
+}
+
+/* So many queries, each with its share of the settled buffer. */
+static void *runs(void *unused)
+{
+    static uint8_t asked[3 * SILTBROW_QUERY_SIZE], answers[3 * SILTBROW_ANSWER_SIZE];
+    uint8_t here = 0;
+    for (size_t i = 0; i < 3; i++)
+        siltbrow_put_query(asked + SILTBROW_QUERY_SIZE * i, WALKS / 2, 10, 36000, SILTBROW_MAX_DURATION, 14, limit);
+    top = &here;
+    (void)siltbrow_runs(vertices, sizeof vertices, walks, sizeof walks, NULL, 0, SILTBROW_HOP_SIZE, asked, SILTBROW_QUERY_SIZE * many, held, held_len,
+                        settled, sizeof settled, answers, SILTBROW_ANSWER_SIZE * many);
+    memcpy(answer, answers, sizeof answer);
     return unused;
 }
 
@@ -176,6 +191,12 @@ int main(void)
         }
     limit = SILTBROW_NO_LIMIT;
     held_len = sizeof held;
+    many = 3; /* each has a third of what it needs */
+    size_t several = used(runs);
+    int shared = siltbrow_read_answer(answer).refusal == SILTBROW_SETTLED_ROOM;
+    many = 1;
+    size_t single = used(runs);
+    shared = shared && siltbrow_read_answer(answer).settled == VERTICES;
     (void)used(run);
     buy();
     size_t judging = used(judge);
@@ -186,10 +207,10 @@ int main(void)
     size_t framing = used(frame);
     int framed = siltbrow_read_frame(answer).refusal == SILTBROW_ACCEPTED;
     size_t moving = used(forward), back = used(backward);
-    printf("a check uses %zu bytes of stack, a run at most %zu, parts at most %zu, a frame %zu, the moves %zu and %zu, judging %zu\n", depth, most, covering,
-           framing, moving, back, judging);
+    printf("a check uses %zu bytes of stack, a run at most %zu, parts at most %zu, a frame %zu, the moves %zu and %zu, judging %zu, queries %zu and %zu\n", depth, most, covering,
+           framing, moving, back, judging, several, single);
     int good = whole > 0 && framed && depth > 1000 && most > 1000 && covering > 1000 && framing > 1000 && depth < MOST && most < MOST
-               && covering < MOST && framing < MOST && moving < MOST && back < MOST && right && judging < MOST_JUDGE && memcmp(narrow, walks, sizeof walks) == 0;
+               && covering < MOST && framing < MOST && moving < MOST && back < MOST && right && judging < MOST_JUDGE && shared && several < MOST && single < MOST && memcmp(narrow, walks, sizeof walks) == 0;
     printf("%d passed, %d failed\n", good, !good);
     return !good;
 }

@@ -138,6 +138,12 @@ impl<'a> Call<'a> {
             "hops_forward" => self.moved(program, Way::Forward),
             "hops_backward" => self.moved(program, Way::Backward),
             "judge" => program.judge(self.tables(), self.query(), self.read("list")),
+            "runs" => {
+                let (queries, answers) = (self.read("queries"), self.write("answers"));
+                program
+                    .runs(self.tables(), queries, self.lent(), answers)
+                    .into()
+            }
             name => unreachable!("{name} is not among these calls"),
         }
     }

@@ -26,5 +26,10 @@ macro_rules! calls {
             vertices: *const u8, vertices_len: usize, walks: *const u8, walks_len: usize, hops: *const u8, hops_len: usize, hop_size: u32,
             record: u32, offset: u32, arrival: i32, duration: u32, speed: u32, list: *const u8, list_len: usize
         ) -> u64 }
+        $make! { siltbrow_runs(
+            vertices: *const u8, vertices_len: usize, walks: *const u8, walks_len: usize, hops: *const u8, hops_len: usize, hop_size: u32,
+            queries: *const u8, queries_len: usize,
+            held: *mut u8, held_len: usize, settled: *mut u8, settled_len: usize, answers: *mut u8, answers_len: usize
+        ) -> u32 }
     };
 }

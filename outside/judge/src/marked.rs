@@ -2,11 +2,13 @@
 //! as one table. `fast`, `slow` and the library are held against it. The cases
 //! are pairs: a run, and the parts of its own list. Behind them stand vertices
 //! that are forgotten, lists of all kinds, for the parts operation alone, then
-//! hops with trips and moves, rides of no minutes, waits, and bought lists.
+//! hops with trips and moves, rides of no minutes, waits, bought lists, and many
+//! queries.
 
 mod bought;
 mod forgetting;
 mod lists;
+mod many;
 mod moments;
 mod trips;
 mod waits;
@@ -14,7 +16,8 @@ mod waits;
 use crate::network::{Network, Scene};
 use crate::outcome::{Call, Case, Outcome};
 use crate::records::{
-    Answer, Held, Hop, Part, PartsAnswer, Query, Settled, Vertex, Walk, HELD, NONE, PART, SETTLED,
+    Answer, Held, Hop, Part, PartsAnswer, Query, Settled, Vertex, Walk, ANSWER, HELD, NONE, PART,
+    SETTLED,
 };
 
 /// A call, and what its outcome has to be.
@@ -47,6 +50,18 @@ enum Wanted {
     Moved(&'static [[u8; 16]], Option<u32>),
     /// The refusal and place of the parts.
     PartsRefusal(u32, u32),
+    /// What the call returns.
+    Returned(u64),
+    /// Of many queries: refusal, place, settled, held and finished of each.
+    Answers(&'static [[u32; 5]]),
+    /// The settled records from this one on.
+    From(usize, &'static [(u32, u32)]),
+    /// The settled buffer from this byte on, and the held buffer, as `filled`
+    /// has lent them.
+    SettledKept(usize),
+    HeldKept,
+    /// The held buffer: these records, and zeros behind them.
+    HeldBytes(&'static [(u32, u32, u32, u32)]),
 }
 
 use Wanted::{Finished, Holds, Moved, Order, Parts, PartsOn, PartsRefusal, Refusal, Remaining};
@@ -56,11 +71,11 @@ const fn marked(name: &'static str, make: fn() -> Case, wanted: &'static [Wanted
 }
 
 /// Every row: the marked cases, forgotten vertices, the lists, trips and moves,
-/// rides of no minutes, waits, bought lists.
+/// rides of no minutes, waits, bought lists, many queries.
 pub fn all() -> impl Iterator<Item = &'static Marked> {
     let rows = MARKED.iter().chain(forgetting::ALL).chain(lists::ALL);
     let rows = rows.chain(trips::ALL).chain(moments::ALL);
-    rows.chain(waits::ALL).chain(bought::ALL)
+    rows.chain(waits::ALL).chain(bought::ALL).chain(many::ALL)
 }
 
 const MARKED: &[Marked] = &[
@@ -295,10 +310,13 @@ fn filled(mut case: Case) -> Case {
         &mut case.target,
     ];
     for buffer in lent {
-        buffer.fill(9);
+        buffer.fill(LENT);
     }
     case
 }
+
+/// What every lent byte is before a call.
+const LENT: u8 = 9;
 
 /// A run and its parts with so many held slots, and room for all else.
 fn held_in(scene: Scene, limit: u32, slots: usize) -> Case {
@@ -326,6 +344,9 @@ impl Marked {
                 _ => wanted.of(after),
             };
             return kept && self.wanted.iter().all(told);
+        }
+        if case.call == Call::Runs {
+            return self.wanted.iter().all(|w| w.of(after));
         }
         let listed = after.returned == 0 && run_behind(case, after) && parts_behind(case, after);
         listed && self.wanted.iter().all(|w| w.of(after))
@@ -359,7 +380,7 @@ fn parts_behind(case: &Case, after: &Outcome) -> bool {
     let asked = match case.call {
         Call::Parts => true,
         Call::Pair => Answer::read(&after.answer).refusal == 0,
-        Call::Check | Call::Run | Call::Move(_) | Call::Judge => false,
+        Call::Check | Call::Run | Call::Move(_) | Call::Judge | Call::Runs => false,
     };
     if !asked {
         return case.parts == after.parts && case.parts_answer == after.parts_answer;
@@ -399,6 +420,31 @@ impl Wanted {
                     ..Answer::default()
                 };
                 six() == alone
+            }
+            Wanted::Returned(value) => after.returned == *value,
+            Wanted::Answers(rows) => {
+                let told = |&[refusal, place, settled, held, finished]: &[u32; 5]| Answer {
+                    refusal,
+                    place,
+                    settled,
+                    parts: 0,
+                    held,
+                    finished,
+                };
+                let each = after.answer.chunks(ANSWER).map(Answer::read);
+                each.eq(rows.iter().map(told))
+            }
+            Wanted::From(first, rows) => {
+                let own = (*first..).map(|i| Settled::read(&after.settled, i));
+                let own = own.map(|s| (s.vertex, s.distance)).take(rows.len());
+                own.eq(rows.iter().copied())
+            }
+            Wanted::SettledKept(byte) => after.settled[*byte..].iter().all(|&b| b == LENT),
+            Wanted::HeldKept => after.held.iter().all(|&b| b == LENT),
+            Wanted::HeldBytes(rows) => {
+                let own = (0..rows.len()).map(|i| Held::read(&after.held, i));
+                let own = own.map(|h| (h.vertex, h.distance, h.state, h.remaining));
+                own.eq(rows.iter().copied()) && zero_behind(&after.held, rows.len() * HELD)
             }
             PartsRefusal(number, place) => {
                 let alone = PartsAnswer {

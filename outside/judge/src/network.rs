@@ -2,7 +2,8 @@
 
 use crate::outcome::{Call, Case};
 use crate::records::{
-    Hop, Listed, Query, Settled, Vertex, Walk, ANSWER, HELD, HOP, NONE, PART, PARTS_ANSWER, SETTLED,
+    Asked, Hop, Listed, Query, Settled, Vertex, Walk, ANSWER, HELD, HOP, NONE, PART, PARTS_ANSWER,
+    SETTLED,
 };
 use crate::rng::Rng;
 
@@ -143,6 +144,7 @@ impl Network {
                 speed: 1,
             },
             limit: 0,
+            queries: Vec::new(),
             held: Vec::new(),
             settled: Vec::new(),
             list: Vec::new(),
@@ -187,6 +189,19 @@ impl Scene {
             call: Call::Judge,
             query: self.query,
             list: list.iter().flat_map(|entry| entry.bytes()).collect(),
+            ..self.network.check_case()
+        }
+    }
+
+    /// Many queries, with room for everything in each share.
+    pub fn runs_case(&self, asked: &[Asked]) -> Case {
+        let vertices = self.network.vertices.len();
+        Case {
+            call: Call::Runs,
+            queries: asked.iter().flat_map(|asked| asked.bytes()).collect(),
+            held: vec![0; vertices * HELD],
+            settled: vec![0; asked.len() * vertices * SETTLED],
+            answer: vec![0; asked.len() * ANSWER],
             ..self.network.check_case()
         }
     }

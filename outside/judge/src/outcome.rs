@@ -16,12 +16,24 @@ pub enum Call {
     Move(Way),
     /// A bought list.
     Judge,
+    /// Many queries.
+    Runs,
 }
 
 impl Call {
-    /// Whether the call has a run in it.
+    /// Whether the call is one run, with or without the parts of its list.
     pub fn runs(self) -> bool {
         matches!(self, Call::Run | Call::Pair)
+    }
+
+    /// Whether held, settled and an answer slice are lent.
+    pub fn searches(self) -> bool {
+        self.runs() || self == Call::Runs
+    }
+
+    /// Whether one query is given.
+    pub fn takes_query(self) -> bool {
+        !matches!(self, Call::Check | Call::Move(_) | Call::Runs)
     }
 
     /// Whether the three tables are lent.
@@ -64,6 +76,9 @@ pub trait Program {
 
     /// Judges a bought list.
     fn judge(&self, tables: Tables, query: Query, list: &[u8]) -> u64;
+
+    /// A run for each of many queries, each with its share of the settled buffer.
+    fn runs(&self, tables: Tables, queries: &[u8], lent: Lent, answers: &mut [u8]) -> u32;
 
     /// The run, then the parts of the list that it wrote: as many bytes as its
     /// settled count tells, not the zeros behind them. Where the run writes no
@@ -123,6 +138,10 @@ impl<F: Fault> Program for Fast<F> {
     fn judge(&self, tables: Tables, query: Query, list: &[u8]) -> u64 {
         fast::call_judge(tables, query, list, self.0)
     }
+
+    fn runs(&self, tables: Tables, queries: &[u8], lent: Lent, answers: &mut [u8]) -> u32 {
+        fast::call_runs(tables, queries, lent, answers, self.0)
+    }
 }
 
 /// The program that takes every answer from the definitions.
@@ -155,6 +174,10 @@ impl Program for Slow {
     fn judge(&self, tables: Tables, query: Query, list: &[u8]) -> u64 {
         slow::call_judge(tables, query, list)
     }
+
+    fn runs(&self, tables: Tables, queries: &[u8], lent: Lent, answers: &mut [u8]) -> u32 {
+        slow::call_runs(tables, queries, lent, answers)
+    }
 }
 
 /// One call of the library: all its arguments, the buffers as they are lent.
@@ -170,6 +193,8 @@ pub struct Case {
     pub hop_size: u32,
     pub query: Query,
     pub limit: u32,
+    /// The records of many queries.
+    pub queries: Vec<u8>,
     pub held: Vec<u8>,
     pub settled: Vec<u8>,
     /// The settled list of the parts operation, or a bought list.
@@ -257,11 +282,19 @@ impl Case {
             }
             Call::Move(way) => program.move_hops(way, &self.hops, &mut after.target),
             Call::Judge => program.judge(tables, query, &self.list),
+            Call::Runs => {
+                let lent = Lent {
+                    held: &mut after.held,
+                    settled: &mut after.settled,
+                };
+                let answers = &mut after.answer;
+                u64::from(program.runs(tables, &self.queries, lent, answers))
+            }
         }
     }
 
     /// The refusal and place that the call answers; of a pair the run's, and
-    /// where that is accepted, that of the parts.
+    /// where that is accepted, that of the parts; of many queries the first one's.
     pub fn refusal(&self, after: &Outcome) -> (u32, u32) {
         let run = || {
             let six = Answer::read(&after.answer);
@@ -275,7 +308,8 @@ impl Case {
             Call::Check | Call::Move(_) | Call::Judge => {
                 ((after.returned >> 32) as u32, after.returned as u32)
             }
-            Call::Run => run(),
+            Call::Runs if after.answer.is_empty() => (0, 0),
+            Call::Run | Call::Runs => run(),
             Call::Parts => parts(),
             Call::Pair if run().0 != 0 => run(),
             Call::Pair => parts(),

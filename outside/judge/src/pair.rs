@@ -104,6 +104,10 @@ impl Program for OneRun {
         Fast(Sound).judge(tables, query, list)
     }
 
+    fn runs(&self, tables: Tables, queries: &[u8], lent: Lent, answers: &mut [u8]) -> u32 {
+        Fast(Sound).runs(tables, queries, lent, answers)
+    }
+
     /// For accepted runs with room for all parts.
     fn pair(&self, case: &Case, after: &mut Outcome) -> [u32; 2] {
         let mut lent = Lent {

@@ -13,6 +13,8 @@ pub const SETTLED: usize = 8;
 pub const PART: usize = 12;
 /// An entry of a bought list.
 pub const LISTED: usize = 12;
+/// A query among many: its five fields and its limit.
+pub const ASKED: usize = 24;
 pub const ANSWER: usize = 24;
 pub const PARTS_ANSWER: usize = 12;
 pub const JOB: usize = 20;
@@ -235,6 +237,35 @@ pub struct Query {
     pub arrival: i32,
     pub duration: u32,
     pub speed: u32,
+}
+
+/// A query among many.
+#[derive(Clone, Copy, Debug, PartialEq, Eq)]
+pub struct Asked {
+    pub query: Query,
+    pub limit: u32,
+}
+
+impl Asked {
+    pub fn read(table: &[u8], index: usize) -> Self {
+        let bytes = &table[index * ASKED..][..ASKED];
+        Asked {
+            query: Query {
+                record: word(bytes, 0),
+                offset: word(bytes, 4),
+                arrival: word(bytes, 8) as i32,
+                duration: word(bytes, 12),
+                speed: word(bytes, 16),
+            },
+            limit: word(bytes, 20),
+        }
+    }
+
+    pub fn bytes(&self) -> [u8; ASKED] {
+        let q = self.query;
+        let arrival = q.arrival as u32;
+        lay(&[q.record, q.offset, arrival, q.duration, q.speed, self.limit])
+    }
 }
 
 /// The three tables as they are lent, and the size of a hop record as it is

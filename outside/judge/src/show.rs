@@ -4,8 +4,8 @@ use std::fmt::Write;
 
 use crate::outcome::{Call, Case, Outcome};
 use crate::records::{
-    trip, Answer, Held, Hop, Listed, Part, PartsAnswer, Settled, Vertex, Walk, Way, ANSWER, HELD,
-    HOP, LISTED, NONE, PART, PARTS_ANSWER, SETTLED, TRIP_HOP, VERTEX, WALK,
+    trip, Answer, Asked, Held, Hop, Listed, Part, PartsAnswer, Query, Settled, Vertex, Walk, Way,
+    ANSWER, ASKED, HELD, HOP, LISTED, NONE, PART, PARTS_ANSWER, SETTLED, TRIP_HOP, VERTEX, WALK,
 };
 
 /// More records than this are only counted.
@@ -57,6 +57,17 @@ fn hop_line(h: Hop) -> String {
     format!("hop {} {} {} {}", h.from, h.to, h.departure, h.arrival)
 }
 
+fn query_line(q: Query) -> String {
+    let Query {
+        record,
+        offset,
+        arrival,
+        duration,
+        speed,
+    } = q;
+    format!("query {record} {offset} {arrival} {duration} {speed}")
+}
+
 /// Hops of either size; those of another are read as 16 bytes.
 fn hops(text: &mut String, bytes: &[u8], size: u32) {
     match size as usize {
@@ -91,13 +102,16 @@ pub fn case(case: &Case) -> String {
         text += "# the check alone\n";
         return text;
     }
-    let q = case.query;
-    let _ = writeln!(
-        text,
-        "query {} {} {} {} {}",
-        q.record, q.offset, q.arrival, q.duration, q.speed
-    );
-    if case.call.runs() {
+    if case.call.takes_query() {
+        let _ = writeln!(text, "{}", query_line(case.query));
+    }
+    if case.call == Call::Runs {
+        table(&mut text, &case.queries, ASKED, |i| {
+            let asked = Asked::read(&case.queries, i);
+            format!("{} # limit {}", query_line(asked.query), asked.limit)
+        });
+    }
+    if case.call.searches() {
         let _ = writeln!(
             text,
             "# limit {}, bytes lent: held {}, settled {}, answer {}",
@@ -145,9 +159,9 @@ pub fn outcome(case: &Case, after: &Outcome) -> String {
         now if now.iter().all(|&b| b == 0) => format!("  {name}: all zero\n"),
         _ => format!("  {name}:{list}\n"),
     };
-    if case.call.runs() {
-        if after.answer.len() == ANSWER {
-            let _ = writeln!(text, "  {:?}", Answer::read(&after.answer));
+    if case.call.searches() {
+        for answer in after.answer.chunks_exact(ANSWER).take(MOST_SHOWN) {
+            let _ = writeln!(text, "  {:?}", Answer::read(answer));
         }
         let held = rows(&after.held, HELD, |i| {
             let h = Held::read(&after.held, i);

@@ -234,9 +234,19 @@ pub fn extremes(case: &Case, old: u32, index: usize) -> Vec<u32> {
 /// Every field of one record set to extremes: two fifths of all there are,
 /// so that such groups do not outgrow the others.
 pub fn sweep(case: &Case, rng: &mut Rng) -> Vec<Case> {
-    let sizes = [12, 16, 16, 8];
-    let tables = [&case.vertices, &case.walks, &case.hops, &case.list];
-    let pick = rng.below(3 + usize::from(!case.list.is_empty()));
+    let sizes = [12, 16, 16, 8, 24];
+    let tables = [
+        &case.vertices,
+        &case.walks,
+        &case.hops,
+        &case.list,
+        &case.queries,
+    ];
+    let pick = match (case.list.is_empty(), case.queries.is_empty()) {
+        (false, _) => rng.below(4),
+        (_, false) => rng.pick(&[0, 1, 2, 4]),
+        _ => rng.below(3),
+    };
     let (table, size) = (tables[pick], sizes[pick]);
     if table.is_empty() {
         return Vec::new();
@@ -251,6 +261,7 @@ pub fn sweep(case: &Case, rng: &mut Rng) -> Vec<Case> {
                 &mut one.walks,
                 &mut one.hops,
                 &mut one.list,
+                &mut one.queries,
             ];
             if let Some(table) = tables.into_iter().nth(pick) {
                 table[at..at + 4].copy_from_slice(&value.to_be_bytes());

@@ -2,13 +2,13 @@
 //! rooms and jobs are changed without a plan. Some are mended afterwards, so
 //! that what was changed comes as far as the search.
 
-use super::{bought, hopeless, jobs, small, trips};
+use super::{bought, hopeless, jobs, many, small, trips};
 use crate::mutant::Sound;
 use crate::network::{Network, Scene};
 use crate::outcome::{Call, Case};
 use crate::records::{
-    word, Answer, Hop, Walk, Way, ANSWER, HELD, HOP, JOB, LISTED, NONE, PART, PARTS_ANSWER,
-    SETTLED, TRIP_HOP, VERTEX, WALK,
+    word, Answer, Hop, Walk, Way, ANSWER, ASKED, HELD, HOP, JOB, LISTED, NONE, PART, SETTLED,
+    TRIP_HOP, VERTEX, WALK,
 };
 use crate::rng::Rng;
 
@@ -31,13 +31,17 @@ pub fn case(seed: u64, index: u64) -> Case {
         _ => NONE,
     };
     let mut case = scene.pair_case(limit);
-    case.call = match rng.below(20) {
+    case.call = match rng.below(22) {
         0..=2 => Call::Check,
         3..=6 => Call::Run,
         7..=11 => Call::Pair,
         12..=14 => Call::Judge,
+        15..=16 => Call::Runs,
         _ => Call::Parts,
     };
+    if case.call == Call::Runs {
+        queries(&mut case, &scene, rng);
+    }
     if case.call == Call::Judge {
         judged(&mut case, &scene, rng);
     }
@@ -114,6 +118,16 @@ fn judged(case: &mut Case, scene: &Scene, rng: &mut Rng) {
     for _ in 0..rng.pick(&[0, 0, 0, 1, 1, 2, 3]) {
         damage(&mut case.list, LISTED, rng);
     }
+}
+
+/// Some queries, and changes to them.
+fn queries(case: &mut Case, scene: &Scene, rng: &mut Rng) {
+    *case = many::some_case(scene, rng);
+    for _ in 0..rng.pick(&[0, 0, 0, 1, 1, 2, 3]) {
+        damage(&mut case.queries, ASKED, rng);
+    }
+    let fitting = case.queries.len() / ASKED * ANSWER;
+    case.answer.resize(fitting, 0);
 }
 
 /// The job of this number.
@@ -229,13 +243,11 @@ fn mend(case: &mut Case) {
     if vertices > 0 {
         network.count(vertices);
     }
-    let query = case.query;
-    let whole = Scene { network, query }.pair_case(case.limit);
-    *case = Case {
-        call: case.call,
-        list: std::mem::take(&mut case.list),
-        ..whole
-    };
+    let tables = network.check_case();
+    case.vertices = tables.vertices;
+    case.walks = tables.walks;
+    case.hops = tables.hops;
+    case.hop_size = tables.hop_size;
 }
 
 fn query(case: &mut Case, rng: &mut Rng) {
@@ -266,13 +278,10 @@ fn rooms(case: &mut Case, rng: &mut Rng) {
         };
         *buffer = rng.bytes(len);
     }
-    for (answer, size) in [
-        (&mut case.answer, ANSWER),
-        (&mut case.parts_answer, PARTS_ANSWER),
-    ] {
+    for answer in [&mut case.answer, &mut case.parts_answer] {
         let len = match rng.below(12) {
             0 => rng.below(60),
-            _ => size,
+            _ => answer.len(),
         };
         *answer = rng.bytes(len);
     }

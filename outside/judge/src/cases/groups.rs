@@ -3,7 +3,7 @@
 use std::collections::BTreeSet;
 
 use super::damage::{any, several, sweep};
-use super::{bought, hopeless, lists, small, trips};
+use super::{bought, hopeless, lists, many, small, trips};
 use crate::mutant::Sound;
 use crate::network::Scene;
 use crate::outcome::{Call, Case};
@@ -33,24 +33,29 @@ pub fn group(seed: u64, index: u64) -> Vec<Case> {
 /// Whether the group has a network with hopeless vertices: every other one of
 /// those about room, and some of those about limits.
 fn forgets(index: u64) -> bool {
-    (2..8).contains(&(index % 29)) && index / 29 % 2 == 1
+    (2..8).contains(&(index % TURNS)) && index / TURNS % 2 == 1
 }
 
+/// How many kinds of groups follow one another.
+pub const TURNS: u64 = 31;
+
 /// Twelve groups about the run and its pair, twelve about lists, one about the
-/// size of a hop, one about the moves and three about bought lists.
+/// size of a hop, one about the moves, three about bought lists and two about
+/// many queries.
 fn varied(index: u64, scene: &Scene, rng: &mut Rng) -> Vec<Case> {
-    match index % 29 {
+    match index % TURNS {
         0..=3 => limits(scene, rng),
         4..=6 => rooms(scene, rng),
         7 => every_room(scene),
         8 => each_place(scene, rng),
         9 => sweep(&one_of_all(scene, rng), rng),
         10 => several_faults(scene, rng),
-        11 if index % 58 == 11 => lengths(scene, rng),
+        11 if index % (2 * TURNS) == 11 => lengths(scene, rng),
         11 => queries(scene, rng),
         24 => trips::sizes(scene, rng),
         25 => trips::moves(scene, rng),
-        26.. => bought::varied(index % 29 - 26, scene, rng),
+        turn @ 26..=28 => bought::varied(turn - 26, scene, rng),
+        turn @ 29.. => many::varied(turn - 29, scene, rng),
         turn => lists::varied(turn - 12, scene, rng),
     }
 }
@@ -80,10 +85,11 @@ fn dress(mut case: Case, rng: &mut Rng) -> Case {
     case
 }
 
-/// A check, a run, parts, or a bought list over the same tables.
+/// A check, a run, parts, a bought list, or many queries over the same tables.
 pub fn one_of_all(scene: &Scene, rng: &mut Rng) -> Case {
-    match rng.below(12) {
-        10.. => bought::some_case(scene, rng),
+    match rng.below(13) {
+        12.. => many::some_case(scene, rng),
+        10..=11 => bought::some_case(scene, rng),
         0..=2 => scene.network.check_case(),
         3..=5 => lists::some_case(scene, rng),
         6..=7 => scene.pair_case(u32::MAX),
@@ -226,6 +232,7 @@ fn each_place(scene: &Scene, rng: &mut Rng) -> Vec<Case> {
             cases.push(scene.run_case(u32::MAX));
             cases.push(lists::some_case(&scene, rng));
             cases.push(scene.judge_case(&[]));
+            cases.push(many::some_case(&scene, rng));
         }
     }
     cases

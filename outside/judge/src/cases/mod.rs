@@ -12,6 +12,7 @@ mod hopeless;
 pub mod hubs;
 pub mod jobs;
 pub mod lists;
+pub mod many;
 pub mod small;
 pub mod trips;
 

@@ -8,13 +8,13 @@ use crate::mutant::{Mutant, Sound};
 use crate::outcome::{Call, Case, Outcome};
 use crate::pair;
 use crate::records::{
-    trip, Answer, Held, Hop, Part, PartsAnswer, Settled, Walk, Way, HELD, HOP, NONE, SETTLED,
-    TRIP_HOP, VERTEX, WALK,
+    trip, Answer, Held, Hop, Part, PartsAnswer, Settled, Walk, Way, ANSWER, HELD, HOP, NONE,
+    SETTLED, TRIP_HOP, VERTEX, WALK,
 };
 use crate::rng::Rng;
 use crate::slow;
 
-const CASES: usize = 66_000;
+const CASES: usize = 74_000;
 
 /// The refusals (or 0) and places that the operations of a case answer.
 fn answers(case: &Case, after: &Outcome) -> Vec<(&'static str, (u32, u32))> {
@@ -31,7 +31,17 @@ fn answers(case: &Case, after: &Outcome) -> Vec<(&'static str, (u32, u32))> {
         Call::Move(Way::Forward) => vec![("forward", refusal)],
         Call::Move(Way::Backward) => vec![("backward", refusal)],
         Call::Judge => vec![("judge", refusal)],
+        Call::Runs => each_answer(after),
     }
+}
+
+/// The refusals and places that many queries answer.
+fn each_answer(after: &Outcome) -> Vec<(&'static str, (u32, u32))> {
+    let told = |bytes: &[u8]| {
+        let six = Answer::read(bytes);
+        ("runs", (six.refusal, six.place))
+    };
+    after.answer.chunks_exact(ANSWER).map(told).collect()
 }
 
 #[test]
@@ -51,6 +61,7 @@ fn every_refusal_arises() {
         ("run", &[0, 1, 2, 3, 4]),
         ("parts", &[0, 1, 2, 4, 5]),
         ("judge", &[0, 1, 2, 4]),
+        ("runs", &[0, 1, 2, 3]),
     ] {
         for &place in places {
             often(operation, 1, place, 10);
@@ -67,10 +78,13 @@ fn every_refusal_arises() {
         often("run", 7, place, 20);
         often("parts", 7, place, 20);
         often("judge", 7, place, 10);
+        often("runs", 7, place, 20);
     }
     for step in 0..7 {
         often("run", 8, step, 10);
         often("run", 9, step + 1, 10);
+        often("runs", 8, step, 3);
+        often("runs", 9, step + 1, 3);
         often("parts", 10, step, 10);
         often("parts", 21, step, 20);
     }
@@ -540,8 +554,8 @@ fn forgetting_takes_the_hopeless_alone() {
 fn exact_room_is_tried_at_every_limit() {
     let mut limits = 0;
     // Every 80th group is a town, and in some the vertices lie far apart.
-    for index in (7..2_900)
-        .step_by(29)
+    for index in (7..100 * groups::TURNS)
+        .step_by(groups::TURNS as usize)
         .filter(|index| index % 80 != 79 && ![119, 199].contains(&(index % 240)))
     {
         let cases = groups::group(1, index);
@@ -657,7 +671,7 @@ fn fast_and_slow_agree() {
 fn damaged_cases_come_everywhere() {
     let mut seen = [0; 29];
     let mut strange = 0;
-    for index in 0..6_000 {
+    for index in 0..8_000 {
         let case = fuzz::case(1, index);
         let outcome = case.fast(Sound);
         match !case.call.returns_refusal() && outcome.returned != 0 {

@@ -48,6 +48,7 @@ const PAIR: u8 = 4;
 const FORWARD: u8 = 5;
 const BACKWARD: u8 = 6;
 const JUDGE: u8 = 7;
+const RUNS: u8 = 8;
 
 fn kind(call: Call) -> u8 {
     match call {
@@ -58,6 +59,7 @@ fn kind(call: Call) -> u8 {
         Call::Move(Way::Forward) => FORWARD,
         Call::Move(Way::Backward) => BACKWARD,
         Call::Judge => JUDGE,
+        Call::Runs => RUNS,
     }
 }
 
@@ -81,16 +83,20 @@ pub fn write_case(out: &mut impl Write, case: &Case) -> std::io::Result<()> {
         write_slice(out, table)?;
     }
     out.write_all(&case.hop_size.to_be_bytes())?;
-    if case.call == Call::Check {
-        return Ok(());
-    }
-    let q = case.query;
-    let numbers = [q.record, q.offset, q.arrival as u32, q.duration, q.speed];
-    for number in numbers {
-        out.write_all(&number.to_be_bytes())?;
+    if case.call.takes_query() {
+        let q = case.query;
+        let numbers = [q.record, q.offset, q.arrival as u32, q.duration, q.speed];
+        for number in numbers {
+            out.write_all(&number.to_be_bytes())?;
+        }
     }
     if case.call.runs() {
         out.write_all(&case.limit.to_be_bytes())?;
+    }
+    if case.call == Call::Runs {
+        write_slice(out, &case.queries)?;
+    }
+    if case.call.searches() {
         write_slice(out, &case.held)?;
         write_slice(out, &case.settled)?;
         write_slice(out, &case.answer)?;
@@ -222,6 +228,7 @@ fn names(touched: u16) -> String {
         "parts",
         "the parts' answer",
         "target",
+        "queries",
     ];
     let bits = slices.iter().enumerate();
     let set: Vec<&str> = bits
@@ -240,7 +247,7 @@ pub fn read_reply(input: &mut impl Read, case: &Case) -> std::io::Result<Reply> 
     }
     let mut outcome = case.before();
     outcome.returned = u64::from_be_bytes(read_bytes(input)?);
-    if case.call.runs() {
+    if case.call.searches() {
         outcome.held = read_slice(input)?;
         outcome.settled = read_slice(input)?;
         outcome.answer = read_slice(input)?;

@@ -87,15 +87,19 @@ fn judge<F: Fault>(tables: Tables, query: Query, lent: &[Length], fault: F) -> O
             .or_else(|| buffers(tables, lent, fault))
             .or_else(|| asked(tables, query, fault));
     }
-    let sizes = sizes(tables, fault);
     if fault.is(Mutant::HopSizeLate) && !hops::is_size(tables.hop_size as usize, fault) {
+        let sizes = sizes(tables, fault);
         let before = sizes.filter(|refusal| refusal.place < 2);
         return before.or_else(|| buffers(tables, lent, fault)).or(sizes);
     }
-    sizes
+    judge_tables(tables, lent, fault).or_else(|| asked(tables, query, fault))
+}
+
+/// Refusals 1 to 6 with the slices lent: what does not depend on the query.
+pub fn judge_tables<F: Fault>(tables: Tables, lent: &[Length], fault: F) -> Option<Refusal> {
+    sizes(tables, fault)
         .or_else(|| buffers(tables, lent, fault))
         .or_else(|| contents(tables, fault))
-        .or_else(|| asked(tables, query, fault))
 }
 
 fn sizes<F: Fault>(tables: Tables, fault: F) -> Option<Refusal> {
@@ -297,7 +301,8 @@ fn departing<F: Fault>(tables: Tables, count: usize, fault: F) -> Vec<u32> {
     departing
 }
 
-fn asked<F: Fault>(tables: Tables, query: Query, fault: F) -> Option<Refusal> {
+/// Refusal 7.
+pub fn asked<F: Fault>(tables: Tables, query: Query, fault: F) -> Option<Refusal> {
     if query.record as usize >= tables.walks.len() / WALK {
         return Some(Refusal::at(7, 0));
     }

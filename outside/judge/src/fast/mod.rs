@@ -6,6 +6,7 @@ mod held;
 mod hops;
 mod job;
 mod list;
+mod many;
 mod moves;
 mod newcomers;
 mod order;
@@ -40,6 +41,21 @@ pub fn call_judge<F: Fault>(tables: Tables, query: Query, list: &[u8], fault: F)
         list,
         fault,
     ))
+}
+
+/// Many queries as C sees them.
+pub fn call_runs<F: Fault>(
+    tables: Tables,
+    queries: &[u8],
+    lent: Lent,
+    answers: &mut [u8],
+    fault: F,
+) -> u32 {
+    let fits = many::fits(queries, answers, fault);
+    if fits || fault.is(Mutant::RunsLate) {
+        many::runs(hops::named(tables, fault), queries, lent, answers, fault);
+    }
+    u32::from(!fits)
 }
 
 /// Refusal and place in one number.

@@ -20,6 +20,17 @@ pub fn run<F: Fault>(
         }
         return Answer::refused(refusal);
     }
+    searched(tables, query, limit, lent, fault)
+}
+
+/// The run behind its refusals 1 to 7.
+pub fn searched<F: Fault>(
+    tables: Tables,
+    query: Query,
+    limit: u32,
+    lent: &mut Lent,
+    fault: F,
+) -> Answer {
     let mut search = Search::new(tables, query, lent, None, fault);
     let refused = search.advance(limit_read(limit, fault));
     let Some(refusal) = refused else {

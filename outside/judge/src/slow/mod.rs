@@ -5,6 +5,7 @@ mod bought;
 mod check;
 mod job;
 mod journeys;
+mod many;
 mod model;
 mod moves;
 mod order;
@@ -37,6 +38,11 @@ pub fn call_move(way: Way, source: &[u8], target: &mut [u8]) -> u64 {
 /// The judgement of a bought list as C sees it.
 pub fn call_judge(tables: Tables, query: Query, list: &[u8]) -> u64 {
     judged(tables, query, list).map_or(0, |(number, place)| number * (1 << 32) + place)
+}
+
+/// Many queries as C sees them.
+pub fn call_runs(tables: Tables, queries: &[u8], lent: Lent, answers: &mut [u8]) -> u32 {
+    u32::from(!many::runs(tables, queries, lent, answers))
 }
 
 /// The run as C sees it.
