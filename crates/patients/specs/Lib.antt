@@ -1,0 +1,4 @@
+pub mod Evening
+pub mod EveningAnswers
+pub mod Tallied
+pub mod Reporting
