@@ -187,6 +187,7 @@ module _ (v w h : List ℕ) (hop : ℕ) (held settled : List ℕ) (Q : Query) (p
     pub bytes : take (8 * length ordered) (theRun b Q .settled) ≡ theList (tables b) Q
     pub room : 8 * length ordered ≤ length settled
     pub finished : theRun b Q .finished ≡ 1
+    pub no-place : theRun b Q .place ≡ 0
 
   pub run-listed : theRun b Q .refusal ≡ 0 → Listed
   unfolding acceptedAfter refusedLate filled
@@ -206,6 +207,7 @@ module _ (v w h : List ℕ) (hop : ℕ) (held settled : List ℕ) (Q : Query) (p
                 ∙ take-at (flatMap settledBytes ordered) _ (8 * length ordered) (own-length ordered);
             room = omega (arith, here .1, ap length whole);
             finished = ap (λ (a : Answer). a .finished) (x .0) ∙ cond-true 1 0 (le-leb (length ordered) k (omega (arith, all-steps)));
+            no-place = ap (λ (a : Answer). a .place) (x .0);
           }
       go (inr x) = absurd (x .1 (sym (ap (λ (a : Answer). a .refusal) (x .0)) ∙ z))
 

@@ -43,7 +43,7 @@ module _ (N : Tables) (Q : Query) (gap n : ℕ) (r r′ : ℕ → ℕ → Bool) 
       (figures-same (timesSettled r patients m n) (timesSettled r′ patients m n) m (λ v l. count-same (λ j. r j v) (λ j. r′ j v) n (λ j h. reached-one j v h (omega (arith, e)))))
       (figures-same (covered r patients m n) (covered r′ patients m n) n (λ j h. sum-same _ _ m (λ v l. ap (λ (b : Bool). cond b (patientsOf patients v) 0) (reached-one j v h (omega (arith, e))))))
 
-from-as : (f g : ℕ → Refusal) (n i : ℕ) → ((k : ℕ) → i ≤ k → k < i + n → f k ≡ g k) → firstFrom f n i ≡ firstFrom g n i
+pub from-as : (f g : ℕ → Refusal) (n i : ℕ) → ((k : ℕ) → i ≤ k → k < i + n → f k ≡ g k) → firstFrom f n i ≡ firstFrom g n i
 unfolding firstFrom
 from-as f g zero i h = refl
 from-as f g (suc n) i h = ap₂ orElse (h i (omega arith) (omega arith)) (from-as f g n (i + 1) (λ k a b. h k (omega arith) (omega arith)))

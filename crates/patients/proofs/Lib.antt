@@ -8,3 +8,4 @@ pub mod Stages
 pub mod Evenings
 pub mod Determined
 pub mod Meaning
+pub mod Rows
