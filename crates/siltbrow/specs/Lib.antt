@@ -2,6 +2,7 @@ pub mod Packed
 pub mod Ran
 pub mod Call
 pub mod ManyCalls
+pub mod HourlyCall
 pub mod FrameCall
 pub mod PartsRan
 pub mod PartsCall

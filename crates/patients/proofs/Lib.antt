@@ -1,0 +1,11 @@
+pub mod Sums
+pub mod Figures
+pub mod Tallying
+pub mod AskedEvening
+pub mod Judged
+pub mod Arrival
+pub mod Stages
+pub mod Evenings
+pub mod Determined
+pub mod Meaning
+pub mod Rows
