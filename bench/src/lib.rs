@@ -13,6 +13,7 @@ pub mod many;
 pub mod moves;
 pub mod networks;
 pub mod page;
+pub mod patients;
 pub mod picture;
 pub mod program;
 pub mod room;

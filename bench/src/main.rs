@@ -5,7 +5,7 @@ mod linked;
 use std::fs::{read_to_string, write};
 use std::process::ExitCode;
 
-use bench::{bought, checks, figures, frames, hubs, many, moves, page, speed};
+use bench::{bought, checks, figures, frames, hubs, many, moves, page, patients, speed};
 use linked::Linked;
 
 const USAGE: &str = "usage:
@@ -49,6 +49,7 @@ fn measure(rounds: usize, page: Option<&str>) -> Result<(), String> {
         moves::table(&Linked, rounds)?,
         bought::table(&Linked, rounds)?,
         many::table(&Linked, rounds)?,
+        patients::table(&Linked, rounds)?,
     ]
     .join("\n");
     print!("{report}");
