@@ -33,7 +33,8 @@ fn measure<P: Program>(library: &P, scene: &Scene, arrivals: u32, rounds: usize)
     }
     let [check, evening] = stands.map(|stand| Spent::of(&stand.times));
     let minutes = scene.query.duration / 60;
-    let name = format!("{arrivals} arrivals, {minutes} min each, {} settled", grouped(settled));
+    let several = if arrivals == 1 { "arrival" } else { "arrivals" };
+    let name = format!("{arrivals} {several}, {minutes} min each, {} settled", grouped(settled));
     let rows = [("evening", &evening), ("evening less check", &evening.less(&check))];
     let line = |(part, spent): (&str, &Spent)| {
         let first = [name.clone(), part.to_string()];
