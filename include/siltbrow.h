@@ -259,6 +259,33 @@
  * a share has whole records whatever the length of the settled buffer. 1 to 7
  * leave its share and the held buffer as they are, 8 and 9 leave both zero.
  *
+ * siltbrow_patients tells whom several arrivals reach, one after the other: a
+ * run without a limit for each, over tables that it judges once. The query has
+ * the first arrival.
+ *
+ *   gap:      seconds from one arrival to the next: 1 to 3,600
+ *   arrivals: how many there are: 1 to 96; the last is not after 172,800
+ *   patients, 4 bytes a vertex: how many patients live there, at most 65,535
+ *   report,   4 bytes a figure: for each vertex in how many arrivals it is
+ *             settled; then for each arrival the patients of the vertices
+ *             settled there; then the total of all patients, reached or not
+ *             (SILTBROW_REPORT_BYTES)
+ *   held, settled, answer: as the last run leaves them
+ *
+ * It returns 0, for a refusal too. Where the answer slice is not 24 bytes it
+ * returns 1 and writes nothing at all.
+ *
+ *   refusals 1 to 7: as in the run, 7 for the first arrival; and 1 also where
+ *               the patients are not one count for each vertex (place: 6), or
+ *               the report is not as long as it has to be (7)
+ *   refusal 19: a count above 65,535 (place: the vertex)
+ *   refusal 20: the gap (place: 0), the number of arrivals (1), or the last
+ *               arrival (2)
+ *   refusals 8 and 9: as in the first run that gives one (the step)
+ *
+ * They are judged in this order. Refusals 1 to 7, 19 and 20 change no byte of
+ * held, settled and report; 8 and 9 leave the three zero.
+ *
  * Until it returns, a call uses its buffers, its target and its answer alone:
  * they overlap neither one another nor what the call reads.
  *
@@ -267,8 +294,8 @@
  * - Each run checks its tables first, which takes as long as siltbrow_check,
  *   and so do siltbrow_parts and siltbrow_judge. At the full size of 65,536
  *   vertices and 9.2 MB that is some 5 to 20 ms, more than the search of a short
- *   query. siltbrow_runs checks them once for all its queries. docs/BENCH.md has
- *   the times.
+ *   query. siltbrow_runs checks them once for all its queries, and
+ *   siltbrow_patients once for all its arrivals. docs/BENCH.md has the times.
  * - Vertices that lie near one another should have near numbers: what a call
  *   reads then lies together.
  * - Every lent buffer is written whole, with zero behind the records. A buffer
@@ -292,6 +319,7 @@
 /* The second number moves where a call changes, the third where only the
  * inside does; the first becomes 1 when all calls are there.
  *
+ * 0.10: siltbrow_patients is new, and with it refusals 19 and 20.
  * 0.9: siltbrow_runs is new.
  * 0.8: siltbrow_judge is new, and with it refusals 25 to 28.
  * 0.7: siltbrow_run no longer holds a vertex that can never be settled. Its held
@@ -312,9 +340,9 @@
  *      refusal 10 is gone from it; siltbrow_parts makes the parts. A page that
  *      shows streets calls it with the records that the run has settled.
  * 0.2: siltbrow_frame is new. */
-#define SILTBROW_VERSION "0.9.0"
+#define SILTBROW_VERSION "0.10.0"
 #define SILTBROW_VERSION_MAJOR 0
-#define SILTBROW_VERSION_MINOR 9
+#define SILTBROW_VERSION_MINOR 10
 #define SILTBROW_VERSION_PATCH 0
 
 #ifdef __cplusplus
@@ -369,9 +397,22 @@ uint32_t siltbrow_runs(const uint8_t *vertices, size_t vertices_len,
                        uint8_t *settled, size_t settled_len,
                        uint8_t *answers, size_t answers_len);
 
+uint32_t siltbrow_patients(const uint8_t *vertices, size_t vertices_len,
+                           const uint8_t *walks, size_t walks_len,
+                           const uint8_t *hops, size_t hops_len, uint32_t hop_size,
+                           uint32_t record, uint32_t offset, int32_t arrival,
+                           uint32_t duration, uint32_t speed,
+                           uint32_t gap, uint32_t arrivals,
+                           const uint8_t *patients, size_t patients_len,
+                           uint8_t *held, size_t held_len,
+                           uint8_t *settled, size_t settled_len,
+                           uint8_t *report, size_t report_len,
+                           uint8_t *answer, size_t answer_len);
+
 /* The bytes of each record, of an entry of siltbrow_judge, of a query of
- * siltbrow_runs, of a point of the coordinate table, of the answer of a run or
- * a frame, and of that of siltbrow_parts. */
+ * siltbrow_runs, of a count of patients or a figure of their report, of a point
+ * of the coordinate table, of the answer of a run, a frame or an evening, and of
+ * that of siltbrow_parts. */
 #define SILTBROW_VERTEX_SIZE 12u
 #define SILTBROW_WALK_SIZE 16u
 #define SILTBROW_HOP_SIZE 16u
@@ -381,6 +422,7 @@ uint32_t siltbrow_runs(const uint8_t *vertices, size_t vertices_len,
 #define SILTBROW_PART_SIZE 12u
 #define SILTBROW_ENTRY_SIZE 12u
 #define SILTBROW_QUERY_SIZE 24u
+#define SILTBROW_FIGURE_SIZE 4u
 #define SILTBROW_POINT_SIZE 8u
 #define SILTBROW_ANSWER_SIZE 24u
 #define SILTBROW_PARTS_ANSWER_SIZE 12u
@@ -406,10 +448,14 @@ uint32_t siltbrow_runs(const uint8_t *vertices, size_t vertices_len,
 #define SILTBROW_MAX_TIME 172800
 #define SILTBROW_MAX_DURATION 86400u
 #define SILTBROW_MAX_SPEED 100u
+#define SILTBROW_MAX_PATIENTS 65535u
+#define SILTBROW_MAX_GAP 3600u
+#define SILTBROW_MAX_ARRIVALS 96u
 
 /* The refusals: 1 to 6 of the check; 1 to 9 of a run, one or many; 1 to 7, 21 and 10 of
  * parts; 1, 21, 23 and 24 of a frame; 1 of a move, and 11 where it goes
- * backward; 1 to 7 and 25 to 28 of siltbrow_judge. */
+ * backward; 1 to 7 and 25 to 28 of siltbrow_judge; 1 to 7, 19, 20, 8 and 9 of
+ * siltbrow_patients. */
 #define SILTBROW_ACCEPTED 0u
 #define SILTBROW_BAD_LENGTH 1u
 #define SILTBROW_BAD_WALK 2u
@@ -422,6 +468,8 @@ uint32_t siltbrow_runs(const uint8_t *vertices, size_t vertices_len,
 #define SILTBROW_SETTLED_ROOM 9u
 #define SILTBROW_PART_ROOM 10u
 #define SILTBROW_KNOWN_TRIP 11u
+#define SILTBROW_TOO_MANY_PATIENTS 19u
+#define SILTBROW_BAD_EVENING 20u
 #define SILTBROW_BAD_ENTRY 21u
 #define SILTBROW_BAD_POINT 23u
 #define SILTBROW_EMPTY_LIST 24u
@@ -438,6 +486,11 @@ uint32_t siltbrow_runs(const uint8_t *vertices, size_t vertices_len,
  * the number of queries, which is not 0: share i begins i times as far in. */
 #define SILTBROW_SHARE_BYTES(settled_len, queries) \
     ((size_t)(settled_len) / SILTBROW_SETTLED_SIZE / (queries) * SILTBROW_SETTLED_SIZE)
+
+/* The bytes of the report of siltbrow_patients, from those of the vertices and
+ * the number of arrivals. */
+#define SILTBROW_REPORT_BYTES(vertices_len, arrivals) \
+    (((vertices_len) / SILTBROW_VERTEX_SIZE + (arrivals) + 1u) * SILTBROW_FIGURE_SIZE)
 
 /* The bytes of the target of a move, from those of its source. */
 #define SILTBROW_FORWARD_BYTES(source_len) ((source_len) / SILTBROW_HOP_SIZE * SILTBROW_HOP_WITH_TRIP_SIZE)
@@ -626,6 +679,8 @@ static inline const char *siltbrow_refusal_text(uint32_t refusal)
     case SILTBROW_SETTLED_ROOM: return "there is too little room for settled records";
     case SILTBROW_PART_ROOM: return "there is too little room for parts";
     case SILTBROW_KNOWN_TRIP: return "a hop's trip is known, and 16 bytes have no place for it";
+    case SILTBROW_TOO_MANY_PATIENTS: return "a vertex has more than 65,535 patients";
+    case SILTBROW_BAD_EVENING: return "the gap, the number of arrivals or the last arrival is outside its limits";
     case SILTBROW_BAD_ENTRY: return "an entry of the list names no vertex, one that an earlier entry has or, for parts, a distance above the duration";
     case SILTBROW_BAD_POINT: return "a coordinate is not finite";
     case SILTBROW_EMPTY_LIST: return "the list is empty";
@@ -641,7 +696,7 @@ static inline const char *siltbrow_refusal_text(uint32_t refusal)
 static inline const char *siltbrow_place_text(uint32_t refusal)
 {
     switch (refusal) {
-    case SILTBROW_BAD_LENGTH: return "slice: 0 vertices, 1 walks, 2 hops, 3 held, 4 settled or list, 5 parts, 6 coordinates or target";
+    case SILTBROW_BAD_LENGTH: return "slice: 0 vertices, 1 walks, 2 hops, 3 held, 4 settled or list, 5 parts, 6 coordinates, target or patients, 7 report";
     case SILTBROW_BAD_WALK:
     case SILTBROW_WALK_ORDER: return "walk record";
     case SILTBROW_BAD_HOP:
@@ -657,6 +712,8 @@ static inline const char *siltbrow_place_text(uint32_t refusal)
     case SILTBROW_LISTED_DISTANCE:
     case SILTBROW_LISTED_RECORD: return "entry of the list";
     case SILTBROW_BETTER_OFFER: return "record, hops behind the walks; 4294967294 the query walk's \"from\", 4294967295 its \"to\"";
+    case SILTBROW_BAD_EVENING: return "field: 0 gap, 1 number of arrivals, 2 last arrival";
+    case SILTBROW_TOO_MANY_PATIENTS:
     case SILTBROW_BAD_POINT: return "vertex";
     default: return "nothing";
     }

@@ -19,6 +19,7 @@ pub mod many;
 pub mod moves;
 pub mod networks;
 pub mod page;
+pub mod patients;
 pub mod picture;
 pub mod program;
 pub mod room;

@@ -2,7 +2,7 @@
 
 use bench::frames::Framer;
 use bench::program::Program;
-use outside::records::{Lent, Query, Tables, Way};
+use outside::records::{Evening, Lent, Query, Tables, Way};
 
 macro_rules! declared {
     ($name:ident($($argument:ident: $kind:ty),*) -> $out:ty) => {
@@ -114,6 +114,26 @@ impl Program for Linked {
     fn runs(&self, tables: Tables, queries: &[u8], lent: Lent, answers: &mut [u8]) -> u32 {
         let Lent { held, settled } = lent;
         call!(siltbrow_runs, tables, [], [queries], [held, settled, answers])
+    }
+
+    fn patients(
+        &self,
+        tables: Tables,
+        evening: Evening,
+        patients: &[u8],
+        lent: Lent,
+        report: &mut [u8],
+        answer: &mut [u8],
+    ) -> u32 {
+        let Lent { held, settled } = lent;
+        let (q, gap, arrivals) = (evening.query, evening.gap, evening.arrivals);
+        call!(
+            siltbrow_patients,
+            tables,
+            [q.record, q.offset, q.arrival, q.duration, q.speed, gap, arrivals],
+            [patients],
+            [held, settled, report, answer]
+        )
     }
 }
 

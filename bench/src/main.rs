@@ -8,7 +8,7 @@ use std::path::Path;
 use std::process::ExitCode;
 
 use bench::{bought, checks, evening, figures, frames, growth, hubs, limit, machine, many};
-use bench::{moves, page, speed, stall};
+use bench::{moves, page, patients, speed, stall};
 use linked::Linked;
 
 const USAGE: &str = "usage:
@@ -92,6 +92,7 @@ fn measure(rounds: usize, page: Option<&str>) -> Result<(), String> {
         moves::table(&Linked, rounds)?,
         bought::table(&Linked, rounds)?,
         many::table(&Linked, rounds)?,
+        patients::table(&Linked, rounds)?,
     ]
     .join("\n");
     let report = format!("{report}\n{}", verdict(&report));

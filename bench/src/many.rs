@@ -52,7 +52,8 @@ fn measure<P: Program>(library: &P, scene: &Scene, count: usize, rounds: usize) 
         }
     }
     let [check, all, few] = stands.map(|stand| Spent::of(&stand.times));
-    let name = format!("{} queries, {} settled", grouped(count), grouped(settled));
+    let queries = if count == 1 { "query" } else { "queries" };
+    let name = format!("{} {queries}, {} settled", grouped(count), grouped(settled));
     let rows = [
         ("a held record for each vertex", &all),
         ("the same less check", &all.less(&check)),

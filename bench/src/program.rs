@@ -24,6 +24,7 @@ pub fn call<P: Program>(program: &P, case: &Case, after: &mut Outcome) -> Durati
     after.answer.copy_from_slice(&case.answer);
     after.parts_answer.copy_from_slice(&case.parts_answer);
     after.target.copy_from_slice(&case.target);
+    after.report.copy_from_slice(&case.report);
     let case = black_box(case);
     for table in [&case.vertices, &case.walks, &case.hops, &case.list] {
         black_box(table.iter().fold(0u8, |sum, byte| sum ^ byte));

@@ -16,13 +16,13 @@
 
 #include "siltbrow.h"
 
-enum { END = 0, CHECK = 1, RUN = 2, PARTS_ALONE = 3, PAIR = 4, FORWARD = 5, BACKWARD = 6, JUDGE = 7, RUNS = 8 };
+enum { END = 0, CHECK = 1, RUN = 2, PARTS_ALONE = 3, PAIR = 4, FORWARD = 5, BACKWARD = 6, JUDGE = 7, RUNS = 8, EVENING = 9 };
 
 /* An odd length, so that no slice begins at an even address by design: the
  * library may not count on more than bytes. */
 enum { GUARD = 61 };
 
-enum { VERTICES, WALKS, HOPS, HELD, SETTLED, ANSWER, LIST, PARTS, PARTS_ANSWER, TARGET, QUERIES, SLICES };
+enum { VERTICES, WALKS, HOPS, HELD, SETTLED, ANSWER, LIST, PARTS, PARTS_ANSWER, TARGET, QUERIES, PATIENTS, REPORT, SLICES };
 
 /* How long a record of a settled list is, and where the run's answer has the
  * refusal and the settled count. */
@@ -159,7 +159,8 @@ static Slice read_slice(int null, int number)
     for (size_t i = 0; i < slice.behind; i++)
         slice.start[slice.len + i] = guard_byte(i + 7);
     read_bytes(slice.start, slice.len);
-    if ((number <= HOPS || number == LIST || number == QUERIES) && slice.len != 0) {
+    int only_read = number <= HOPS || number == LIST || number == QUERIES || number == PATIENTS;
+    if (only_read && slice.len != 0) {
         slice.copy = allocate(slice.len);
         memcpy(slice.copy, slice.start, slice.len);
     }
@@ -256,10 +257,10 @@ static void do_move(int kind, int null)
 static void do_case(int kind, int null)
 {
     Slice s[SLICES] = {{NULL, NULL, NULL, 0, 0, NULL}};
-    int runs = kind == RUN || kind == PAIR, searches = runs || kind == RUNS;
+    int runs = kind == RUN || kind == PAIR, searches = runs || kind == RUNS || kind == EVENING;
     int makes_parts = kind == PARTS_ALONE || kind == PAIR;
     Query q = {0, 0, 0, 0, 0};
-    uint32_t limit = 0;
+    uint32_t limit = 0, gap = 0, arrivals = 0;
     uint64_t value;
     for (int i = VERTICES; i <= HOPS; i++)
         s[i] = read_slice(null, i);
@@ -270,6 +271,12 @@ static void do_case(int kind, int null)
         limit = read_number();
     if (kind == RUNS)
         s[QUERIES] = read_slice(null, QUERIES);
+    if (kind == EVENING) {
+        gap = read_number();
+        arrivals = read_number();
+        s[PATIENTS] = read_slice(null, PATIENTS);
+        s[REPORT] = read_slice(null, REPORT);
+    }
     for (int i = HELD; searches && i <= ANSWER; i++)
         s[i] = read_slice(null, i);
     if (kind == PARTS_ALONE || kind == JUDGE)
@@ -283,12 +290,17 @@ static void do_case(int kind, int null)
     case PAIR: value = pair(s, hop_size, q, limit); break;
     case JUDGE: value = siltbrow_judge(TABLES, QUERY, LENT(LIST)); break;
     case RUNS: value = siltbrow_runs(TABLES, LENT(QUERIES), LENT(HELD), LENT(SETTLED), LENT(ANSWER)); break;
+    case EVENING:
+        value = siltbrow_patients(TABLES, QUERY, gap, arrivals, LENT(PATIENTS), LENT(HELD), LENT(SETTLED), LENT(REPORT), LENT(ANSWER));
+        break;
     default: fail("no such kind of case");
     }
     write_number((uint64_t)kind, 1);
     write_number(value, 8);
     for (int i = HELD; searches && i <= ANSWER; i++)
         write_slice(&s[i]);
+    if (kind == EVENING)
+        write_slice(&s[REPORT]);
     for (int i = PARTS; makes_parts && i <= PARTS_ANSWER; i++)
         write_slice(&s[i]);
     close_slices(s);

@@ -309,6 +309,49 @@ static void runs_test(void)
     fill();
 }
 
+static siltbrow_answer evening(int32_t first, uint32_t gap, uint32_t arrivals, const uint8_t *patients, size_t patients_len, uint8_t *report, size_t report_len)
+{
+    uint8_t held[2 * SILTBROW_HELD_SIZE], settled[2 * SILTBROW_SETTLED_SIZE], bytes[SILTBROW_ANSWER_SIZE];
+    count(siltbrow_patients(vertices, sizeof vertices, walks, sizeof walks, hops, sizeof hops, SILTBROW_HOP_SIZE, 0, 300, first, 50, 10, gap, arrivals,
+                            patients, patients_len, held, sizeof held, settled, sizeof settled, report, report_len, bytes, sizeof bytes) == 0, "an evening");
+    return siltbrow_read_answer(bytes);
+}
+
+static void unreported(siltbrow_answer answer, const uint8_t *report, uint32_t refusal, uint32_t place, const char *what)
+{
+    count(answer.refusal == refusal && answer.place == place && answer.settled == 0 && report[0] == 9, what);
+}
+
+/* The road is 1,000 long, the place 300 from vertex 1, and D is 500: vertex 1 alone is reached. */
+static void patients_test(void)
+{
+    uint8_t patients[2 * SILTBROW_FIGURE_SIZE], report[SILTBROW_REPORT_BYTES(sizeof vertices, 2u)];
+    size_t p = sizeof patients, r = sizeof report;
+    fill();
+    siltbrow_put_length(walks, 1000, 0);
+    siltbrow_put_length(walks + SILTBROW_WALK_SIZE, 1000, 0);
+    siltbrow_put(patients, 7);
+    siltbrow_put(patients + 4, SILTBROW_MAX_PATIENTS);
+    count(r == 5 * SILTBROW_FIGURE_SIZE, "a figure for each vertex, each arrival and the total");
+    siltbrow_answer answer = evening(SILTBROW_MAX_TIME - (int32_t)SILTBROW_MAX_GAP, SILTBROW_MAX_GAP, 2, patients, p, report, r);
+    count(answer.refusal == SILTBROW_ACCEPTED && answer.settled == 1 && answer.finished == 1, "two arrivals");
+    count(siltbrow_get(report) == 0 && siltbrow_get(report + 4) == 2 && siltbrow_get(report + 8) == SILTBROW_MAX_PATIENTS
+              && siltbrow_get(report + 12) == SILTBROW_MAX_PATIENTS && siltbrow_get(report + 16) == SILTBROW_MAX_PATIENTS + 7, "their report");
+    memset(report, 9, sizeof report);
+    unreported(evening(0, 60, 2, patients, p - 1, report, r), report, SILTBROW_BAD_LENGTH, 6, "a cut count");
+    unreported(evening(0, 60, 2, patients, p, report, r - 4), report, SILTBROW_BAD_LENGTH, 7, "a figure missing");
+    unreported(evening(0, SILTBROW_MAX_GAP + 1, 2, patients, p, report, r), report, SILTBROW_BAD_EVENING, 0, "the gap");
+    unreported(evening(SILTBROW_MAX_TIME, 1, 2, patients, p, report, r), report, SILTBROW_BAD_EVENING, 2, "the last arrival");
+    siltbrow_put(patients + 4, SILTBROW_MAX_PATIENTS + 1);
+    unreported(evening(0, 0, 2, patients, p, report, r), report, SILTBROW_TOO_MANY_PATIENTS, 1, "too many patients");
+    uint8_t large[SILTBROW_REPORT_BYTES(sizeof vertices, SILTBROW_MAX_ARRIVALS + 1u)] = {9};
+    siltbrow_put(patients + 4, 0);
+    unreported(evening(0, 1, SILTBROW_MAX_ARRIVALS + 1, patients, p, large, sizeof large), large, SILTBROW_BAD_EVENING, 1, "97 arrivals");
+    answer = evening(0, 1, SILTBROW_MAX_ARRIVALS, patients, p, large, sizeof large - SILTBROW_FIGURE_SIZE);
+    count(answer.refusal == SILTBROW_ACCEPTED && siltbrow_get(large + 4) == SILTBROW_MAX_ARRIVALS, "96 arrivals");
+    fill();
+}
+
 static void count_test(void)
 {
     static uint8_t many[(SILTBROW_MAX_VERTICES + 1) * SILTBROW_VERTEX_SIZE];
@@ -396,7 +439,7 @@ static void frame_test(void)
 
 static void text_test(void)
 {
-    static const uint32_t refusals[] = {0, 1, 2, 3, 4, 5, 6, 7, 8, 9, 10, SILTBROW_KNOWN_TRIP, SILTBROW_BAD_ENTRY, SILTBROW_BAD_POINT, SILTBROW_EMPTY_LIST, 25, 26, 27, 28, 99};
+    static const uint32_t refusals[] = {0, 1, 2, 3, 4, 5, 6, 7, 8, 9, 10, SILTBROW_KNOWN_TRIP, SILTBROW_TOO_MANY_PATIENTS, SILTBROW_BAD_EVENING, SILTBROW_BAD_ENTRY, SILTBROW_BAD_POINT, SILTBROW_EMPTY_LIST, 25, 26, 27, 28, 99};
     char version[32];
     for (size_t a = 0; a < sizeof refusals / sizeof *refusals; a++)
         for (size_t b = 0; b < a; b++)
@@ -418,6 +461,7 @@ int main(void)
     parts_test();
     judge_test();
     runs_test();
+    patients_test();
     count_test();
     move_test();
     frame_test();

@@ -24,6 +24,7 @@ static uint8_t bought[VERTICES * SILTBROW_ENTRY_SIZE];
 
 static uint32_t limit;
 static size_t many;
+static uint32_t reached;
 static uint64_t judged;
 static size_t held_len, list_len;
 static const uint8_t *top; /* where the frame of the caller lies */
@@ -91,6 +92,20 @@ static void *runs(void *unused)
     (void)siltbrow_runs(vertices, sizeof vertices, walks, sizeof walks, NULL, 0, SILTBROW_HOP_SIZE, asked, SILTBROW_QUERY_SIZE * many, held, held_len,
                         settled, sizeof settled, answers, SILTBROW_ANSWER_SIZE * many);
     memcpy(answer, answers, sizeof answer);
+    return unused;
+}
+
+/* Two arrivals, a patient at each vertex. */
+static void *evening(void *unused)
+{
+    static uint8_t patients[VERTICES * SILTBROW_FIGURE_SIZE], report[SILTBROW_REPORT_BYTES(sizeof vertices, 2u)];
+    uint8_t here = 0;
+    for (size_t v = 0; v < VERTICES; v++)
+        siltbrow_put(patients + SILTBROW_FIGURE_SIZE * v, 1);
+    top = &here;
+    (void)siltbrow_patients(vertices, sizeof vertices, walks, sizeof walks, NULL, 0, SILTBROW_HOP_SIZE, WALKS / 2, 10, 36000, SILTBROW_MAX_DURATION, 14, 60, 2,
+                            patients, sizeof patients, held, sizeof held, settled, sizeof settled, report, sizeof report, answer, sizeof answer);
+    reached = siltbrow_get(report + SILTBROW_FIGURE_SIZE * (VERTICES + 1));
     return unused;
 }
 
@@ -197,6 +212,7 @@ int main(void)
     many = 1;
     size_t single = used(runs);
     shared = shared && siltbrow_read_answer(answer).settled == VERTICES;
+    size_t reporting = used(evening);
     (void)used(run);
     buy();
     size_t judging = used(judge);
@@ -207,10 +223,10 @@ int main(void)
     size_t framing = used(frame);
     int framed = siltbrow_read_frame(answer).refusal == SILTBROW_ACCEPTED;
     size_t moving = used(forward), back = used(backward);
-    printf("a check uses %zu bytes of stack, a run at most %zu, parts at most %zu, a frame %zu, the moves %zu and %zu, judging %zu, queries %zu and %zu\n", depth, most, covering,
-           framing, moving, back, judging, several, single);
+    printf("a check uses %zu bytes of stack, a run at most %zu, parts at most %zu, a frame %zu, the moves %zu and %zu, judging %zu, queries %zu and %zu, an evening %zu\n", depth, most, covering,
+           framing, moving, back, judging, several, single, reporting);
     int good = whole > 0 && framed && depth > 1000 && most > 1000 && covering > 1000 && framing > 1000 && depth < MOST && most < MOST
-               && covering < MOST && framing < MOST && moving < MOST && back < MOST && right && judging < MOST_JUDGE && shared && several < MOST && single < MOST && memcmp(narrow, walks, sizeof walks) == 0;
+               && covering < MOST && framing < MOST && moving < MOST && back < MOST && right && judging < MOST_JUDGE && shared && several < MOST && single < MOST && reached == VERTICES && reporting < MOST && memcmp(narrow, walks, sizeof walks) == 0;
     printf("%d passed, %d failed\n", good, !good);
     return !good;
 }

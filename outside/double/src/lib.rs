@@ -4,7 +4,7 @@
 
 use outside::mutant::{Mutant, Sound};
 use outside::outcome::{Fast, Program};
-use outside::records::{Lent, Query, Tables, Way};
+use outside::records::{Evening, Lent, Query, Tables, Way};
 
 /// An argument as C gives it.
 #[derive(Clone, Copy)]
@@ -142,6 +142,18 @@ impl<'a> Call<'a> {
                 let (queries, answers) = (self.read("queries"), self.write("answers"));
                 program
                     .runs(self.tables(), queries, self.lent(), answers)
+                    .into()
+            }
+            "patients" => {
+                let evening = Evening {
+                    query: self.query(),
+                    gap: self.number("gap"),
+                    arrivals: self.number("arrivals"),
+                };
+                let (patients, lent) = (self.read("patients"), self.lent());
+                let (report, answer) = (self.write("report"), self.write("answer"));
+                program
+                    .patients(self.tables(), evening, patients, lent, report, answer)
                     .into()
             }
             name => unreachable!("{name} is not among these calls"),

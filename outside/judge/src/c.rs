@@ -31,5 +31,11 @@ macro_rules! calls {
             queries: *const u8, queries_len: usize,
             held: *mut u8, held_len: usize, settled: *mut u8, settled_len: usize, answers: *mut u8, answers_len: usize
         ) -> u32 }
+        $make! { siltbrow_patients(
+            vertices: *const u8, vertices_len: usize, walks: *const u8, walks_len: usize, hops: *const u8, hops_len: usize, hop_size: u32,
+            record: u32, offset: u32, arrival: i32, duration: u32, speed: u32, gap: u32, arrivals: u32,
+            patients: *const u8, patients_len: usize, held: *mut u8, held_len: usize, settled: *mut u8, settled_len: usize,
+            report: *mut u8, report_len: usize, answer: *mut u8, answer_len: usize
+        ) -> u32 }
     };
 }

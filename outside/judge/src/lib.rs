@@ -7,6 +7,7 @@
 pub mod c;
 pub mod cases;
 pub mod commands;
+pub mod evening;
 pub mod fast;
 pub mod marked;
 pub mod mutant;

@@ -2,22 +2,23 @@
 //! as one table. `fast`, `slow` and the library are held against it. The cases
 //! are pairs: a run, and the parts of its own list. Behind them stand vertices
 //! that are forgotten, lists of all kinds, for the parts operation alone, then
-//! hops with trips and moves, rides of no minutes, waits, bought lists, and many
-//! queries.
+//! hops with trips and moves, rides of no minutes, waits, bought lists, many
+//! queries, and evenings.
 
 mod bought;
 mod forgetting;
 mod lists;
 mod many;
 mod moments;
+mod patients;
 mod trips;
 mod waits;
 
 use crate::network::{Network, Scene};
 use crate::outcome::{Call, Case, Outcome};
 use crate::records::{
-    Answer, Held, Hop, Part, PartsAnswer, Query, Settled, Vertex, Walk, ANSWER, HELD, NONE, PART,
-    SETTLED,
+    word, Answer, Held, Hop, Part, PartsAnswer, Query, Settled, Vertex, Walk, ANSWER, HELD, NONE,
+    PART, SETTLED,
 };
 
 /// A call, and what its outcome has to be.
@@ -60,6 +61,9 @@ enum Wanted {
     /// has lent them.
     SettledKept(usize),
     HeldKept,
+    /// The report of an evening, and that it is as `filled` has lent it.
+    Report(&'static [u32]),
+    ReportKept,
     /// The held buffer: these records, and zeros behind them.
     HeldBytes(&'static [(u32, u32, u32, u32)]),
 }
@@ -71,11 +75,12 @@ const fn marked(name: &'static str, make: fn() -> Case, wanted: &'static [Wanted
 }
 
 /// Every row: the marked cases, forgotten vertices, the lists, trips and moves,
-/// rides of no minutes, waits, bought lists, many queries.
+/// rides of no minutes, waits, bought lists, many queries, evenings.
 pub fn all() -> impl Iterator<Item = &'static Marked> {
     let rows = MARKED.iter().chain(forgetting::ALL).chain(lists::ALL);
     let rows = rows.chain(trips::ALL).chain(moments::ALL);
-    rows.chain(waits::ALL).chain(bought::ALL).chain(many::ALL)
+    let rows = rows.chain(waits::ALL).chain(bought::ALL);
+    rows.chain(many::ALL).chain(patients::ALL)
 }
 
 const MARKED: &[Marked] = &[
@@ -308,6 +313,7 @@ fn filled(mut case: Case) -> Case {
         &mut case.answer,
         &mut case.parts_answer,
         &mut case.target,
+        &mut case.report,
     ];
     for buffer in lent {
         buffer.fill(LENT);
@@ -345,7 +351,8 @@ impl Marked {
             };
             return kept && self.wanted.iter().all(told);
         }
-        if case.call == Call::Runs {
+        // What an outcome of another kind wants is said whole.
+        if case.call == Call::Runs || after.returned != 0 {
             return self.wanted.iter().all(|w| w.of(after));
         }
         let listed = after.returned == 0 && run_behind(case, after) && parts_behind(case, after);
@@ -362,11 +369,11 @@ fn zero_behind(bytes: &[u8], used: usize) -> bool {
 /// Whether the lent bytes behind the run's lists are what each refusal makes
 /// them, and no part is counted.
 fn run_behind(case: &Case, after: &Outcome) -> bool {
-    if !case.call.runs() {
+    if !case.call.searches() {
         return true;
     }
     let six = Answer::read(&after.answer);
-    if (1..=7).contains(&six.refusal) {
+    if matches!(six.refusal, 1..=7 | 19 | 20) {
         return case.held == after.held && case.settled == after.settled;
     }
     zero_behind(&after.held, six.held as usize * HELD)
@@ -380,7 +387,9 @@ fn parts_behind(case: &Case, after: &Outcome) -> bool {
     let asked = match case.call {
         Call::Parts => true,
         Call::Pair => Answer::read(&after.answer).refusal == 0,
-        Call::Check | Call::Run | Call::Move(_) | Call::Judge | Call::Runs => false,
+        Call::Check | Call::Run | Call::Move(_) | Call::Judge | Call::Runs | Call::Patients => {
+            false
+        }
     };
     if !asked {
         return case.parts == after.parts && case.parts_answer == after.parts_answer;
@@ -440,6 +449,11 @@ impl Wanted {
                 own.eq(rows.iter().copied())
             }
             Wanted::SettledKept(byte) => after.settled[*byte..].iter().all(|&b| b == LENT),
+            Wanted::Report(figures) => {
+                let own = after.report.chunks(4).map(|bytes| word(bytes, 0));
+                own.eq(figures.iter().copied())
+            }
+            Wanted::ReportKept => after.report.iter().all(|&b| b == LENT),
             Wanted::HeldKept => after.held.iter().all(|&b| b == LENT),
             Wanted::HeldBytes(rows) => {
                 let own = (0..rows.len()).map(|i| Held::read(&after.held, i));

@@ -145,6 +145,9 @@ impl Network {
             },
             limit: 0,
             queries: Vec::new(),
+            gap: 0,
+            arrivals: 0,
+            patients: Vec::new(),
             held: Vec::new(),
             settled: Vec::new(),
             list: Vec::new(),
@@ -152,6 +155,7 @@ impl Network {
             answer: Vec::new(),
             parts_answer: Vec::new(),
             target: Vec::new(),
+            report: Vec::new(),
         }
     }
 }
@@ -203,6 +207,19 @@ impl Scene {
             settled: vec![0; asked.len() * vertices * SETTLED],
             answer: vec![0; asked.len() * ANSWER],
             ..self.network.check_case()
+        }
+    }
+
+    /// An evening with a count for each vertex, with room for everything.
+    pub fn patients_case(&self, gap: u32, arrivals: u32, patients: &[u32]) -> Case {
+        let figures = self.network.vertices.len() + arrivals as usize + 1;
+        Case {
+            call: Call::Patients,
+            gap,
+            arrivals,
+            patients: patients.iter().flat_map(|n| n.to_be_bytes()).collect(),
+            report: vec![0; 4 * figures],
+            ..self.run_case(u32::MAX)
         }
     }
 

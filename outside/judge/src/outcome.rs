@@ -2,7 +2,7 @@
 
 use crate::fast;
 use crate::mutant::Fault;
-use crate::records::{Answer, Lent, PartsAnswer, Query, Tables, Way, ANSWER, SETTLED};
+use crate::records::{Answer, Evening, Lent, PartsAnswer, Query, Tables, Way, ANSWER, SETTLED};
 use crate::slow;
 
 #[derive(Clone, Copy, Debug, PartialEq, Eq)]
@@ -18,6 +18,8 @@ pub enum Call {
     Judge,
     /// Many queries.
     Runs,
+    /// The patients of an evening.
+    Patients,
 }
 
 impl Call {
@@ -28,7 +30,7 @@ impl Call {
 
     /// Whether held, settled and an answer slice are lent.
     pub fn searches(self) -> bool {
-        self.runs() || self == Call::Runs
+        self.runs() || matches!(self, Call::Runs | Call::Patients)
     }
 
     /// Whether one query is given.
@@ -79,6 +81,17 @@ pub trait Program {
 
     /// A run for each of many queries, each with its share of the settled buffer.
     fn runs(&self, tables: Tables, queries: &[u8], lent: Lent, answers: &mut [u8]) -> u32;
+
+    /// Runs for several arrivals, and whom they reach.
+    fn patients(
+        &self,
+        tables: Tables,
+        evening: Evening,
+        patients: &[u8],
+        lent: Lent,
+        report: &mut [u8],
+        answer: &mut [u8],
+    ) -> u32;
 
     /// The run, then the parts of the list that it wrote: as many bytes as its
     /// settled count tells, not the zeros behind them. Where the run writes no
@@ -142,6 +155,18 @@ impl<F: Fault> Program for Fast<F> {
     fn runs(&self, tables: Tables, queries: &[u8], lent: Lent, answers: &mut [u8]) -> u32 {
         fast::call_runs(tables, queries, lent, answers, self.0)
     }
+
+    fn patients(
+        &self,
+        tables: Tables,
+        evening: Evening,
+        patients: &[u8],
+        lent: Lent,
+        report: &mut [u8],
+        answer: &mut [u8],
+    ) -> u32 {
+        fast::call_patients(tables, evening, patients, lent, report, answer, self.0)
+    }
 }
 
 /// The program that takes every answer from the definitions.
@@ -178,6 +203,18 @@ impl Program for Slow {
     fn runs(&self, tables: Tables, queries: &[u8], lent: Lent, answers: &mut [u8]) -> u32 {
         slow::call_runs(tables, queries, lent, answers)
     }
+
+    fn patients(
+        &self,
+        tables: Tables,
+        evening: Evening,
+        patients: &[u8],
+        lent: Lent,
+        report: &mut [u8],
+        answer: &mut [u8],
+    ) -> u32 {
+        slow::call_patients(tables, evening, patients, lent, report, answer)
+    }
 }
 
 /// One call of the library: all its arguments, the buffers as they are lent.
@@ -195,6 +232,11 @@ pub struct Case {
     pub limit: u32,
     /// The records of many queries.
     pub queries: Vec<u8>,
+    /// Of an evening; the query has its first arrival.
+    pub gap: u32,
+    pub arrivals: u32,
+    /// A count for each vertex.
+    pub patients: Vec<u8>,
     pub held: Vec<u8>,
     pub settled: Vec<u8>,
     /// The settled list of the parts operation, or a bought list.
@@ -205,6 +247,8 @@ pub struct Case {
     pub parts_answer: Vec<u8>,
     /// What a move writes to.
     pub target: Vec<u8>,
+    /// Whom an evening reaches.
+    pub report: Vec<u8>,
 }
 
 /// What came back, with every byte of the slices that may be written.
@@ -219,9 +263,18 @@ pub struct Outcome {
     pub answer: Vec<u8>,
     pub parts_answer: Vec<u8>,
     pub target: Vec<u8>,
+    pub report: Vec<u8>,
 }
 
 impl Case {
+    pub fn evening(&self) -> Evening {
+        Evening {
+            query: self.query,
+            gap: self.gap,
+            arrivals: self.arrivals,
+        }
+    }
+
     pub fn tables(&self) -> Tables<'_> {
         Tables {
             vertices: &self.vertices,
@@ -256,6 +309,7 @@ impl Case {
             answer: self.answer.clone(),
             parts_answer: self.parts_answer.clone(),
             target: self.target.clone(),
+            report: self.report.clone(),
         }
     }
 
@@ -290,6 +344,15 @@ impl Case {
                 let answers = &mut after.answer;
                 u64::from(program.runs(tables, &self.queries, lent, answers))
             }
+            Call::Patients => {
+                let lent = Lent {
+                    held: &mut after.held,
+                    settled: &mut after.settled,
+                };
+                let (report, answer) = (&mut after.report, &mut after.answer);
+                let (evening, patients) = (self.evening(), &self.patients);
+                u64::from(program.patients(tables, evening, patients, lent, report, answer))
+            }
         }
     }
 
@@ -309,7 +372,7 @@ impl Case {
                 ((after.returned >> 32) as u32, after.returned as u32)
             }
             Call::Runs if after.answer.is_empty() => (0, 0),
-            Call::Run | Call::Runs => run(),
+            Call::Run | Call::Runs | Call::Patients => run(),
             Call::Parts => parts(),
             Call::Pair if run().0 != 0 => run(),
             Call::Pair => parts(),

@@ -4,7 +4,9 @@
 use crate::fast;
 use crate::mutant::Sound;
 use crate::outcome::{Call, Case, Fast, Outcome, Program};
-use crate::records::{Answer, Lent, PartsAnswer, Query, Tables, Way, ANSWER, PARTS_ANSWER};
+use crate::records::{
+    Answer, Evening, Lent, PartsAnswer, Query, Tables, Way, ANSWER, PARTS_ANSWER,
+};
 use crate::slow;
 
 /// What the one run leaves in the three buffers.
@@ -106,6 +108,18 @@ impl Program for OneRun {
 
     fn runs(&self, tables: Tables, queries: &[u8], lent: Lent, answers: &mut [u8]) -> u32 {
         Fast(Sound).runs(tables, queries, lent, answers)
+    }
+
+    fn patients(
+        &self,
+        tables: Tables,
+        evening: Evening,
+        patients: &[u8],
+        lent: Lent,
+        report: &mut [u8],
+        answer: &mut [u8],
+    ) -> u32 {
+        Fast(Sound).patients(tables, evening, patients, lent, report, answer)
     }
 
     /// For accepted runs with room for all parts.

@@ -268,6 +268,15 @@ impl Asked {
     }
 }
 
+/// Arrivals one after the other: the query has the first.
+#[derive(Clone, Copy, Debug, PartialEq, Eq)]
+pub struct Evening {
+    pub query: Query,
+    /// Seconds from one arrival to the next.
+    pub gap: u32,
+    pub arrivals: u32,
+}
+
 /// The three tables as they are lent, and the size of a hop record as it is
 /// named.
 #[derive(Clone, Copy, Debug)]

@@ -4,8 +4,9 @@ use std::fmt::Write;
 
 use crate::outcome::{Call, Case, Outcome};
 use crate::records::{
-    trip, Answer, Asked, Held, Hop, Listed, Part, PartsAnswer, Query, Settled, Vertex, Walk, Way,
-    ANSWER, ASKED, HELD, HOP, LISTED, NONE, PART, PARTS_ANSWER, SETTLED, TRIP_HOP, VERTEX, WALK,
+    trip, word, Answer, Asked, Held, Hop, Listed, Part, PartsAnswer, Query, Settled, Vertex, Walk,
+    Way, ANSWER, ASKED, HELD, HOP, LISTED, NONE, PART, PARTS_ANSWER, SETTLED, TRIP_HOP, VERTEX,
+    WALK,
 };
 
 /// More records than this are only counted.
@@ -111,6 +112,16 @@ pub fn case(case: &Case) -> String {
             format!("{} # limit {}", query_line(asked.query), asked.limit)
         });
     }
+    if case.call == Call::Patients {
+        let _ = writeln!(
+            text,
+            "# gap {}, arrivals {}, report of {} bytes, patients:{}",
+            case.gap,
+            case.arrivals,
+            case.report.len(),
+            figures(&case.patients)
+        );
+    }
     if case.call.searches() {
         let _ = writeln!(
             text,
@@ -171,6 +182,10 @@ pub fn outcome(case: &Case, after: &Outcome) -> String {
         let settled = settled_rows(&after.settled);
         text += &changed("settled", &case.settled, &after.settled, settled);
     }
+    if case.call == Call::Patients {
+        let report = figures(&after.report);
+        text += &changed("report", &case.report, &after.report, report);
+    }
     if case.call.parts() {
         if after.parts_answer.len() == PARTS_ANSWER {
             let _ = writeln!(text, "  {:?}", PartsAnswer::read(&after.parts_answer));
@@ -189,6 +204,10 @@ fn settled_rows(bytes: &[u8]) -> String {
         let s = Settled::read(bytes, i);
         format!(" ({} {})", s.vertex, s.distance)
     })
+}
+
+fn figures(bytes: &[u8]) -> String {
+    rows(bytes, 4, |i| format!(" {}", word(bytes, 4 * i)))
 }
 
 fn listed_rows(bytes: &[u8]) -> String {

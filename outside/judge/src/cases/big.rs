@@ -6,7 +6,7 @@ use super::bought;
 use super::hubs;
 use crate::network::{full_scene, Network, Plan, Scene};
 use crate::outcome::Case;
-use crate::records::{Listed, Query, Vertex, NONE};
+use crate::records::{Asked, Listed, Query, Vertex, NONE};
 
 /// A case and the refusal and place that it is built to give.
 pub struct Big {
@@ -166,6 +166,17 @@ pub const ALL: &[Big] = &[
         27,
         0,
     ),
+    big("full size, two queries", || queries(full(), 2), 0, 0),
+    big("70,000 queries", || queries(pair(), 70_000), 0, 0),
+    big("96 arrivals", || arrivals(96), 0, 0),
+    big("97 arrivals", || arrivals(97), 20, 1),
+    big("the most patients", || evening(|_| ()), 0, 0),
+    big(
+        "one patient too many",
+        || evening(|case| case.patients[4 * 65_535 + 1] = 1),
+        19,
+        65_535,
+    ),
     big("65,536 entries", || lists::listed(|list| list), 0, 0),
     big(
         "65,536 entries, backwards",
@@ -273,6 +284,48 @@ pub fn full() -> Scene {
 }
 
 /// What a run settles, with the record of each, and something done to it.
+/// So many queries, each a second earlier than the one before.
+fn queries(scene: Scene, count: usize) -> Case {
+    let one = |i: usize| Asked {
+        query: Query {
+            arrival: scene.query.arrival - i as i32 % 1_000,
+            ..scene.query
+        },
+        limit: NONE,
+    };
+    scene.runs_case(&(0..count).map(one).collect::<Vec<Asked>>())
+}
+
+/// Two vertices and a road between them.
+fn pair() -> Scene {
+    let mut plan = Plan {
+        vertices: 2,
+        ..Plan::default()
+    };
+    plan.road(0, 1, 1_000);
+    let network = plan.build();
+    let query = Query {
+        record: 1,
+        offset: 300,
+        ..moment().query
+    };
+    Scene { network, query }
+}
+
+/// So many arrivals at the end of the time that there is.
+fn arrivals(count: u32) -> Case {
+    let mut scene = pair();
+    scene.query.arrival = 172_800 - 95 * 60;
+    scene.patients_case(60, count, &[1, 2])
+}
+
+/// All vertices are reached at both arrivals, and each has the most patients.
+fn evening(change: fn(&mut Case)) -> Case {
+    let mut case = moment().patients_case(30, 2, &[65_535; 65_536]);
+    change(&mut case);
+    case
+}
+
 fn judged(scene: Scene, change: fn(&mut Vec<Listed>)) -> Case {
     let mut list = bought::whole(&scene);
     change(&mut list);

@@ -2,7 +2,7 @@
 //! rooms and jobs are changed without a plan. Some are mended afterwards, so
 //! that what was changed comes as far as the search.
 
-use super::{bought, hopeless, jobs, many, small, trips};
+use super::{bought, hopeless, jobs, many, patients, small, trips};
 use crate::mutant::Sound;
 use crate::network::{Network, Scene};
 use crate::outcome::{Call, Case};
@@ -31,16 +31,20 @@ pub fn case(seed: u64, index: u64) -> Case {
         _ => NONE,
     };
     let mut case = scene.pair_case(limit);
-    case.call = match rng.below(22) {
+    case.call = match rng.below(24) {
         0..=2 => Call::Check,
         3..=6 => Call::Run,
         7..=11 => Call::Pair,
         12..=14 => Call::Judge,
         15..=16 => Call::Runs,
+        17..=18 => Call::Patients,
         _ => Call::Parts,
     };
     if case.call == Call::Runs {
         queries(&mut case, &scene, rng);
+    }
+    if case.call == Call::Patients {
+        evening(&mut case, &scene, rng);
     }
     if case.call == Call::Judge {
         judged(&mut case, &scene, rng);
@@ -128,6 +132,18 @@ fn queries(case: &mut Case, scene: &Scene, rng: &mut Rng) {
     }
     let fitting = case.queries.len() / ASKED * ANSWER;
     case.answer.resize(fitting, 0);
+}
+
+/// An evening, and changes to its hours, counts and report.
+fn evening(case: &mut Case, scene: &Scene, rng: &mut Rng) {
+    *case = patients::some_case(scene, rng);
+    match rng.below(12) {
+        0 => case.gap = any_number(rng, 3_600),
+        1 => case.arrivals = any_number(rng, 96),
+        2..=5 => damage(&mut case.patients, 4, rng),
+        6 => relength(&mut case.report, 4, rng),
+        _ => {}
+    }
 }
 
 /// The job of this number.

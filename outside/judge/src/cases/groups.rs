@@ -3,7 +3,7 @@
 use std::collections::BTreeSet;
 
 use super::damage::{any, several, sweep};
-use super::{bought, hopeless, lists, many, small, trips};
+use super::{bought, hopeless, lists, many, patients, small, trips};
 use crate::mutant::Sound;
 use crate::network::Scene;
 use crate::outcome::{Call, Case};
@@ -37,11 +37,11 @@ fn forgets(index: u64) -> bool {
 }
 
 /// How many kinds of groups follow one another.
-pub const TURNS: u64 = 31;
+pub const TURNS: u64 = 33;
 
 /// Twelve groups about the run and its pair, twelve about lists, one about the
-/// size of a hop, one about the moves, three about bought lists and two about
-/// many queries.
+/// size of a hop, one about the moves, three about bought lists, two about many
+/// queries and two about evenings.
 fn varied(index: u64, scene: &Scene, rng: &mut Rng) -> Vec<Case> {
     match index % TURNS {
         0..=3 => limits(scene, rng),
@@ -55,7 +55,8 @@ fn varied(index: u64, scene: &Scene, rng: &mut Rng) -> Vec<Case> {
         24 => trips::sizes(scene, rng),
         25 => trips::moves(scene, rng),
         turn @ 26..=28 => bought::varied(turn - 26, scene, rng),
-        turn @ 29.. => many::varied(turn - 29, scene, rng),
+        turn @ 29..=30 => many::varied(turn - 29, scene, rng),
+        turn @ 31.. => patients::varied(turn - 31, scene, rng),
         turn => lists::varied(turn - 12, scene, rng),
     }
 }
@@ -74,6 +75,7 @@ fn dress(mut case: Case, rng: &mut Rng) -> Case {
         &mut case.answer,
         &mut case.parts_answer,
         &mut case.target,
+        &mut case.report,
     ];
     for buffer in lent {
         match rng.below(4) {
@@ -85,10 +87,12 @@ fn dress(mut case: Case, rng: &mut Rng) -> Case {
     case
 }
 
-/// A check, a run, parts, a bought list, or many queries over the same tables.
+/// A check, a run, parts, a bought list, many queries, or an evening over the
+/// same tables.
 pub fn one_of_all(scene: &Scene, rng: &mut Rng) -> Case {
-    match rng.below(13) {
-        12.. => many::some_case(scene, rng),
+    match rng.below(14) {
+        13.. => patients::some_case(scene, rng),
+        12 => many::some_case(scene, rng),
         10..=11 => bought::some_case(scene, rng),
         0..=2 => scene.network.check_case(),
         3..=5 => lists::some_case(scene, rng),
@@ -232,7 +236,10 @@ fn each_place(scene: &Scene, rng: &mut Rng) -> Vec<Case> {
             cases.push(scene.run_case(u32::MAX));
             cases.push(lists::some_case(&scene, rng));
             cases.push(scene.judge_case(&[]));
-            cases.push(many::some_case(&scene, rng));
+            cases.push(match rng.chance(50) {
+                true => many::some_case(&scene, rng),
+                false => patients::some_case(&scene, rng),
+            });
         }
     }
     cases

@@ -41,7 +41,7 @@ fn near(scene: &Scene, rng: &mut Rng) -> Query {
 }
 
 /// One field out of its limits.
-fn spoil(scene: &Scene, query: &mut Query, rng: &mut Rng) {
+pub fn spoil(scene: &Scene, query: &mut Query, rng: &mut Rng) {
     let walks = &scene.network.walks;
     let length = walks.get(query.record as usize).map_or(0, |w| w.length);
     match rng.below(5) {

@@ -13,6 +13,7 @@ pub mod hubs;
 pub mod jobs;
 pub mod lists;
 pub mod many;
+pub mod patients;
 pub mod small;
 pub mod trips;
 

@@ -8,13 +8,13 @@ use crate::mutant::{Mutant, Sound};
 use crate::outcome::{Call, Case, Outcome};
 use crate::pair;
 use crate::records::{
-    trip, Answer, Held, Hop, Part, PartsAnswer, Settled, Walk, Way, ANSWER, HELD, HOP, NONE,
+    trip, word, Answer, Held, Hop, Part, PartsAnswer, Settled, Walk, Way, ANSWER, HELD, HOP, NONE,
     SETTLED, TRIP_HOP, VERTEX, WALK,
 };
 use crate::rng::Rng;
 use crate::slow;
 
-const CASES: usize = 74_000;
+const CASES: usize = 80_000;
 
 /// The refusals (or 0) and places that the operations of a case answer.
 fn answers(case: &Case, after: &Outcome) -> Vec<(&'static str, (u32, u32))> {
@@ -32,6 +32,7 @@ fn answers(case: &Case, after: &Outcome) -> Vec<(&'static str, (u32, u32))> {
         Call::Move(Way::Backward) => vec![("backward", refusal)],
         Call::Judge => vec![("judge", refusal)],
         Call::Runs => each_answer(after),
+        Call::Patients => vec![("patients", refusal)],
     }
 }
 
@@ -62,13 +63,19 @@ fn every_refusal_arises() {
         ("parts", &[0, 1, 2, 4, 5]),
         ("judge", &[0, 1, 2, 4]),
         ("runs", &[0, 1, 2, 3]),
+        ("patients", &[0, 1, 2, 3, 4, 6, 7]),
     ] {
         for &place in places {
             often(operation, 1, place, 10);
         }
+        // Calls that there are fewer cases of come to the first records.
+        let places = match operation {
+            "runs" | "patients" => 4,
+            _ => 8,
+        };
         for number in 2..=6 {
             let first = u32::from(number == 4 || number == 5);
-            for place in first..8 {
+            for place in first..places {
                 often(operation, number, place, 1);
             }
         }
@@ -79,12 +86,16 @@ fn every_refusal_arises() {
         often("parts", 7, place, 20);
         often("judge", 7, place, 10);
         often("runs", 7, place, 20);
+        often("patients", 7, place, 3);
     }
     for step in 0..7 {
         often("run", 8, step, 10);
         often("run", 9, step + 1, 10);
         often("runs", 8, step, 3);
         often("runs", 9, step + 1, 3);
+        often("patients", 8, step, 3);
+        often("patients", 9, step + 1, 3);
+        often("patients", 19, step, 3);
         often("parts", 10, step, 10);
         often("parts", 21, step, 20);
     }
@@ -93,6 +104,9 @@ fn every_refusal_arises() {
         often("judge", 26, place, 3);
         often("judge", 27, place, 10);
         often("judge", 28, place, 10);
+    }
+    for place in 0..3 {
+        often("patients", 20, place, 20);
     }
     often("judge", 28, NONE - 1, 50);
     often("judge", 28, NONE, 50);
@@ -105,8 +119,8 @@ fn every_refusal_arises() {
     for record in 0..7 {
         often("backward", 11, record, 10);
     }
-    often("run", 0, 0, CASES / 9);
-    often("parts", 0, 0, CASES / 9);
+    often("run", 0, 0, CASES / 12);
+    often("parts", 0, 0, CASES / 12);
 }
 
 /// The features of an accepted pair that rules turn on.
@@ -681,12 +695,12 @@ fn damaged_cases_come_everywhere() {
     }
     assert!(strange >= 100, "{strange} answers of another length");
     assert!(seen[0] >= 800, "{} accepted", seen[0]);
-    for number in (0..=11).chain([21]).chain(25..=28) {
+    for number in (0..=11).chain(19..=21).chain(25..=28) {
         let count = seen[number];
         // Walks that are moved mostly lose their twins first, which is refusal 2.
         let least = match number {
             4 => 3,
-            25.. => 10,
+            19 | 20 | 25.. => 10,
             _ => 20,
         };
         assert!(count >= least, "refusal {number}: {count}");
@@ -715,4 +729,73 @@ fn own_lists_pass() {
         }
     }
     assert!(passed > 1_000, "{passed}");
+}
+
+/// What an evening tries beyond its refusals.
+fn evening_features(case: &Case, after: &Outcome) -> Vec<&'static str> {
+    let six = Answer::read(&after.answer);
+    let figure = |at: usize| word(&after.report, 4 * at);
+    let vertices = case.vertices.len() / VERTEX;
+    let last = i64::from(case.query.arrival) + i64::from(case.gap) * (i64::from(case.arrivals) - 1);
+    let mut names = vec![];
+    let mut add = |holds: bool, name| {
+        if holds {
+            names.push(name)
+        }
+    };
+    if six.refusal == 0 {
+        let some = |v: &usize| (1..case.arrivals).contains(&figure(*v));
+        let covered: BTreeSet<u32> = (0..case.arrivals as usize)
+            .map(|i| figure(vertices + i))
+            .collect();
+        add((0..vertices).any(|v| some(&v)), "a vertex at some arrivals");
+        add(covered.len() > 1, "arrivals that differ");
+        add(
+            !covered.contains(&figure(vertices + case.arrivals as usize)),
+            "a total beyond them",
+        );
+        add(last == 172_800, "a last arrival at the limit");
+        add(case.gap < case.query.duration, "windows that overlap");
+    }
+    if six.refusal == 8 || six.refusal == 9 {
+        let mut first = case.clone();
+        first.call = Call::Run;
+        first.limit = NONE;
+        let first = first.fast(Sound);
+        add(
+            Answer::read(&first.answer).refusal == 0,
+            "room short at a later arrival",
+        );
+    }
+    add(
+        six.refusal == 20 && last == 172_801,
+        "a second beyond the limit",
+    );
+    names
+}
+
+#[test]
+fn every_kind_of_evening_arises() {
+    let mut seen = BTreeMap::new();
+    for case in stream(1).take(CASES) {
+        let after = match case.call {
+            Call::Patients => case.fast(Sound),
+            _ => continue,
+        };
+        if after.returned == 0 {
+            tally(&mut seen, evening_features(&case, &after));
+        }
+    }
+    for name in [
+        "a vertex at some arrivals",
+        "arrivals that differ",
+        "a total beyond them",
+        "a last arrival at the limit",
+        "a second beyond the limit",
+        "windows that overlap",
+        "room short at a later arrival",
+    ] {
+        let count = *seen.get(name).unwrap_or(&0);
+        assert!(count >= 20, "{name}: {count}");
+    }
 }

@@ -49,6 +49,7 @@ const FORWARD: u8 = 5;
 const BACKWARD: u8 = 6;
 const JUDGE: u8 = 7;
 const RUNS: u8 = 8;
+const PATIENTS: u8 = 9;
 
 fn kind(call: Call) -> u8 {
     match call {
@@ -60,6 +61,7 @@ fn kind(call: Call) -> u8 {
         Call::Move(Way::Backward) => BACKWARD,
         Call::Judge => JUDGE,
         Call::Runs => RUNS,
+        Call::Patients => PATIENTS,
     }
 }
 
@@ -95,6 +97,12 @@ pub fn write_case(out: &mut impl Write, case: &Case) -> std::io::Result<()> {
     }
     if case.call == Call::Runs {
         write_slice(out, &case.queries)?;
+    }
+    if case.call == Call::Patients {
+        out.write_all(&case.gap.to_be_bytes())?;
+        out.write_all(&case.arrivals.to_be_bytes())?;
+        write_slice(out, &case.patients)?;
+        write_slice(out, &case.report)?;
     }
     if case.call.searches() {
         write_slice(out, &case.held)?;
@@ -229,6 +237,8 @@ fn names(touched: u16) -> String {
         "the parts' answer",
         "target",
         "queries",
+        "patients",
+        "report",
     ];
     let bits = slices.iter().enumerate();
     let set: Vec<&str> = bits
@@ -251,6 +261,9 @@ pub fn read_reply(input: &mut impl Read, case: &Case) -> std::io::Result<Reply> 
         outcome.held = read_slice(input)?;
         outcome.settled = read_slice(input)?;
         outcome.answer = read_slice(input)?;
+    }
+    if case.call == Call::Patients {
+        outcome.report = read_slice(input)?;
     }
     if case.call.parts() {
         outcome.parts = read_slice(input)?;

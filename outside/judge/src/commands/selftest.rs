@@ -2,6 +2,7 @@
 
 use super::Tally;
 use crate::cases::{big, jobs, stream};
+use crate::evening;
 use crate::fast;
 use crate::mutant::{Fault, Sound};
 use crate::outcome::{Call, Case, Outcome, Slow};
@@ -29,6 +30,12 @@ pub fn run<F: Fault>(seed: u64, cases: usize, fault: F) -> Result<(), String> {
             tally.count(same, || {
                 let shown = show::case(&case);
                 format!("case {number}: trips matter, or the way back differs\n{shown}")
+            });
+        }
+        if let Some(same) = evening::adds_up(&case, &slow, &Slow) {
+            tally.count(same, || {
+                let shown = show::case(&case);
+                format!("case {number}: an evening is not its runs\n{shown}")
             });
         }
         if let Some(same) = passes_settled(&case, &slow) {

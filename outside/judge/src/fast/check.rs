@@ -22,7 +22,7 @@ type Length = (usize, usize, usize);
 
 /// The check alone: 1 (places 0 to 2) to 6.
 pub fn check<F: Fault>(tables: Tables, fault: F) -> Option<Refusal> {
-    sizes(tables, fault).or_else(|| contents(tables, fault))
+    sizes(tables, fault).or_else(|| judge_records(tables, fault))
 }
 
 /// Everything that a run judges before step 0.
@@ -80,7 +80,7 @@ fn judge<F: Fault>(tables: Tables, query: Query, lent: &[Length], fault: F) -> O
     if fault.is(Mutant::QueryFirst) {
         return sizes(tables, fault)
             .or_else(|| asked(tables, query, fault))
-            .or_else(|| contents(tables, fault));
+            .or_else(|| judge_records(tables, fault));
     }
     if fault.is(Mutant::BuffersLast) {
         return check(tables, fault)
@@ -97,9 +97,12 @@ fn judge<F: Fault>(tables: Tables, query: Query, lent: &[Length], fault: F) -> O
 
 /// Refusals 1 to 6 with the slices lent: what does not depend on the query.
 pub fn judge_tables<F: Fault>(tables: Tables, lent: &[Length], fault: F) -> Option<Refusal> {
-    sizes(tables, fault)
-        .or_else(|| buffers(tables, lent, fault))
-        .or_else(|| contents(tables, fault))
+    judge_lengths(tables, lent, fault).or_else(|| judge_records(tables, fault))
+}
+
+/// Refusal 1.
+pub fn judge_lengths<F: Fault>(tables: Tables, lent: &[Length], fault: F) -> Option<Refusal> {
+    sizes(tables, fault).or_else(|| buffers(tables, lent, fault))
 }
 
 fn sizes<F: Fault>(tables: Tables, fault: F) -> Option<Refusal> {
@@ -143,7 +146,8 @@ fn buffers<F: Fault>(tables: Tables, lent: &[Length], fault: F) -> Option<Refusa
     Some(Refusal::at(1, bad.0))
 }
 
-fn contents<F: Fault>(tables: Tables, fault: F) -> Option<Refusal> {
+/// Refusals 2 to 6.
+pub fn judge_records<F: Fault>(tables: Tables, fault: F) -> Option<Refusal> {
     let walk_to = |i: usize| word(tables.walks, i * WALK + 4);
     let hop_to = |i: usize| hops::read(tables, i, fault).to;
     let walks = || order(tables.walks.len() / WALK, walk_to, 4, fault);

@@ -11,6 +11,7 @@ mod moves;
 mod newcomers;
 mod order;
 mod parts;
+mod patients;
 mod run;
 mod search;
 mod waits;
@@ -21,7 +22,7 @@ pub use parts::parts;
 pub use run::{one_run, run};
 
 use crate::mutant::{Fault, Mutant};
-use crate::records::{Lent, Query, Refusal, Tables, Way, ANSWER, PARTS_ANSWER};
+use crate::records::{Evening, Lent, Query, Refusal, Tables, Way, ANSWER, PARTS_ANSWER};
 
 /// The check as C sees it.
 pub fn call_check<F: Fault>(tables: Tables, fault: F) -> u64 {
@@ -54,6 +55,28 @@ pub fn call_runs<F: Fault>(
     let fits = many::fits(queries, answers, fault);
     if fits || fault.is(Mutant::RunsLate) {
         many::runs(hops::named(tables, fault), queries, lent, answers, fault);
+    }
+    u32::from(!fits)
+}
+
+/// An evening as C sees it.
+pub fn call_patients<F: Fault>(
+    tables: Tables,
+    evening: Evening,
+    patients: &[u8],
+    mut lent: Lent,
+    report: &mut [u8],
+    answer: &mut [u8],
+    fault: F,
+) -> u32 {
+    let tables = hops::named(tables, fault);
+    let fits = answers(answer, ANSWER, fault);
+    if !fits && !fault.is(Mutant::PatientsLate) {
+        return 1;
+    }
+    let six = patients::patients(tables, evening, patients, &mut lent, report, fault);
+    if fits {
+        answer[..ANSWER].copy_from_slice(&six.bytes());
     }
     u32::from(!fits)
 }

@@ -83,7 +83,7 @@ fn limit_read<F: Fault>(limit: u32, fault: F) -> u32 {
     limit.saturating_add(u32::from(fault.is(Mutant::LimitLate)))
 }
 
-fn wipe(lent: &mut Lent) {
+pub fn wipe(lent: &mut Lent) {
     lent.held.fill(0);
     lent.settled.fill(0);
 }

@@ -40,16 +40,20 @@ pub type Lent = (usize, usize, usize);
 
 /// 1 to 7 in this order, with what else is lent beside the tables.
 pub fn up_to_query(tables: Tables, query: Query, lent: &[Lent]) -> Option<Given> {
-    lengths(tables, lent)
-        .or_else(|| records(tables))
-        .or_else(|| asked(tables, query))
+    lengths(tables, lent).or_else(|| records_and_query(tables, query))
+}
+
+/// 2 to 7.
+pub fn records_and_query(tables: Tables, query: Query) -> Option<Given> {
+    records(tables).or_else(|| asked(tables, query))
 }
 
 pub fn cut(length: usize, size: usize) -> bool {
     length / size * size != length
 }
 
-fn lengths(tables: Tables, lent: &[Lent]) -> Option<Given> {
+/// 1, with what is lent.
+pub fn lengths(tables: Tables, lent: &[Lent]) -> Option<Given> {
     let (v, w, h) = (tables.vertices.len(), tables.walks.len(), tables.hops.len());
     least(1, 6, |place| match place {
         0 => cut(v, 12) || !(1..=65_536).contains(&(v / 12)),

@@ -10,6 +10,7 @@ mod model;
 mod moves;
 mod order;
 mod parts;
+mod patients;
 mod points;
 mod run;
 mod write;
@@ -23,7 +24,7 @@ pub use parts::parts;
 pub use points::uncovered;
 pub use run::{one_run, run};
 
-use crate::records::{Lent, Query, Tables, Way};
+use crate::records::{Evening, Lent, Query, Tables, Way};
 
 /// The check as C sees it.
 pub fn call_check(tables: Tables) -> u64 {
@@ -43,6 +44,24 @@ pub fn call_judge(tables: Tables, query: Query, list: &[u8]) -> u64 {
 /// Many queries as C sees them.
 pub fn call_runs(tables: Tables, queries: &[u8], lent: Lent, answers: &mut [u8]) -> u32 {
     u32::from(!many::runs(tables, queries, lent, answers))
+}
+
+/// An evening as C sees it.
+pub fn call_patients(
+    tables: Tables,
+    evening: Evening,
+    patients: &[u8],
+    lent: Lent,
+    report: &mut [u8],
+    answer: &mut [u8],
+) -> u32 {
+    if answer.len() == 24 {
+        let six = patients::patients(tables, evening, patients, lent, report);
+        answer.copy_from_slice(&six.bytes());
+        0
+    } else {
+        1
+    }
 }
 
 /// The run as C sees it.

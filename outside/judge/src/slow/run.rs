@@ -50,7 +50,7 @@ pub fn one_run(tables: Tables, query: Query, limit: u32, lent: Lent, parts: &mut
     }
 }
 
-fn refused(number: u64, place: u64) -> Answer {
+pub fn refused(number: u64, place: u64) -> Answer {
     Answer {
         refusal: number as u32,
         place: place as u32,
