@@ -6,7 +6,10 @@ use outside::network::Scene;
 
 use crate::page::{grouped, head, row};
 use crate::program::{Program, RUST};
-use crate::speed::{Spent, Stand, COLUMNS};
+use crate::speed::{kept, Spent, Stand, COLUMNS};
+
+/// What a judgement may take at most beside the Rust program.
+const AT_MOST: Option<f64> = Some(1.0);
 
 /// The rows of a network; an error where the answers differ.
 fn measure<P: Program>(library: &P, name: &str, scene: &Scene, rounds: usize) -> Result<String, String> {
@@ -20,16 +23,20 @@ fn measure<P: Program>(library: &P, name: &str, scene: &Scene, rounds: usize) ->
     }
     let [check, judge] = stands.map(|stand| Spent::of(&stand.times));
     let name = format!("{name}, {} entries", grouped(list.len()));
-    let rows = [("judge", &judge), ("judge less check", &judge.less(&check))];
-    let line = |(part, spent): (&str, &Spent)| {
+    let rows = [
+        ("judge", &judge, AT_MOST),
+        ("judge less check", &judge.less(&check), None),
+    ];
+    let line = |(part, spent, most): (&str, &Spent, Option<f64>)| {
         let first = [name.clone(), part.to_string()];
-        row(&[&first[..], &spent.cells()].concat())
+        row(&[&first[..], &spent.cells(), &[kept(most, spent)]].concat())
     };
     Ok(rows.into_iter().map(line).collect())
 }
 
 pub fn table<P: Program>(library: &P, rounds: usize) -> Result<String, String> {
-    let mut table = head(2, &[&["a bought list, right", "part"], &COLUMNS[..]].concat());
+    let first = ["a bought list, right", "part"];
+    let mut table = head(2, &[&first[..], &COLUMNS[..], &["at most"]].concat());
     for (name, scene) in city_scenes() {
         let rows = measure(library, &name, &scene, rounds);
         table += &rows.map_err(|error| format!("{name}: {error}"))?;

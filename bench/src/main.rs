@@ -7,8 +7,8 @@ use std::fs::{read_to_string, write};
 use std::path::Path;
 use std::process::ExitCode;
 
-use bench::{bought, checks, evening, figures, frames, growth, hubs, limit, machine, many};
-use bench::{moves, page, patients, speed, stall};
+use bench::{bought, checks, evening, figures, frames, growth, hubs, limit, machine, many, moves};
+use bench::{page, patients, speed, stall};
 use linked::Linked;
 
 const USAGE: &str = "usage:

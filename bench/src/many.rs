@@ -1,14 +1,19 @@
 //! A thousand short queries in one call: the library and the Rust program in
-//! turn. Both judge the tables once.
+//! turn, which both judge the tables once, and the flat program, which searches
+//! for one query after the other.
 
 use outside::mutant::Sound;
 use outside::network::{grid_scene, Scene};
+use outside::outcome::Outcome;
 use outside::records::{Answer, Asked, ANSWER, HELD, SETTLED};
 use outside::rng::Rng;
 
 use crate::page::{grouped, head, row};
 use crate::program::{Program, RUST};
-use crate::speed::{Spent, Stand, COLUMNS};
+use crate::speed::{kept, FlatStand, Spent, Stand, COLUMNS};
+
+/// What a search may take at most beside that of the flat program.
+const AT_MOST: Option<f64> = Some(3.0);
 
 /// Held records that are enough for each of the short queries, and spare the
 /// library the writing of a slot for every vertex.
@@ -31,10 +36,20 @@ pub fn queries(scene: &Scene, count: usize) -> Vec<Asked> {
     (0..count).map(one).collect()
 }
 
+/// The list that each query has settled, in its share.
+fn lists(after: &Outcome) -> Vec<&[u8]> {
+    let answers = after.answer.chunks(ANSWER).map(Answer::read);
+    let share = after.settled.len() / SETTLED / answers.len() * SETTLED;
+    let counts = answers.map(|six| six.settled as usize * SETTLED);
+    let shares = after.settled.chunks(share).zip(counts);
+    shares.map(|(share, count)| &share[..count]).collect()
+}
+
 /// The rows of so many queries; an error where the answers differ, or a query is
 /// refused.
 fn measure<P: Program>(library: &P, scene: &Scene, count: usize, rounds: usize) -> Result<String, String> {
-    let mut case = scene.runs_case(&queries(scene, count));
+    let asked = queries(scene, count);
+    let mut case = scene.runs_case(&asked);
     let after = case.fast(Sound);
     let answers: Vec<Answer> = after.answer.chunks(ANSWER).map(Answer::read).collect();
     if answers.iter().any(|six| six.refusal != 0) {
@@ -45,31 +60,36 @@ fn measure<P: Program>(library: &P, scene: &Scene, count: usize, rounds: usize) 
     case.settled = vec![0; most.unwrap_or(0) * count * SETTLED];
     let mut few = case.clone();
     few.held.truncate(FEW * HELD);
+    let mut flat = FlatStand::many(&case, asked.iter().map(|asked| asked.query).collect());
     let mut stands = [scene.network.check_case(), case, few].map(Stand::new);
     for round in 0..rounds {
         for stand in &mut stands {
             stand.round(library, &RUST, round % 2 == 0)?;
         }
+        flat.round(&lists(stands[1].left()))?;
     }
     let [check, all, few] = stands.map(|stand| Spent::of(&stand.times));
-    let queries = if count == 1 { "query" } else { "queries" };
-    let name = format!("{} {queries}, {} settled", grouped(count), grouped(settled));
+    let flat = Spent::of(&flat.times);
+    let (all_searched, few_searched) = (all.less(&check), few.less(&check));
+    let name = format!("{} queries, {} settled", grouped(count), grouped(settled));
     let rows = [
-        ("a held record for each vertex", &all),
-        ("the same less check", &all.less(&check)),
-        ("2,048 held records", &few),
-        ("the same less check", &few.less(&check)),
+        ("a held record for each vertex", &all, None),
+        ("the same less check", &all_searched, None),
+        ("that beside the flat program", &all_searched.beside(&flat), None),
+        ("2,048 held records", &few, None),
+        ("the same less check", &few_searched, None),
+        ("that beside the flat program", &few_searched.beside(&flat), AT_MOST),
     ];
-    let line = |(part, spent): (&str, &Spent)| {
+    let line = |(part, spent, most): (&str, &Spent, Option<f64>)| {
         let first = [name.clone(), part.to_string()];
-        row(&[&first[..], &spent.cells()].concat())
+        row(&[&first[..], &spent.cells(), &[kept(most, spent)]].concat())
     };
     Ok(rows.into_iter().map(line).collect())
 }
 
 pub fn table<P: Program>(library: &P, rounds: usize) -> Result<String, String> {
     let first = ["grid 200x200, 15 min each", "room"];
-    let mut table = head(2, &[&first[..], &COLUMNS[..]].concat());
+    let mut table = head(2, &[&first[..], &COLUMNS[..], &["at most"]].concat());
     let scene = grid_scene(200, 40_000, 20_000, 900);
     for count in [1, 1_000] {
         table += &measure(library, &scene, count, rounds)?;

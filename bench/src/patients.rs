@@ -8,9 +8,12 @@ use outside::rng::Rng;
 
 use crate::page::{grouped, head, row};
 use crate::program::{Program, RUST};
-use crate::speed::{Spent, Stand, COLUMNS};
+use crate::speed::{kept, Spent, Stand, COLUMNS};
 
 const GAP: u32 = 60;
+
+/// What an evening may take at most beside the Rust program.
+const AT_MOST: Option<f64> = Some(1.0);
 
 /// The rows of an evening; an error where the answers differ, or it is refused.
 fn measure<P: Program>(library: &P, scene: &Scene, arrivals: u32, rounds: usize) -> Result<String, String> {
@@ -33,19 +36,21 @@ fn measure<P: Program>(library: &P, scene: &Scene, arrivals: u32, rounds: usize)
     }
     let [check, evening] = stands.map(|stand| Spent::of(&stand.times));
     let minutes = scene.query.duration / 60;
-    let several = if arrivals == 1 { "arrival" } else { "arrivals" };
-    let name = format!("{arrivals} {several}, {minutes} min each, {} settled", grouped(settled));
-    let rows = [("evening", &evening), ("evening less check", &evening.less(&check))];
-    let line = |(part, spent): (&str, &Spent)| {
+    let name = format!("{arrivals} arrivals, {minutes} min each, {} settled", grouped(settled));
+    let rows = [
+        ("evening", &evening, AT_MOST),
+        ("evening less check", &evening.less(&check), None),
+    ];
+    let line = |(part, spent, most): (&str, &Spent, Option<f64>)| {
         let first = [name.clone(), part.to_string()];
-        row(&[&first[..], &spent.cells()].concat())
+        row(&[&first[..], &spent.cells(), &[kept(most, spent)]].concat())
     };
     Ok(rows.into_iter().map(line).collect())
 }
 
 pub fn table<P: Program>(library: &P, rounds: usize) -> Result<String, String> {
     let first = ["grid 200x200, patients", "part"];
-    let mut table = head(2, &[&first[..], &COLUMNS[..]].concat());
+    let mut table = head(2, &[&first[..], &COLUMNS[..], &["at most"]].concat());
     for (arrivals, duration) in [(1, 900), (96, 900), (96, 2_700)] {
         let scene = grid_scene(200, 40_000, 20_000, duration);
         table += &measure(library, &scene, arrivals, rounds)?;
