@@ -1,4 +1,4 @@
--- A query and an answer in 24 bytes each: RULES 13. Assumes nothing.
+-- A query and an answer in 24 bytes each: RULES 13 and 24. Assumes nothing.
 use mathlib.Core.List.{List, _++_}
 use Prim.Native.Nat.{ℕ, _+_}
 use Rattle.journeys.specs.Bytes.{be32, clock, word}

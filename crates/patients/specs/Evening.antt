@@ -1,4 +1,4 @@
--- Whom journeys reach in an evening of arrivals, and the report of it: RULES 11 and 12. Assumes nothing.
+-- Whom journeys reach in an evening of arrivals, and the report of it: RULES 25. Assumes nothing.
 use mathlib.Core.Path.{_≡_}
 use mathlib.Core.Logic.{_↔_}
 use mathlib.Core.Bool.{Bool, true, cond, _&&_}

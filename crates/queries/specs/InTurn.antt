@@ -1,4 +1,4 @@
--- Runs one after the other, RULES 13: each with its query, its share of the settled buffer, and the held buffer as the one before left it. Assumes nothing.
+-- Runs one after the other, RULES 24: each with its query, its share of the settled buffer, and the held buffer as the one before left it. Assumes nothing.
 use mathlib.Core.Path.{_≡_}
 use mathlib.Core.List.{List, [], _∷_, _++_}
 use Prim.Native.Nat.{ℕ, zero, suc, _*_, _/_}

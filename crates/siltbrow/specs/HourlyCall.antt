@@ -1,4 +1,4 @@
--- What the call for patients per hour answers and leaves in every lent byte: RULES 13. Assumes nothing.
+-- What the call for patients per hour answers and leaves in every lent byte: RULES 25. Assumes nothing.
 use mathlib.Core.Path.{_≡_}
 use mathlib.Core.Logic.{_≢_}
 use mathlib.Core.List.{List}

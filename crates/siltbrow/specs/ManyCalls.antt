@@ -1,4 +1,4 @@
--- What the call for many queries answers and leaves in every lent byte, by the single call: RULES 13. Assumes nothing.
+-- What the call for many queries answers and leaves in every lent byte, by the single call: RULES 24. Assumes nothing.
 use mathlib.Core.Path.{_≡_}
 use mathlib.Core.Logic.{_⊎_, _≢_}
 use mathlib.Core.List.{List}
