@@ -33,11 +33,11 @@ use Rattle.intake.specs.Lending.{lent}
 use Rattle.records.specs.declared.Answer as records
 use Rattle.search.specs.Outcome.{answerOf}
 use Rattle.lists.proofs.Meaning.{named-is, entry-means, list-good}
-use Rattle.patients.specs.Evening.{patientsOf, figures}
-use Rattle.patients.specs.Tallied.{tallied}
+use Rattle.evening.specs.Patients.{patientsOf, figures}
+use Rattle.evening.specs.Tallied.{tallied}
 use Rattle.patients.specs.Reporting.{CanReport}
-use Rattle.patients.proofs.Figures.{figures-long, figure-read}
-use Rattle.patients.proofs.Tallying.{names, tally-figures}
+use Rattle.evening.proofs.Figures.{figures-long, figure-read}
+use Rattle.evening.proofs.Tallying.{names, tally-figures}
 use Rattle.covering.proofs.OwnList.{own-length, settled-back, own-list-good}
 
 -- the order of settling, and its list in bytes

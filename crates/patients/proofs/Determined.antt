@@ -19,11 +19,13 @@ use Rattle.journeys.proofs.Decoding.{vertex-count}
 use Rattle.journeys.proofs.Determined.{answer-unique}
 use Rattle.records.specs.declared.Answer as records
 use Rattle.search.specs.Outcome.{answerOf}
-use Rattle.patients.specs.Evening.{arriving, Reaches, patientsOf, timesSettled, covered, allPatients, figures, reportBytes, eveningRefusal}
+use Rattle.evening.specs.Patients.{patientsOf, allPatients, figures}
+use Rattle.evening.specs.Asked.{arriving, eveningRefusal}
+use Rattle.patients.specs.Evening.{Reaches, timesSettled, covered, reportBytes}
 use Rattle.patients.specs.EveningAnswers.{firstLate, Held, EveningAllowed}
-use Rattle.patients.proofs.Sums.{sum-same}
-use Rattle.patients.proofs.Figures.{figures-same}
-use Rattle.patients.proofs.Judged.{few-arrivals}
+use Rattle.evening.proofs.Sums.{sum-same}
+use Rattle.evening.proofs.Figures.{figures-same}
+use Rattle.evening.proofs.Judged.{few-arrivals}
 use Rattle.patients.proofs.evening.Reads as evening
 
 -- who is reached is told by journeys, so two tellers agree

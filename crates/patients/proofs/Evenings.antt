@@ -21,16 +21,18 @@ use Rattle.words.specs.Written.{written}
 use Rattle.records.specs.declared.Answer as records
 use Rattle.intake.specs.Lending.{lent}
 use Rattle.search.specs.Outcome.{answerOf}
-use Rattle.patients.specs.Evening.{arriving, patientsOf, allPatients, figures, reportBytes, eveningRefusal}
+use Rattle.evening.specs.Patients.{patientsOf, allPatients, figures}
+use Rattle.evening.specs.Asked.{arriving, eveningRefusal}
+use Rattle.patients.specs.Evening.{reportBytes}
 use Rattle.words.specs.Told.{told}
 use Rattle.words.specs.declared.Refusal as words
 use Rattle.records.specs.Meaning.{refusalOf}
 use Rattle.patients.specs.EveningAnswers.{firstLate, Held, EveningAllowed}
-use Rattle.patients.specs.Tallied.{reported}
+use Rattle.evening.specs.Tallied.{reported}
 use Rattle.patients.specs.Reporting.{CanReport}
-use Rattle.patients.proofs.Judged.{lengths-fine, patients-long, report-long, patients-low, few-arrivals, early-at, valid-at}
+use Rattle.evening.proofs.Judged.{lengths-fine, patients-long, report-long, patients-low, few-arrivals, early-at, valid-at}
 use Rattle.patients.proofs.Arrival.{theList, theOrder, reaches, reaches-exactly, entry-low, once, theRun, run-allowed, run-is, run-late, Own, own}
-use Rattle.patients.proofs.Tallying.{names}
+use Rattle.evening.proofs.Tallying.{names}
 use Rattle.patients.proofs.Stages.{stage, stage-start, stage-low, stage-next, stage-end}
 
 module _ (v w h : List ℕ) (hop : ℕ) (held₀ settled₀ : List ℕ) (Q : Query) (gap n : ℕ) (patients : List ℕ) where

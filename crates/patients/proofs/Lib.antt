@@ -1,8 +1,3 @@
-pub mod Sums
-pub mod Figures
-pub mod Tallying
-pub mod AskedEvening
-pub mod Judged
 pub mod Arrival
 pub mod Stages
 pub mod Evenings

@@ -21,9 +21,11 @@ use Rattle.journeys.proofs.Counting.{count-same}
 use Rattle.journeys.proofs.Decoding.{vertex-count}
 use Rattle.journeys.proofs.Determined.{answer-unique}
 use Rattle.intake.specs.Lending.{lent}
-use Rattle.patients.specs.Evening.{sum, arriving, Reaches, patientsOf, timesSettled, covered, eveningRefusal}
-use Rattle.patients.proofs.Sums.{sum-same, sum-swap, sum-ones, count-sum, sum-by-name}
-use Rattle.patients.proofs.Judged.{early-at, valid-at}
+use Rattle.evening.specs.Patients.{sum, patientsOf}
+use Rattle.evening.specs.Asked.{arriving, eveningRefusal}
+use Rattle.patients.specs.Evening.{Reaches, timesSettled, covered}
+use Rattle.evening.proofs.Sums.{sum-same, sum-swap, sum-ones, count-sum, sum-by-name}
+use Rattle.evening.proofs.Judged.{early-at, valid-at}
 use Rattle.patients.proofs.Arrival.{theList, theOrder, reaches, reaches-exactly, entry-low, once, theRun, run-allowed, run-listed}
 use Rattle.patients.proofs.Determined.{reached-one}
 

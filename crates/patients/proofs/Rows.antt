@@ -19,10 +19,12 @@ use Rattle.journeys.specs.Marked.{words}
 use Rattle.journeys.proofs.Tests.{split, cond-true, cond-false}
 use Rattle.journeys.proofs.Cases.{tested}
 use Rattle.journeys.proofs.Refusals.{from-fine}
-use Rattle.patients.specs.Evening.{sum, arriving, reportBytes, eveningRefusal, eveningLengths, reportLengths, patientsOk, eveningOk}
+use Rattle.evening.specs.Patients.{sum}
+use Rattle.evening.specs.Asked.{arriving, eveningRefusal, eveningLengths, reportLengths, patientsOk, eveningOk}
+use Rattle.patients.specs.Evening.{reportBytes}
 use Rattle.patients.specs.EveningAnswers.{firstLate, Held, EveningAllowed}
 use Rattle.patients.specs.Rows.{Row, view, rows}
-use Rattle.patients.proofs.Judged.{few-arrivals, early-at, valid-at}
+use Rattle.evening.proofs.Judged.{few-arrivals, early-at, valid-at}
 use Rattle.patients.proofs.Arrival.{theRun, reaches, reaches-exactly, run-allowed, run-listed}
 use Rattle.patients.proofs.Determined.{from-as, report-one}
 

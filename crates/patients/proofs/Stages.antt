@@ -15,11 +15,12 @@ use Rattle.journeys.specs.Lists.{vertexIn}
 use Rattle.journeys.proofs.Tests.{split}
 use Rattle.journeys.proofs.Counting.{none-count, count-most}
 use Rattle.words.specs.Written.{written}
-use Rattle.patients.specs.Evening.{sum, patientsOf, timesSettled, covered, allPatients, figures, reportBytes}
-use Rattle.patients.specs.Tallied.{tallied, listedPatients, reported}
-use Rattle.patients.proofs.Sums.{sum-same, sum-by-name}
-use Rattle.patients.proofs.Figures.{figures-same, figures-split, figures-none, figure-written, anew}
-use Rattle.patients.proofs.Tallying.{names, tally-figures}
+use Rattle.evening.specs.Patients.{sum, patientsOf, allPatients, figures}
+use Rattle.patients.specs.Evening.{timesSettled, covered, reportBytes}
+use Rattle.evening.specs.Tallied.{tallied, listedPatients, reported}
+use Rattle.evening.proofs.Sums.{sum-same, sum-by-name}
+use Rattle.evening.proofs.Figures.{figures-same, figures-split, figures-none, figure-written, anew}
+use Rattle.evening.proofs.Tallying.{names, tally-figures}
 
 module _ (reached : ℕ → ℕ → Bool) (patients : List ℕ) (m n : ℕ) where
   -- the figures after j arrivals: the vertices so far, the arrivals so far, and zero behind them

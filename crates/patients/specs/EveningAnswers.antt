@@ -10,7 +10,8 @@ use Rattle.journeys.specs.Bytes.{cleared}
 use Rattle.journeys.specs.Query.{Query}
 use Rattle.journeys.specs.Refusals.{Refusal, firstFrom}
 use Rattle.journeys.specs.Answers.{Lent, Answer, Allowed, tables, refusedEarly, refusedLate}
-use Rattle.patients.specs.Evening.{arriving, Reaches, reportBytes, eveningRefusal}
+use Rattle.evening.specs.Asked.{arriving, eveningRefusal}
+use Rattle.patients.specs.Evening.{Reaches, reportBytes}
 
 -- the first of the n runs that lacks room, with its step
 abbrev pub firstLate : (ℕ → Answer) → ℕ → Refusal

@@ -1,5 +1,4 @@
 pub mod Evening
 pub mod EveningAnswers
-pub mod Tallied
 pub mod Reporting
 pub mod Rows

@@ -3,7 +3,7 @@ use mathlib.Core.Path.{_≡_}
 use mathlib.Core.List.{List}
 use Prim.Native.Nat.{ℕ, _+_, _*_, _≤_, _<_}
 use lib.ListN.{length}
-use Rattle.patients.specs.Evening.{patientsOf, figures}
+use Rattle.evening.specs.Patients.{patientsOf, figures}
 
 -- m vertices, each with a count; the report is figures of 4 bytes, at least one for each vertex, and no arrival was counted more than 96 times
 pub record CanReport (m : ℕ) (patients report : List ℕ) : Type 0 where

@@ -9,8 +9,8 @@ use Rattle.journeys.specs.Answers.{early}
 use Rattle.audit.proofs.Whole.{sizes}
 use Rattle.records.specs.Asked.{queryOf}
 use Rattle.intake.specs.Lending.{lent}
-use Rattle.patients.specs.Evening.{arriving}
-use Rattle.patients.proofs.Judged.{lengths-fine, tables-fine, report-long, patients-long, patients-low, few-arrivals, arrival-good, early-at}
+use Rattle.evening.specs.Asked.{arriving}
+use Rattle.evening.proofs.Judged.{lengths-fine, tables-fine, report-long, patients-long, patients-low, few-arrivals, arrival-good, early-at}
 use Rattle.patients.proofs.Evenings.{Ongoing, ongoing-start, can-report, ongoing-next, ongoing-late, ongoing-end, allowed-as}
 use borrow.Author.Needs.{needs}
 use Rattle.patients.proofs.hold.Statement.{statement}

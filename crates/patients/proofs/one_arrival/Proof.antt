@@ -9,7 +9,7 @@ use denote.Ref.{now}
 use Rattle.journeys.specs.Bytes.{word}
 use Rattle.words.specs.Written.{written}
 use Rattle.records.specs.Asked.{queryOf}
-use Rattle.patients.specs.Tallied.{tallied, listedPatients}
+use Rattle.evening.specs.Tallied.{tallied, listedPatients}
 use Rattle.patients.proofs.Arrival.{own, can-tally}
 use borrow.Author.Needs.{needs}
 use Rattle.patients.proofs.one_arrival.Statement.{statement}

@@ -5,7 +5,7 @@ use lib.ListN.{take}
 use Rattle.journeys.specs.Bytes.{be32, word}
 use Rattle.journeys.specs.Lists.{vertexIn}
 use Rattle.words.specs.Written.{written}
-use Rattle.patients.specs.Evening.{sum, patientsOf}
+use Rattle.evening.specs.Patients.{sum, patientsOf}
 
 -- the report with one more at the vertex of each of the first i entries
 unfoldable pub tallied : List ℕ → List ℕ → ℕ → List ℕ

@@ -10,8 +10,8 @@ use mir.Val.{SFits, toZ, ofZ}
 use mir.ValLaws.{toZ-ofZ, toZ-pos}
 use Rattle.journeys.specs.Bytes.{clocked, midnight}
 use borrow.Author.Needs.{needs}
-use Rattle.patients.proofs.later.Statement.{statement}
-use Rattle.patients.proofs.later.Tie as tie
+use Rattle.evening.proofs.later.Statement.{statement}
+use Rattle.evening.proofs.later.Tie as tie
 
 by-midnight : (z : ℤ) → midnight ≤ clocked z → clocked z ≡ midnight + natAbs z
 by-midnight (pos n) h = refl

@@ -12,9 +12,9 @@ use Rattle.journeys.specs.Bytes.{be32, word}
 use Rattle.journeys.specs.Lists.{vertexIn}
 use Rattle.journeys.proofs.Tests.{split}
 use Rattle.words.specs.Written.{written}
-use Rattle.patients.specs.Evening.{figures}
-use Rattle.patients.specs.Tallied.{tallied}
-use Rattle.patients.proofs.Figures.{figures-same, figure-read, figure-written, anew}
+use Rattle.evening.specs.Patients.{figures}
+use Rattle.evening.specs.Tallied.{tallied}
+use Rattle.evening.proofs.Figures.{figures-same, figure-read, figure-written, anew}
 
 tallied-next : (report list : List ℕ) (i : ℕ)
     → tallied report list (i + 1) ≡ written (tallied report list i) (4 * vertexIn 8 list i) (word (be32 (tallied report list i) (4 * vertexIn 8 list i) + 1))

@@ -1,10 +1,10 @@
 -- `patients::report_fault` meets its contract: each return is the first test that fails. Assumes nothing.
 use mathlib.Core.Path.{_∙_}
 use native.Mathlib.Omega.{arith}
-use Rattle.patients.proofs.AskedEvening.{patients-cut, report-cut, none-cut}
+use Rattle.evening.proofs.AskedEvening.{patients-cut, report-cut, none-cut}
 use borrow.Author.Needs.{needs}
-use Rattle.patients.proofs.report_fault.Statement.{statement}
-use Rattle.patients.proofs.report_fault.Tie as tie
+use Rattle.evening.proofs.report_fault.Statement.{statement}
+use Rattle.evening.proofs.report_fault.Tie as tie
 
 returns : tie.Need-returns
 returns c = c .refused .ensures ∙ patients-cut _ _ _ _ (c .before .if1 .taken)

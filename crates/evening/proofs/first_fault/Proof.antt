@@ -9,11 +9,11 @@ use Rattle.records.specs.Asked.{queryOf}
 use Rattle.audit.proofs.Whole.{sizes}
 use Rattle.intake.specs.Lending.{lent}
 use Rattle.intake.proofs.RefusalOrder.{fine-so-far, refuses, hands-on}
-use Rattle.patients.specs.Evening.{eveningRefusal}
-use Rattle.patients.proofs.Judged.{tables-fine, patients-long, query-window}
+use Rattle.evening.specs.Asked.{eveningRefusal}
+use Rattle.evening.proofs.Judged.{tables-fine, patients-long, query-window}
 use borrow.Author.Needs.{needs}
-use Rattle.patients.proofs.first_fault.Statement.{statement}
-use Rattle.patients.proofs.first_fault.Tie as tie
+use Rattle.evening.proofs.first_fault.Statement.{statement}
+use Rattle.evening.proofs.first_fault.Tie as tie
 
 returns : tie.Need-returns
 unfolding eveningRefusal

@@ -9,7 +9,7 @@ use lib.Dec.{eqb, ltb}
 use borrow.Author.Tests.{eqb-true, eqb-false, eq-eqb, ne-eqb, lt-ltb, le-ltb, ltb-true, ltb-false, not-true}
 use Rattle.journeys.specs.Counting.{one, count}
 use Rattle.journeys.proofs.Tests.{split}
-use Rattle.patients.specs.Evening.{sum}
+use Rattle.evening.specs.Patients.{sum}
 
 pub sum-next : (f : ℕ → ℕ) (n : ℕ) → sum f (n + 1) ≡ sum f n + f n
 unfolding sum

@@ -7,10 +7,10 @@ use lib.Dec.{leb}
 use borrow.Author.Tests.{not-true, not-false}
 use Rattle.journeys.specs.Bytes.{midnight}
 use Rattle.records.specs.Asked.{queryOf}
-use Rattle.patients.proofs.AskedEvening.{gap-fault, many-fault, last-fault, evening-good, some-arrivals, short, lastOk}
+use Rattle.evening.proofs.AskedEvening.{gap-fault, many-fault, last-fault, evening-good, some-arrivals, short, lastOk}
 use borrow.Author.Needs.{needs}
-use Rattle.patients.proofs.evening_fault.Statement.{statement}
-use Rattle.patients.proofs.evening_fault.Tie as tie
+use Rattle.evening.proofs.evening_fault.Statement.{statement}
+use Rattle.evening.proofs.evening_fault.Tie as tie
 
 returns : tie.Need-returns
 returns c = c .refused .ensures ∙ gap-fault _ _ _ (not-true _ (c .before .if1 .taken))

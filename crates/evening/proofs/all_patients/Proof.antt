@@ -3,11 +3,11 @@ use mathlib.Core.Path.{_≡_, refl, sym, ap₂, _∙_}
 use Prim.Native.Nat.{ℕ, _+_, _-_, _≤_}
 use native.Mathlib.Omega.{arith}
 use denote.Ref.{now}
-use Rattle.patients.specs.Evening.{sum, patientsOf, allPatients}
-use Rattle.patients.proofs.Sums.{sum-most, sum-next}
+use Rattle.evening.specs.Patients.{sum, patientsOf, allPatients}
+use Rattle.evening.proofs.Sums.{sum-most, sum-next}
 use borrow.Author.Needs.{needs}
-use Rattle.patients.proofs.all_patients.Statement.{statement}
-use Rattle.patients.proofs.all_patients.Tie as tie
+use Rattle.evening.proofs.all_patients.Statement.{statement}
+use Rattle.evening.proofs.all_patients.Tie as tie
 
 abbrev Inv-loop : tie.InvT-loop
 Inv-loop patients n sum₀ v₀ total v = (v ≤ n) × (total ≡ allPatients patients v)

@@ -19,8 +19,9 @@ use Rattle.journeys.proofs.Refusals.{or-fine, or-next, unless-fine, bad-fine}
 use Rattle.journeys.proofs.Valid.{early-valid}
 use Rattle.intake.specs.Lending.{lent}
 use Rattle.intake.proofs.FirstFault.{passed, last}
-use Rattle.patients.specs.Evening.{arriving, patientsOf, patientsOk, reportLengths, eveningOk, eveningLengths, eveningRefusal}
-use Rattle.patients.proofs.AskedEvening.{gapOk, manyOk, lastOk, within-hour, some-arrivals}
+use Rattle.evening.specs.Patients.{patientsOf}
+use Rattle.evening.specs.Asked.{arriving, patientsOk, reportLengths, eveningOk, eveningLengths, eveningRefusal}
+use Rattle.evening.proofs.AskedEvening.{gapOk, manyOk, lastOk, within-hour, some-arrivals}
 
 abbrev number-of : Refusal → ℕ
 number-of r = r .number

@@ -14,7 +14,7 @@ use Rattle.journeys.specs.Bytes.{be32, word}
 use Rattle.journeys.proofs.Counting.{joined-same}
 use Rattle.words.specs.Written.{written}
 use Rattle.words.proofs.Written.{length-word, be32-word}
-use Rattle.patients.specs.Evening.{figures}
+use Rattle.evening.specs.Patients.{figures}
 
 pub figures-long : (f : ℕ → ℕ) (n : ℕ) → length (figures f n) ≡ 4 * n
 unfolding joined

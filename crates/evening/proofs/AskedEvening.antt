@@ -13,7 +13,7 @@ use Rattle.journeys.specs.Query.{Query}
 use Rattle.journeys.specs.Refusals.{fine}
 use Rattle.journeys.proofs.Tests.{and-both}
 use Rattle.intake.proofs.FirstFault.{failed, passed, last, last-failed}
-use Rattle.patients.specs.Evening.{reportLengths, eveningOk}
+use Rattle.evening.specs.Asked.{reportLengths, eveningOk}
 
 module _ (v patients : List ℕ) (n : ℕ) (report : List ℕ) where
   pub patients-cut : (length patients ≡ 4 * (length v / 12) → ⊥) → record { number = 1; place = 6 } ≡ reportLengths v patients n report

@@ -1,9 +1,9 @@
 -- `patients::lengths_fault` meets its contract: the chain of all lengths. Assumes nothing.
 use Rattle.intake.proofs.RefusalOrder.{refuses, hands-on}
-use Rattle.patients.specs.Evening.{eveningLengths}
+use Rattle.evening.specs.Asked.{eveningLengths}
 use borrow.Author.Needs.{needs}
-use Rattle.patients.proofs.lengths_fault.Statement.{statement}
-use Rattle.patients.proofs.lengths_fault.Tie as tie
+use Rattle.evening.proofs.lengths_fault.Statement.{statement}
+use Rattle.evening.proofs.lengths_fault.Tie as tie
 
 returns : tie.Need-returns
 unfolding eveningLengths

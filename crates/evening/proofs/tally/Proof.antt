@@ -6,13 +6,13 @@ use lib.ListN.{length}
 use denote.Ref.{now}
 use Rattle.journeys.specs.Bytes.{be32}
 use Rattle.journeys.specs.Lists.{vertexIn}
-use Rattle.patients.specs.Evening.{sum, patientsOf}
-use Rattle.patients.specs.Tallied.{tallied, listedPatients}
-use Rattle.patients.proofs.Sums.{sum-most, sum-next}
-use Rattle.patients.proofs.Tallying.{tally-turn}
+use Rattle.evening.specs.Patients.{sum, patientsOf}
+use Rattle.evening.specs.Tallied.{tallied, listedPatients}
+use Rattle.evening.proofs.Sums.{sum-most, sum-next}
+use Rattle.evening.proofs.Tallying.{tally-turn}
 use borrow.Author.Needs.{needs}
-use Rattle.patients.proofs.tally.Statement.{statement}
-use Rattle.patients.proofs.tally.Tie as tie
+use Rattle.evening.proofs.tally.Statement.{statement}
+use Rattle.evening.proofs.tally.Tie as tie
 
 abbrev Inv-loop : tie.InvT-loop
 Inv-loop list patients report₀ n sum₀ i₀ report total i =

@@ -8,10 +8,10 @@ use denote.Ref.{now}
 use borrow.Author.Tests.{le-leb, lt-leb}
 use Rattle.journeys.proofs.Counting.{below-suc}
 use Rattle.lists.proofs.Entries.{first-refused, none-refused}
-use Rattle.patients.specs.Evening.{patientsOk}
+use Rattle.evening.specs.Asked.{patientsOk}
 use borrow.Author.Needs.{needs}
-use Rattle.patients.proofs.patients_fault.Statement.{statement}
-use Rattle.patients.proofs.patients_fault.Tie as tie
+use Rattle.evening.proofs.patients_fault.Statement.{statement}
+use Rattle.evening.proofs.patients_fault.Tie as tie
 
 abbrev Inv-loop : tie.InvT-loop
 Inv-loop patients n v₀ v = (v ≤ n) × ((k : ℕ) → k < v → patientsOk patients k ≡ true)

@@ -1,0 +1,3 @@
+pub mod Patients
+pub mod Asked
+pub mod Tallied
