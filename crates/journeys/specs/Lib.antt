@@ -7,6 +7,7 @@ pub mod Settled
 pub mod Order
 pub mod Network
 pub mod Records
+pub mod CourierRecords
 pub mod Parts
 pub mod Refusals
 pub mod Valid
