@@ -8,6 +8,7 @@ pub mod Order
 pub mod Network
 pub mod Records
 pub mod CourierRecords
+pub mod CourierList
 pub mod Parts
 pub mod Refusals
 pub mod Valid
