@@ -30,6 +30,7 @@ pub mod PartLimits
 pub mod Moments
 pub mod Waits
 pub mod Clock
+pub mod CourierClock
 pub mod Judged
 pub mod VendorLists
 pub mod VendorCases

@@ -5,13 +5,10 @@ use Prim.Native.Nat.{ℕ, _+_, _-_, min}
 use lib.Dec.{eqb, leb}
 use Rattle.journeys.specs.Counting.{none, count}
 use Rattle.journeys.specs.Tables.{Tables, vertexCount}
-use Rattle.journeys.specs.Query.{Query, ticks, allowed, asked, askedTwin, waitTicks, walkTicks}
+use Rattle.journeys.specs.Query.{Query, allowed, asked, askedTwin, waitTicks, walkTicks}
+pub use Rattle.journeys.specs.Query.{after}
 use Rattle.journeys.specs.Network.{Network}
 use Rattle.journeys.specs.Records.{Record, walked, ridden, from, to, recordCount, recordAt}
-
--- how many ticks after T a second lies that is not before T
-abbrev pub after : Query → ℕ → ℕ
-after Q second = ticks Q (second - Q .arrival)
 
 -- A walk offers the near distance plus its ticks; a hop whose departure is not before T and the near distance offers its arrival less T.
 unfoldable pub offer : Query → Record → ℕ → ℕ

@@ -7,6 +7,7 @@ pub mod Settled
 pub mod Order
 pub mod Network
 pub mod Records
+pub mod CourierJourneys
 pub mod CourierRecords
 pub mod CourierList
 pub mod Parts
@@ -18,6 +19,7 @@ pub mod PartAnswers
 pub mod VendorLists
 pub mod OneRun
 pub mod Clock
+pub mod CourierClock
 pub mod Marked
 pub mod Limits
 pub mod PartLimits
