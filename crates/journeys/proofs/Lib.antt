@@ -13,7 +13,11 @@ pub mod Settling
 pub mod Held
 pub mod Refusals
 pub mod Valid
+pub mod Gates
+pub mod Told
 pub mod Document
+pub mod CourierDocument
+pub mod CourierOrder
 pub mod Cover
 pub mod Coverage
 pub mod Fits

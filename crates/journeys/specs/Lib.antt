@@ -9,6 +9,7 @@ pub mod Network
 pub mod Records
 pub mod CourierJourneys
 pub mod CourierRecords
+pub mod CourierOrder
 pub mod CourierList
 pub mod Parts
 pub mod Refusals
