@@ -2,14 +2,13 @@
 -- Assumes nothing.
 use mathlib.Core.Path.{_≡_, refl, sym, ap}
 use mathlib.Core.Logic.{_⊎_, inl, inr, _↔_, _≢_}
-use mathlib.Core.Bool.{Bool, true, false, cond}
-use mathlib.Core.List.{List}
-use Prim.Native.Nat.{ℕ, _+_, _-_, _*_, _≤_, _<_}
+use mathlib.Core.Bool.{Bool, cond}
+use Prim.Native.Nat.{ℕ, _+_, _-_, _≤_, _<_}
 use native.Mathlib.Nat.{mul-le-mul-right, mul-lt-mul-of-pos-right}
 use native.Mathlib.Omega.{arith}
 use Rattle.journeys.specs.Counting.{none}
 use Rattle.journeys.specs.Tables.{Tables, walk, hop, vertexCount, walkCount}
-use Rattle.journeys.specs.Query.{Query, after, asked, askedTwin, waitTicks, walkTicks, allowed}
+use Rattle.journeys.specs.Query.{Query, after, asked, askedTwin, waitTicks, walkTicks}
 use Rattle.journeys.specs.CourierJourneys.{Reached, along, along-twin, at-to, at-from, by-walk, by-hop, CourierDistance}
 use Rattle.journeys.specs.Records.{Record, walked, ridden, from, to, recordAt}
 use Rattle.journeys.specs.CourierRecords.{offer, onTicks, backTicks, seed, network}

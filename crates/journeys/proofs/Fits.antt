@@ -3,7 +3,7 @@ use mathlib.Core.Path.{_≡_, refl, subst}
 use mathlib.Core.Logic.{_⊎_, inl, inr, ⊎-elim}
 use mathlib.Core.Bool.{Bool, true, false, not, cond, _&&_, _||_}
 use mathlib.Core.List.{List, [], _∷_, _++_, flatMap}
-use Prim.Native.Nat.{ℕ, zero, suc, _+_, _-_, _*_, _≤_, _<_, min, max}
+use Prim.Native.Nat.{ℕ, zero, suc, _+_, _-_, _*_, _≤_, _<_, min}
 use native.Mathlib.Nat.{mul-le-mul}
 use native.Mathlib.Decide.{ℕ-discrete}
 use native.Mathlib.Omega.{arith}
@@ -33,9 +33,38 @@ use Rattle.journeys.proofs.Coverage.{road, firstStart, laterStart, soun
 abbrev pub largest : ℕ
 largest = 25920000
 
--- none, or no more than this
+-- none, or no more than a figure
+abbrev pub Within : ℕ → ℕ → Type 0
+Within most x = (x ≡ none) ⊎ (x ≤ most)
+
 abbrev pub Fits : ℕ → Type 0
-Fits x = (x ≡ none) ⊎ (x ≤ largest)
+Fits = Within largest
+
+pub gate-within : {most : ℕ} (b : Bool) (x : ℕ) → x ≤ most → Within most (cond b x none)
+gate-within true x q = inr q
+gate-within false x q = inl refl
+
+-- the lesser of two seeds
+pub seeds-within : {most x y : ℕ} (a b : Bool) → x ≤ most → y ≤ most → Within most (min (cond a x none) (cond b y none))
+seeds-within true true p q = inr (omega arith)
+seeds-within true false p q = inr (omega arith)
+seeds-within false true p q = inr (omega arith)
+seeds-within false false p q = inl (omega arith)
+
+-- What is known comes from a seed or from an offer at a distance within D: where those fit, it does.
+pub all-fit : (G : Network) (most : ℕ) → ((v : ℕ) → Within most (G .seed v)) → ((r d : ℕ) → r < G .records → d ≤ G .allowed → Within most (G .offer r d))
+    → (far : ℕ → ℕ) → ((u : ℕ) → far u < none → far u ≤ G .allowed) → (v : ℕ) → known G far v < none → known G far v ≤ most
+all-fit G most seeds offers far low v h = go (known-by G far v (known G far v) h (omega arith))
+  where
+    fits : (x : ℕ) → Within most x → x ≤ known G far v → known G far v ≤ x → known G far v ≤ most
+    fits x (inl e) a b = absurd (omega arith)
+    fits x (inr e) a b = omega arith
+
+    go : By G far v (known G far v) → known G far v ≤ most
+    go (inl s) = fits (G .seed v) (seeds v) s (known-seed G far v)
+    go (inr x) =
+        let i = x .1 in
+        fits (G .offer (x .0) (far (G .to (x .0)))) (offers (x .0) (far (G .to (x .0))) (i .0) (low (G .to (x .0)) (i .2))) (x .2) (known-record G far v (x .0) i)
 
 module _ (N : Tables) (Q : Query) (ok : Valid N Q) where
   before-fits : (second : ℕ) → midnight - 86400 ≤ second → before Q second ≤ largest
@@ -48,14 +77,10 @@ module _ (N : Tables) (Q : Query) (ok : Valid N Q) where
   unfolding offer
   offer-fits r d l h = go (numbered N r l)
     where
-      ridden-fits : (b : Bool) (x : ℕ) → x ≤ largest → Fits (cond b x none)
-      ridden-fits true x q = inr q
-      ridden-fits false x q = inl refl
-
       go : {x : Record} → Numbered N r x → Fits (offer Q x d)
       go (of-walk i) = inr (omega (arith, good-walk N (ok .tables) r i .len-high, wait-most (ok .query) (walk N r .wait) (good-walk N (ok .tables) r i .wait-high), allowed-high (ok .query)))
       go (of-hop j i e) =
-          ridden-fits (leb (hop N j .arrival) (Q .arrival) && leb d (before Q (hop N j .arrival))) (before Q (hop N j .departure)) (before-fits (hop N j .departure) (good-hop N (ok .tables) j i .departure-low))
+          gate-within (leb (hop N j .arrival) (Q .arrival) && leb d (before Q (hop N j .arrival))) (before Q (hop N j .departure)) (before-fits (hop N j .departure) (good-hop N (ok .tables) j i .departure-low))
 
   -- The ticks of both seeds.
   long : asked N Q .len ≤ 100000
@@ -71,39 +96,26 @@ module _ (N : Tables) (Q : Query) (ok : Valid N Q) where
   pub from-fits : fromTicks N Q ≤ 112000
   from-fits = omega (arith, long, ok .query .offset-low, past-fits (asked N Q) (Q .offset) (good-walk N (ok .tables) (Q .walk) (ok .query .walk-low) .wait-high))
 
-  pub to-fits : toTicks N Q ≤ 112000
-  to-fits = omega (arith, long, past-fits (askedTwin N Q) (asked N Q .len - Q .offset) (go (ℕ-discrete (asked N Q .twin) none)))
+  pub twin-wait : askedTwin N Q .wait ≤ 120
+  twin-wait = go (ℕ-discrete (asked N Q .twin) none)
     where
       go : Dec (asked N Q .twin ≡ none) → askedTwin N Q .wait ≤ 120
       go (yes e) = rw (no-twin N Q ok e) (omega arith)
       go (no n) = good-walk N (ok .tables) (asked N Q .twin) (paired N (ok .tables) (Q .walk) (ok .query .walk-low) n .0) .wait-high
 
+  pub to-fits : toTicks N Q ≤ 112000
+  to-fits = omega (arith, long, past-fits (askedTwin N Q) (asked N Q .len - Q .offset) twin-wait)
+
   -- Every seed.
   pub seed-fits : (v : ℕ) → Fits (seed N Q v)
   unfolding seed
   seed-fits v =
-      go (eqb (asked N Q .from) v) (eqb (asked N Q .to) v && (not (eqb (asked N Q .twin) none) || eqb (Q .offset) (asked N Q .len)))
-    where
-      go : (a b : Bool) → Fits (min (cond a (fromTicks N Q) none) (cond b (toTicks N Q) none))
-      go true true = inr (omega (arith, from-fits))
-      go true false = inr (omega (arith, from-fits))
-      go false true = inr (omega (arith, to-fits))
-      go false false = inl (omega arith)
+      seeds-within (eqb (asked N Q .from) v) (eqb (asked N Q .to) v && (not (eqb (asked N Q .twin) none) || eqb (Q .offset) (asked N Q .len)))
+      (omega (arith, from-fits)) (omega (arith, to-fits))
 
   -- Every known distance, where all that is settled is within D.
   pub known-fits : (far : ℕ → ℕ) → ((u : ℕ) → far u < none → far u ≤ allowed Q) → (v : ℕ) → known (network N Q) far v < none → known (network N Q) far v ≤ largest
-  known-fits far low v h = go (known-by (network N Q) far v (known (network N Q) far v) h (omega arith))
-    where
-      fits : (x : ℕ) → Fits x → x ≤ known (network N Q) far v → known (network N Q) far v ≤ x → known (network N Q) far v ≤ largest
-      fits x (inl e) a b = absurd (omega arith)
-      fits x (inr e) a b = omega arith
-
-      go : By (network N Q) far v (known (network N Q) far v) → known (network N Q) far v ≤ largest
-      go (inl s) = fits (seed N Q v) (seed-fits v) s (known-seed (network N Q) far v)
-      go (inr x) =
-          let i = x .1 in
-          fits (offer Q (recordAt N (x .0)) (far (network N Q .to (x .0)))) (offer-fits (x .0) (far (network N Q .to (x .0))) (i .0) (low (network N Q .to (x .0)) (i .2))) (x .2)
-          (known-record (network N Q) far v (x .0) i)
+  known-fits = all-fit (network N Q) largest seed-fits (λ r d l h. offer-fits r d l h)
 
   -- Every part: a record of the table, and offsets on it.
   pub part-fits : (S : List Settled) (p : Part) → In p (partList N Q S)

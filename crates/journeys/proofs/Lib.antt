@@ -21,6 +21,7 @@ pub mod CourierOrder
 pub mod Cover
 pub mod Coverage
 pub mod Fits
+pub mod CourierFits
 pub mod OrderLaws
 pub mod ByDistance
 pub mod Demands

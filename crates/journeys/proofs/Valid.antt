@@ -9,9 +9,9 @@ use native.Mathlib.Omega.{arith}
 use lib.Dec.{eqb, leb, ltb}
 use lib.ListN.{length}
 use borrow.Author.Tests.{leb-true, ltb-true, eqb-true, eqb-false, not-true}
-use Rattle.journeys.specs.Counting.{none}
+use Rattle.journeys.specs.Counting.{none, count}
 use Rattle.journeys.specs.Bytes.{midnight}
-use Rattle.journeys.specs.Tables.{Tables, tablesOf, vertexCount, walkCount, hopCount, walk, hop}
+use Rattle.journeys.specs.Tables.{Tables, tablesOf, vertexCount, walkCount, hopCount, vertex, walk, hop}
 use Rattle.journeys.specs.Query.{Query, ticks, asked, allowed}
 use Rattle.journeys.specs.Refusals.{unless, firstBad, wholeOf, hopSizeOk, tableOf, tableLengths, bufferLengths, endsOk, lengthOk, waitOk, pairOk, walkOk, hopOk, walkAscends, hopAscends, vertexOk, contents, queryRefusal, check}
 use Rattle.journeys.specs.Valid.{ValidTables, ValidQuery, Valid}
@@ -174,6 +174,16 @@ module _ (N : Tables) (ok : ValidTables N) where
 
   pub good-hop : (j : ℕ) → j < hopCount N → GoodHop N j
   good-hop j l = hop-says N j (ok .hops j l)
+
+-- The firsts of a good vertex are the numbers of records with a smaller "to".
+pub good-firsts : (N : Tables) → ValidTables N → (v : ℕ) → v < vertexCount N
+    → (vertex N v .firstWalk ≡ count (λ i. ltb (walk N i .to) v) (walkCount N)) × (vertex N v .firstHop ≡ count (λ j. ltb (hop N j .to) v) (hopCount N))
+unfolding vertexOk
+good-firsts N ok v l =
+    let a = and-both (eqb (vertex N v .firstWalk) (count (λ i. ltb (walk N i .to) v) (walkCount N)) && eqb (vertex N v .firstHop) (count (λ j. ltb (hop N j .to) v) (hopCount N)) && _) _ (ok .vertices v l) in
+    let b = and-both (eqb (vertex N v .firstWalk) (count (λ i. ltb (walk N i .to) v) (walkCount N)) && eqb (vertex N v .firstHop) (count (λ j. ltb (hop N j .to) v) (hopCount N))) _ (a .0) in
+    let c = and-both (eqb (vertex N v .firstWalk) (count (λ i. ltb (walk N i .to) v) (walkCount N))) _ (b .0) in
+    (eqb-true _ _ (c .0), eqb-true _ _ (c .1))
 
 -- the twin of a record: the same road the other way
 pub record Paired (N : Tables) (i j : ℕ) : Type 0 where
