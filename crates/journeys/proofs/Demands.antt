@@ -1,6 +1,6 @@
 -- What the definitions promise a planner, in the words of RULES 18. Each theorem says in one sentence what it means. Assumes nothing.
 use mathlib.Core.Path.{_≡_}
-use mathlib.Core.Logic.{_⊎_, inl, inr, ⊎-elim, _↔_, _≢_}
+use mathlib.Core.Logic.{_⊎_, _↔_, _≢_}
 use mathlib.Core.Bool.{true}
 use mathlib.Core.List.{List, []}
 use Prim.Native.Nat.{ℕ, _-_, _≤_, _<_}
@@ -17,7 +17,7 @@ use Rattle.journeys.specs.Parts.{partList, Covered}
 use Rattle.journeys.proofs.Ways.{Arrives}
 use Rattle.journeys.proofs.Greedy.{arrives-dec, dist-exists}
 use Rattle.journeys.proofs.Told as theory
-use Rattle.journeys.proofs.Valid.{paired}
+use Rattle.journeys.proofs.Valid.{on-either}
 use Rattle.journeys.specs.Valid.{Valid}
 use Rattle.journeys.proofs.Document.{ways, laws, told, journey-arrives, arrives-journey, dist-distance, allowed-low}
 use Rattle.journeys.proofs.OrderLaws.{order-each, order-all}
@@ -69,21 +69,7 @@ module _ (N : Tables) (Q : Query) (ok : Valid N Q) where
     pub point-exactly : (i x : ℕ) → i < walkCount N → walk N i .twin ≢ none → 0 < x → x < walk N i .len
         → (Covered (partList N Q l) i x ⊎ Covered (partList N Q l) (walk N i .twin) (walk N i .len - x))
         ↔ (((d : ℕ) × (d ≤ allowed Q) × Inside N Q i x d) ⊎ ((d : ℕ) × (d ≤ allowed Q) × Inside N Q (walk N i .twin) (walk N i .len - x) d))
-    point-exactly i x il n x0 xl = (go .0, go .1)
-      where
-        j : ℕ
-        j = walk N i .twin
-
-        there : Covered (partList N Q l) j (walk N i .len - x) ↔ ((d : ℕ) × (d ≤ allowed Q) × Inside N Q j (walk N i .len - x) d)
-        there =
-            let p = paired N (ok .tables) i il n in
-            place-exactly j (walk N i .len - x) (p .0) (omega arith) (omega (arith, p .1 .len))
-
-        go : (Covered (partList N Q l) i x ⊎ Covered (partList N Q l) j (walk N i .len - x))
-            ↔ (((d : ℕ) × (d ≤ allowed Q) × Inside N Q i x d) ⊎ ((d : ℕ) × (d ≤ allowed Q) × Inside N Q j (walk N i .len - x) d))
-        go =
-            let here = place-exactly i x il x0 xl in
-            (λ c. ⊎-elim (λ a. inl (here .0 a)) (λ a. inr (there .0 a)) c, λ c. ⊎-elim (λ a. inl (here .1 a)) (λ a. inr (there .1 a)) c)
+    point-exactly = on-either N (ok .tables) (Covered (partList N Q l)) (λ i x. (d : ℕ) × (d ≤ allowed Q) × Inside N Q i x d) place-exactly
 
     -- ---- demand 3
     -- After k steps the working table lists a vertex exactly if it is held.

@@ -1,6 +1,6 @@
 -- All figures fit their 4 bytes (RULES 7.4): within the limits of RULES 4 and 5.1 every seed, offer, known distance, offset and count is below none. Assumes nothing.
 use mathlib.Core.Path.{_≡_, refl, subst}
-use mathlib.Core.Logic.{_⊎_, inl, inr, ⊎-elim}
+use mathlib.Core.Logic.{_⊎_, inl, inr, ⊎-elim, _≢_}
 use mathlib.Core.Bool.{Bool, true, false, not, cond, _&&_, _||_}
 use mathlib.Core.List.{List, [], _∷_, _++_, flatMap}
 use Prim.Native.Nat.{ℕ, zero, suc, _+_, _-_, _*_, _≤_, _<_, min}
@@ -8,7 +8,7 @@ use native.Mathlib.Nat.{mul-le-mul}
 use native.Mathlib.Decide.{ℕ-discrete}
 use native.Mathlib.Omega.{arith}
 use lib.Dec.{eqb, leb, ltb}
-use borrow.Author.Tests.{eqb-false, lt-ltb, le-ltb}
+use borrow.Author.Tests.{lt-ltb, le-ltb}
 use lib.ListN.{length, take, drop, length-append, take-append-drop}
 use lib.Seq.{take-nil}
 use Rattle.journeys.specs.Counting.{none, count, joined, In, one}
@@ -20,14 +20,15 @@ use Rattle.journeys.specs.Network.{Network, distanceIn, within, known, h
 use Rattle.journeys.specs.Records.{Record, offer, recordCount, recordAt, seed, network}
 use Rattle.journeys.specs.Parts.{Part, part, near, firstPart, firstParts, partAt, partsAt, partList}
 use Rattle.journeys.proofs.Tests.{Test, same, other, test, le-or-lt}
-use Rattle.journeys.proofs.Counting.{is-one, is-zero, count-most, count-join, in-append, in-left, in-right, flat-in, joined-in}
+use Rattle.journeys.proofs.Counting.{is-one, is-zero, count-most, count-join, in-left, in-right}
 use Rattle.journeys.proofs.Known.{By, known-by, known-seed, known-record}
 use Rattle.journeys.proofs.Firsts.{distance-in, follows-apart}
 use Rattle.journeys.proofs.Valid.{good-walk, good-hop, paired, allowed-high, wait-most}
 use Rattle.journeys.specs.Valid.{Valid}
 use Rattle.journeys.proofs.Document.{Numbered, of-walk, of-hop, numbered, ways, no-twin}
 use Rattle.journeys.proofs.Cover.{Piece, first, later}
-use Rattle.journeys.proofs.Coverage.{road, firstStart, laterStart, sound, listed-piece, first-walk, firsts-cases, at-walk}
+use Rattle.journeys.proofs.Listing.{twoOf, partsBy}
+use Rattle.journeys.proofs.Coverage.{road, firstStart, laterStart, sound, listed-piece}
 
 -- the largest figure: a start at -86,400 s for an arrival at 172,800 s, at 100 dm/s
 abbrev pub largest : ℕ
@@ -120,29 +121,16 @@ module _ (N : Tables) (Q : Query) (ok : Valid N Q) where
   -- Every part: a record of the table, and offsets on it.
   pub part-fits : (S : List Settled) (p : Part) → In p (partList N Q S)
       → (p .walk < walkCount N) × (p .start ≤ p .end) × (p .end ≤ walk N (p .walk) .len)
-  unfolding partList partsAt
   part-fits S p j =
-      let l : p .walk < walkCount N = go (in-append (firstParts N Q) _ p j) in
-      let q = piece-fits (p .walk) l (listed-piece N Q S p j) in
+      let x = listed-piece N Q S p j in
+      let l : p .walk < walkCount N = on-table (x .0) in
+      let q = piece-fits (p .walk) l (x .1) in
       (l, q .0, q .1)
     where
-      of-first : (i : ℕ) → i < walkCount N → In p (firstPart N Q i) → p .walk < walkCount N
-      of-first i l k = rw (first-walk N Q i p k) l
-
-      by-twin : (t : Bool) → eqb (asked N Q .twin) none ≡ t → In p (cond t [] (firstPart N Q (asked N Q .twin))) → p .walk < walkCount N
-      by-twin true e k = absurd k
-      by-twin false e k = of-first (asked N Q .twin) (paired N (ok .tables) (Q .walk) (ok .query .walk-low) (eqb-false (asked N Q .twin) none e) .0) k
-
-      firsts : In p (firstPart N Q (Q .walk)) ⊎ In p (cond (eqb (asked N Q .twin) none) [] (firstPart N Q (asked N Q .twin))) → p .walk < walkCount N
-      firsts (inl k) = of-first (Q .walk) (ok .query .walk-low) k
-      firsts (inr k) = by-twin (eqb (asked N Q .twin) none) refl k
-
-      go : In p (firstParts N Q) ⊎ In p (flatMap (partsAt N Q) S) → p .walk < walkCount N
-      go (inl k) = firsts (firsts-cases N Q p k)
-      go (inr k) =
-          let x = flat-in (partsAt N Q) S p k in
-          let y = joined-in (λ i. cond (eqb (walk N i .to) (x .0 .vertex)) (partAt N Q (x .0 .distance) i) []) (walkCount N) p (x .2) in
-          rw (at-walk N Q (x .0) (y .0) p (y .2)) (y .1)
+      on-table : (p .walk ≡ Q .walk) ⊎ ((p .walk ≡ asked N Q .twin) × (asked N Q .twin ≢ none)) ⊎ (p .walk < walkCount N) → p .walk < walkCount N
+      on-table (inl e) = rw e (ok .query .walk-low)
+      on-table (inr (inl e)) = rw (e .0) (paired N (ok .tables) (Q .walk) (ok .query .walk-low) (e .1) .0)
+      on-table (inr (inr l)) = l
 
       piece-fits : (i : ℕ) → i < walkCount N → {a z : ℕ} → Piece (network N Q) (ways N Q) (allowed Q) S (road N Q i) a z → (a ≤ z) × (z ≤ walk N i .len)
       piece-fits i l (first q) = (omega arith, sound N Q ok i l .on)
@@ -153,7 +141,7 @@ at-most-one : {A : Type 0} (t : Bool) (x : A) → (length (cond t (x ∷ []) [])
 at-most-one true x = (omega arith, omega arith)
 at-most-one false x = (omega arith, omega arith)
 
-part-most : (i a b : ℕ) → length (part i a b) ≤ 1
+pub part-most : (i a b : ℕ) → length (part i a b) ≤ 1
 unfolding part
 part-most i a b = let p : Part = record { walk = i; start = a; end = b } in at-most-one (eqb a b) p .1
 
@@ -182,48 +170,49 @@ split-one S x out some v = go (test v (x .vertex))
     go (same e) = omega (arith, is-one (lt-ltb (x .distance) none some), is-zero (le-ltb (distanceIn S v) none (rw e out)))
     go (other q) = omega arith
 
-module _ (N : Tables) (Q : Query) where
-  at-most : (x : Settled) → length (partsAt N Q x) ≤ count (λ i. eqb (walk N i .to) (x .vertex)) (walkCount N)
-  unfolding partsAt partAt
-  at-most x =
-      joined-most (λ i. cond (eqb (walk N i .to) (x .vertex)) (partAt N Q (x .distance) i) []) (λ i. eqb (walk N i .to) (x .vertex)) (walkCount N)
-      (λ i l. go (eqb (walk N i .to) (x .vertex)) i)
-    where
-      go : (t : Bool) (i : ℕ) → length (cond t (part i (laterStart N Q (x .distance) i) (walk N i .len)) []) ≤ one t
-      go true i = part-most i (laterStart N Q (x .distance) i) (walk N i .len)
-      go false i = omega arith
+-- At each settled vertex no more than one part of each walk with that end, so no more in all than there are walks.
+parts-by-most : (n : ℕ) (end : ℕ → ℕ) (at : ℕ → ℕ → List Part) → ((d i : ℕ) → length (at d i) ≤ 1) → (S : List Settled) → Distinct S
+    → length (flatMap (partsBy n end at) S) ≤ count (λ i. within (distanceIn S) (end i)) n
+unfolding flatMap
+parts-by-most n end at one-each [] h = omega arith
+parts-by-most n end at one-each (x ∷ S) h =
+    omega (
+      arith,
+      length-append (partsBy n end at x) (flatMap (partsBy n end at) S),
+      joined-most (λ i. cond (eqb (end i) (x .vertex)) (at (x .distance) i) []) (λ i. eqb (end i) (x .vertex)) n (λ i l. go (eqb (end i) (x .vertex)) i),
+      parts-by-most n end at one-each S (h .2),
+      count-join (λ i. within (distanceIn (x ∷ S)) (end i)) (λ i. eqb (end i) (x .vertex)) (λ i. within (distanceIn S) (end i)) n
+          (λ i l. split-one S x (h .0) (h .1) (end i)),
+    )
+  where
+    go : (t : Bool) (i : ℕ) → length (cond t (at (x .distance) i) []) ≤ one t
+    go true i = one-each (x .distance) i
+    go false i = omega arith
 
-  -- each walk arrives at one vertex
-  parts-of-most : (S : List Settled) → Distinct S → length (flatMap (partsAt N Q) S) ≤ count (λ i. within (distanceIn S) (walk N i .to)) (walkCount N)
-  unfolding flatMap
-  parts-of-most [] h = omega arith
-  parts-of-most (x ∷ S) h =
-      omega (
-        arith,
-        length-append (partsAt N Q x) (flatMap (partsAt N Q) S),
-        at-most x,
-        parts-of-most S (h .2),
-        count-join (λ i. within (distanceIn (x ∷ S)) (walk N i .to)) (λ i. eqb (walk N i .to) (x .vertex)) (λ i. within (distanceIn S) (walk N i .to)) (walkCount N)
-            (λ i l. split-one S x (h .0) (h .1) (walk N i .to)),
-      )
+-- And with those of step 0.
+pub list-most : (n : ℕ) (end : ℕ → ℕ) (at : ℕ → ℕ → List Part) (start : ℕ → List Part) (e t : ℕ) → ((d i : ℕ) → length (at d i) ≤ 1) → ((i : ℕ) → length (start i) ≤ 1)
+    → (S : List Settled) → Distinct S → length (twoOf start e t ++ flatMap (partsBy n end at) S) ≤ n + 2
+list-most n end at start e t one-each one-start S h =
+    omega (
+      arith,
+      length-append (twoOf start e t) (flatMap (partsBy n end at) S),
+      length-append (start e) (cond (eqb t none) [] (start t)),
+      one-start e,
+      twin (eqb t none),
+      parts-by-most n end at one-each S h,
+      count-most (λ i. within (distanceIn S) (end i)) n,
+    )
+  where
+    twin : (b : Bool) → length (cond b [] (start t)) ≤ 1
+    twin true = omega arith
+    twin false = one-start t
 
-  -- No more parts are written than there are walks, and two for the query's road.
-  pub parts-most : (S : List Settled) → Distinct S → length (partList N Q S) ≤ walkCount N + 2
-  unfolding partList firstParts firstPart
-  parts-most S h =
-      omega (
-        arith,
-        length-append (firstParts N Q) (flatMap (partsAt N Q) S),
-        length-append (firstPart N Q (Q .walk)) (cond (eqb (asked N Q .twin) none) [] (firstPart N Q (asked N Q .twin))),
-        part-most (Q .walk) (firstStart N Q (Q .walk)) (near N Q (Q .walk)),
-        twin (eqb (asked N Q .twin) none),
-        parts-of-most S h,
-        count-most (λ i. within (distanceIn S) (walk N i .to)) (walkCount N),
-      )
-    where
-      twin : (t : Bool) → length (cond t [] (part (asked N Q .twin) (firstStart N Q (asked N Q .twin)) (near N Q (asked N Q .twin)))) ≤ 1
-      twin true = omega arith
-      twin false = part-most (asked N Q .twin) (firstStart N Q (asked N Q .twin)) (near N Q (asked N Q .twin))
+-- No more parts are written than there are walks, and two for the query's road.
+pub parts-most : (N : Tables) (Q : Query) (S : List Settled) → Distinct S → length (partList N Q S) ≤ walkCount N + 2
+unfolding partList partsAt partAt firstParts firstPart
+parts-most N Q S h =
+    list-most (walkCount N) (λ i. walk N i .to) (partAt N Q) (firstPart N Q) (Q .walk) (asked N Q .twin)
+    (λ d i. part-most i (laterStart N Q d i) (walk N i .len)) (λ i. part-most i (firstStart N Q i) (near N Q i)) S h
 
 -- The order, and each beginning of it, gives each vertex one distance.
 pub distinct : (G : Network) (distance : ℕ → ℕ → Type 0) (D : ℕ) → D < none → (S l : List Settled) → Follows G distance D S l → (k : ℕ) → Distinct (take k l)

@@ -17,11 +17,14 @@ pub mod Gates
 pub mod Told
 pub mod Document
 pub mod CourierDocument
-pub mod CourierOrder
 pub mod Cover
+pub mod Listing
 pub mod Coverage
 pub mod Fits
 pub mod CourierFits
+pub mod CourierCoverage
+pub mod CourierOrder
+pub mod CourierDemands
 pub mod OrderLaws
 pub mod ByDistance
 pub mod Demands

@@ -1,6 +1,6 @@
 -- What is not refused is valid, and what a valid record says. Assumes nothing.
 use mathlib.Core.Path.{_≡_, sym, subst}
-use mathlib.Core.Logic.{⊎-elim, _≢_}
+use mathlib.Core.Logic.{_⊎_, inl, inr, ⊎-elim, _↔_, _≢_}
 use mathlib.Core.Bool.{true, _&&_}
 use mathlib.Core.List.{List}
 use Prim.Native.Nat.{ℕ, _+_, _-_, _*_, _/_, _≤_, _<_}
@@ -203,6 +203,16 @@ twin-says N i ok n =
 
 pub paired : (N : Tables) → ValidTables N → (i : ℕ) → i < walkCount N → walk N i .twin ≢ none → (walk N i .twin < walkCount N) × Paired N i (walk N i .twin)
 paired N ok i l n = twin-says N i (ok .walks i l) n
+
+-- What two facts have in common on every place inside a record they have in common on a road with a twin, told by either record.
+pub on-either : (N : Tables) → ValidTables N → (A B : ℕ → ℕ → Type 0) → ((i x : ℕ) → i < walkCount N → 0 < x → x < walk N i .len → A i x ↔ B i x)
+    → (i x : ℕ) → i < walkCount N → walk N i .twin ≢ none → 0 < x → x < walk N i .len
+    → (A i x ⊎ A (walk N i .twin) (walk N i .len - x)) ↔ (B i x ⊎ B (walk N i .twin) (walk N i .len - x))
+on-either N ok A B same i x il n x0 xl =
+    let p = paired N ok i il n in
+    let here = same i x il x0 xl in
+    let there = same (walk N i .twin) (walk N i .len - x) (p .0) (omega arith) (omega (arith, p .1 .len)) in
+    (λ c. ⊎-elim (λ a. inl (here .0 a)) (λ a. inr (there .0 a)) c, λ c. ⊎-elim (λ a. inl (here .1 a)) (λ a. inr (there .1 a)) c)
 
 -- D is some, and far below none
 pub allowed-some : {N : Tables} {Q : Query} → ValidQuery N Q → 1 ≤ allowed Q

@@ -12,6 +12,7 @@ pub mod CourierRecords
 pub mod CourierOrder
 pub mod CourierList
 pub mod Parts
+pub mod CourierParts
 pub mod Refusals
 pub mod Valid
 pub mod Lists
