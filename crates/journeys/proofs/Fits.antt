@@ -39,7 +39,7 @@ abbrev pub Within : ℕ → ℕ → Type 0
 Within most x = (x ≡ none) ⊎ (x ≤ most)
 
 abbrev pub Fits : ℕ → Type 0
-Fits = Within largest
+Fits x = Within largest x
 
 pub gate-within : {most : ℕ} (b : Bool) (x : ℕ) → x ≤ most → Within most (cond b x none)
 gate-within true x q = inr q

@@ -31,6 +31,7 @@ pub mod Demands
 pub mod Forgetting
 pub mod Determined
 pub mod PartAnswers
+pub mod CourierAnswers
 pub mod Cases
 pub mod Marked
 pub mod Limits

@@ -17,7 +17,12 @@ pub mod Refusals
 pub mod Valid
 pub mod Lists
 pub mod Answers
+pub mod RunAnswers
 pub mod PartAnswers
+pub mod ListAnswers
+pub mod CourierMaking
+pub mod CourierAnswers
+pub mod CourierPartAnswers
 pub mod VendorLists
 pub mod OneRun
 pub mod Clock
