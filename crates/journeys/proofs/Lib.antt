@@ -43,3 +43,4 @@ pub mod CourierClock
 pub mod Judged
 pub mod VendorLists
 pub mod VendorCases
+pub mod CourierCases

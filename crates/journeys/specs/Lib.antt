@@ -33,3 +33,4 @@ pub mod PartLimits
 pub mod Moments
 pub mod Waits
 pub mod VendorCases
+pub mod CourierCases
