@@ -44,3 +44,4 @@ pub mod Judged
 pub mod VendorLists
 pub mod VendorCases
 pub mod CourierCases
+pub mod CourierMirror

@@ -34,3 +34,4 @@ pub mod Moments
 pub mod Waits
 pub mod VendorCases
 pub mod CourierCases
+pub mod CourierMirror
