@@ -20,20 +20,20 @@ use Rattle.journeys.proofs.Valid.{good-hop}
 use Rattle.journeys.specs.Valid.{Valid}
 
 -- ---- integers as differences of two numbers
-is-true : {b : Bool} → T b → b ≡ true
+pub is-true : {b : Bool} → T b → b ≡ true
 is-true {b} t = go b t
   where
     go : (b : Bool) → T b → b ≡ true
     go true t = refl
     go false t = absurd t
 
-sub-le : (a b : ℕ) → b ≤ a → subℕ a b ≡ pos (a - b)
+pub sub-le : (a b : ℕ) → b ≤ a → subℕ a b ≡ pos (a - b)
 sub-le a b h = ap (λ (t : Bool). cond t (negsuc (b - suc a)) (pos (a - b))) (le-ltb a b h)
 
-sub-lt : (a b : ℕ) → a < b → subℕ a b ≡ negsuc (b - suc a)
+pub sub-lt : (a b : ℕ) → a < b → subℕ a b ≡ negsuc (b - suc a)
 sub-lt a b h = ap (λ (t : Bool). cond t (negsuc (b - suc a)) (pos (a - b))) (lt-ltb a b h)
 
-sub-same : (a b c d : ℕ) → a + d ≡ c + b → subℕ a b ≡ subℕ c d
+pub sub-same : (a b c d : ℕ) → a + d ≡ c + b → subℕ a b ≡ subℕ c d
 sub-same a b c d e =
     ⊎-elim (λ (h : b ≤ a). sub-le a b h ∙ ap pos (omega arith) ∙ sym (sub-le c d (omega arith)))
     (λ (h : a < b). sub-lt a b h ∙ ap negsuc (omega arith) ∙ sym (sub-lt c d (omega arith)))
@@ -53,7 +53,7 @@ sub-more a b l =
     (λ (h : a < b). ap (λ (z : ℤ). z -ℤ pos l) (sub-lt a b h) ∙ sub-neg (b - suc a) l ∙ sub-same 0 (suc (b - suc a) + l) a (b + l) (omega arith))
     (le-or-lt b a)
 
-sub-inj : (a b c d : ℕ) → subℕ a b ≡ subℕ c d → a + d ≡ c + b
+pub sub-inj : (a b c d : ℕ) → subℕ a b ≡ subℕ c d → a + d ≡ c + b
 sub-inj a b c d e =
     ⊎-elim
     (λ (h : b ≤ a).
@@ -66,14 +66,14 @@ sub-inj a b c d e =
     (le-or-lt d c))
     (le-or-lt b a)
 
-times : (a b k s : ℕ) → a ≡ k + b → k * s + b * s ≡ a * s
+pub times : (a b k s : ℕ) → a ≡ k + b → k * s + b * s ≡ a * s
 times a b k s e = omega (arith, ap (λ (x : ℕ). x * s) e)
 
 neg-sub : (m : ℕ) → negℤ (pos m) ≡ subℕ 0 m
 neg-sub zero = sym (sub-le 0 0 (omega arith))
 neg-sub (suc n) = sym (sub-lt 0 (suc n) (omega arith) ∙ ap negsuc (omega arith))
 
-sub-times : (a b s : ℕ) → subℕ a b *ℤ pos s ≡ subℕ (a * s) (b * s)
+pub sub-times : (a b s : ℕ) → subℕ a b *ℤ pos s ≡ subℕ (a * s) (b * s)
 sub-times a b s =
     ⊎-elim
     (λ (h : b ≤ a).
@@ -86,7 +86,7 @@ sub-times a b s =
     ∙ sub-same 0 (suc (b - suc a) * s) (a * s) (b * s) (omega (arith, times b a (suc (b - suc a)) s (omega arith))))
     (le-or-lt b a)
 
-sub-order : (a b c d : ℕ) → leZ (subℕ a b) (subℕ c d) ≡ leb (a + d) (c + b)
+pub sub-order : (a b c d : ℕ) → leZ (subℕ a b) (subℕ c d) ≡ leb (a + d) (c + b)
 sub-order a b c d =
     ⊎-elim
     (λ (h : b ≤ a).
@@ -98,6 +98,10 @@ sub-order a b c d =
     (λ (k : c < d). ap₂ leZ (sub-lt a b h) (sub-lt c d k) ∙ same-leb (d - suc c) (b - suc a) (a + d) (c + b) (omega arith) (omega arith))
     (le-or-lt d c))
     (le-or-lt b a)
+
+pub as-sub : (z : ℤ) → (a : ℕ) × (b : ℕ) × (z ≡ subℕ a b)
+as-sub (pos n) = (n, 0, sym (sub-le n 0 (omega arith) ∙ ap pos (omega arith)))
+as-sub (negsuc n) = (0, suc n, sym (sub-lt 0 (suc n) (omega arith) ∙ ap negsuc (omega arith)))
 
 -- ---- the two tellings
 module _ (N : Tables) (Q : Query) (ok : Valid N Q) where
@@ -146,10 +150,6 @@ module _ (N : Tables) (Q : Query) (ok : Valid N Q) where
   earlier : (t t′ : ℤ) (d : ℕ) → t′ ≤ℤ t → t ≡ startTick d → (d′ : ℕ) × (t′ ≡ startTick d′) × (d ≤ d′)
   earlier t t′ d h e = go t′ (as-sub t′) (is-true (h .le))
     where
-      as-sub : (z : ℤ) → (a : ℕ) × (b : ℕ) × (z ≡ subℕ a b)
-      as-sub (pos n) = (n, 0, sym (sub-le n 0 (omega arith) ∙ ap pos (omega arith)))
-      as-sub (negsuc n) = (0, suc n, sym (sub-lt 0 (suc n) (omega arith) ∙ ap negsuc (omega arith)))
-
       go : (z : ℤ) → (a : ℕ) × (b : ℕ) × (z ≡ subℕ a b) → leZ z t ≡ true → (d′ : ℕ) × (z ≡ startTick d′) × (d ≤ d′)
       go z x o =
           let a = x .0 in

@@ -123,6 +123,11 @@ count-all p (suc n) h i l =
     below-suc {P = λ i. p i ≡ true} n (count-all p n (omega (arith, one-most (p n))))
     (⊎-elim (λ (e : p n ≡ true). e) (λ (e : p n ≡ false). absurd (let z : ⊥ = omega (arith, count-most p n, is-zero e) in z)) (split (p n))) i l
 
+pub all-count : (p : ℕ → Bool) (n : ℕ) → ((i : ℕ) → i < n → p i ≡ true) → count p n ≡ n
+unfolding count
+all-count p zero h = refl
+all-count p (suc n) h = omega (arith, all-count p n (λ i l. h i (omega arith)), is-one (h n (omega arith)))
+
 -- what does not pass may be left out
 pub count-skip : (p : ℕ → Bool) (i j : ℕ) → i ≤ j → ((e : ℕ) → i ≤ e → e < j → p e ≡ false) → count p j ≡ count p i
 unfolding count

@@ -3,7 +3,7 @@
 use mathlib.Core.Path.{_≡_, refl, sym, ap, ap₂, subst, _∙_}
 use mathlib.Core.Logic.{_⊎_, inl, inr, ⊎-elim, _≢_}
 use mathlib.Core.Bool.{Bool, true, false, cond}
-use mathlib.Core.List.{List, [], _∷_, _++_, flatMap}
+use mathlib.Core.List.{List}
 use Prim.Native.Nat.{ℕ, _+_, _-_, _≤_, _<_, max}
 use native.Mathlib.Omega.{arith}
 use lib.Dec.{eqb}
@@ -14,9 +14,9 @@ use Rattle.journeys.specs.Query.{Query, asked, allowed, waitTicks, pastT
 use Rattle.journeys.specs.Journeys.{Inside, onward, straight, straight-twin}
 use Rattle.journeys.specs.Order.{Settled, settled, IsOrder}
 use Rattle.journeys.specs.Records.{network}
-use Rattle.journeys.specs.Parts.{Part, part, near, firstPart, firstParts, partAt, partsAt, partList, Covered}
+use Rattle.journeys.specs.Parts.{Part, near, firstPart, firstParts, partAt, partsAt, partList, Covered}
 use Rattle.journeys.proofs.Tests.{cond-true, cond-false, Test, same, other, test, le-or-lt}
-use Rattle.journeys.proofs.Counting.{in-left, in-right, in-append, in-flat, flat-in, in-joined, joined-in}
+use Rattle.journeys.proofs.Listing.{thePart, part-in, in-part, two-cases, two-in, on-query, list-cases, list-in}
 use Rattle.journeys.proofs.Ways.{Dist}
 use Rattle.journeys.proofs.Greedy.{Whole}
 use Rattle.journeys.proofs.Settling as settling
@@ -24,21 +24,6 @@ use Rattle.journeys.proofs.Cover.{Road, Sound, FromPlace, Piece, first,
 use Rattle.journeys.proofs.Valid.{good-walk, paired, allowed-some}
 use Rattle.journeys.specs.Valid.{Valid}
 use Rattle.journeys.proofs.Document.{ways, laws, journey-arrives, arrives-journey, order-dist, allowed-low}
-
-abbrev pub thePart : ℕ → ℕ → ℕ → Part
-thePart i a z = record { walk = i; start = a; end = z }
-
-part-in : (i a z : ℕ) (p : Part) → In p (part i a z) → (p ≡ thePart i a z) × (a ≢ z)
-unfolding part
-part-in i a z p = go (test a z)
-  where
-    go : {t : Bool} → Test a z t → In p (cond t [] (thePart i a z ∷ [])) → (p ≡ thePart i a z) × (a ≢ z)
-    go (same e) j = absurd j
-    go (other q) (inl e) = (e, q)
-
-in-part : (i a z : ℕ) → a ≢ z → In (thePart i a z) (part i a z)
-unfolding part
-in-part i a z q = rw (ne-eqb a z q) (inl refl)
 
 module _ (N : Tables) (Q : Query) where
   -- a walk record as a road with a wait at its end; where the place is at that end the wait is spent for it too
@@ -55,75 +40,41 @@ module _ (N : Tables) (Q : Query) where
   abbrev pub laterStart : ℕ → ℕ → ℕ
   laterStart d i = max (walk N i .len - (allowed Q - d - waitTicks Q (walk N i))) (near N Q i)
 
-  -- ---- the record that a listed part is on
-  pub first-walk : (i : ℕ) (p : Part) → In p (firstPart N Q i) → p .walk ≡ i
-  unfolding firstPart
-  first-walk i p j = ap (λ (q : Part). q .walk) (part-in i (firstStart i) (near N Q i) p j .0)
+  -- ---- what is listed is a part of its record
+  abbrev IsPiece : List Settled → ℕ → Part → Type 0
+  IsPiece S i p = (p .walk ≡ i) × Piece′ S (p .walk) (p .start) (p .end)
 
-  pub firsts-cases : (p : Part) → In p (firstParts N Q) → In p (firstPart N Q (Q .walk)) ⊎ In p (cond (eqb (asked N Q .twin) none) [] (firstPart N Q (asked N Q .twin)))
-  unfolding firstParts
-  firsts-cases p j = in-append (firstPart N Q (Q .walk)) _ p j
-
-  pub at-walk : (x : Settled) (i : ℕ) (p : Part) → In p (cond (eqb (walk N i .to) (x .vertex)) (partAt N Q (x .distance) i) []) → p .walk ≡ i
-  unfolding partAt
-  at-walk x i p = go (eqb (walk N i .to) (x .vertex))
-    where
-      go : (t : Bool) → In p (cond t (part i (laterStart (x .distance) i) (walk N i .len)) []) → p .walk ≡ i
-      go true k = ap (λ (q : Part). q .walk) (part-in i (laterStart (x .distance) i) (walk N i .len) p k .0)
-      go false k = absurd k
-
-  -- ---- what is listed is a part
-  abbrev IsPiece : List Settled → Part → Type 0
-  IsPiece S p = Piece′ S (p .walk) (p .start) (p .end)
-
-  first-piece : (S : List Settled) (i : ℕ) (p : Part) → In p (firstPart N Q i) → IsPiece S p
+  first-piece : (S : List Settled) (i : ℕ) (p : Part) → In p (firstPart N Q i) → IsPiece S i p
   unfolding firstPart
   first-piece S i p j =
       let e = part-in i (firstStart i) (near N Q i) p j in
-      subst (IsPiece S) (sym (e .0)) (first (e .1))
+      subst (IsPiece S i) (sym (e .0)) (refl, first (e .1))
 
-  firsts-piece : (S : List Settled) (p : Part) → In p (firstParts N Q) → IsPiece S p
-  firsts-piece S p j = go (firsts-cases p j)
-    where
-      by-twin : (t : Bool) → In p (cond t [] (firstPart N Q (asked N Q .twin))) → IsPiece S p
-      by-twin true k = absurd k
-      by-twin false k = first-piece S (asked N Q .twin) p k
-
-      go : In p (firstPart N Q (Q .walk)) ⊎ In p (cond (eqb (asked N Q .twin) none) [] (firstPart N Q (asked N Q .twin))) → IsPiece S p
-      go (inl k) = first-piece S (Q .walk) p k
-      go (inr k) = by-twin (eqb (asked N Q .twin) none) k
-
-  at-piece : (S : List Settled) (x : Settled) → In x S → (i : ℕ) (p : Part)
-      → In p (cond (eqb (walk N i .to) (x .vertex)) (partAt N Q (x .distance) i) []) → IsPiece S p
+  at-piece : (S : List Settled) (i d : ℕ) → In (settled (walk N i .to) d) S → (p : Part) → In p (partAt N Q d i) → IsPiece S i p
   unfolding partAt
-  at-piece S x j i p = go (test (walk N i .to) (x .vertex))
-    where
-      go : {t : Bool} → Test (walk N i .to) (x .vertex) t
-          → In p (cond t (part i (laterStart (x .distance) i) (walk N i .len)) []) → IsPiece S p
-      go (same e) k =
-          let q = part-in i (laterStart (x .distance) i) (walk N i .len) p k in
-          let m : In (settled (walk N i .to) (x .distance)) S = rw e j in
-          subst (IsPiece S) (sym (q .0)) (later (x .distance) m (q .1))
-      go (other q) k = absurd k
+  at-piece S i d m p j =
+      let e = part-in i (laterStart d i) (walk N i .len) p j in
+      subst (IsPiece S i) (sym (e .0)) (refl, later d m (e .1))
 
-  pub listed-piece : (S : List Settled) (p : Part) → In p (partList N Q S) → IsPiece S p
-  unfolding partList partsAt
-  listed-piece S p j = go (in-append (firstParts N Q) _ p j)
+  -- A part is on e, on its twin or on a walk of the table.
+  pub listed-piece : (S : List Settled) (p : Part) → In p (partList N Q S)
+      → ((p .walk ≡ Q .walk) ⊎ ((p .walk ≡ asked N Q .twin) × (asked N Q .twin ≢ none)) ⊎ (p .walk < walkCount N)) × Piece′ S (p .walk) (p .start) (p .end)
+  unfolding partList partsAt firstParts
+  listed-piece S p j = go (list-cases (walkCount N) (λ i. walk N i .to) (partAt N Q) (firstParts N Q) S p j)
     where
-      go : In p (firstParts N Q) ⊎ In p (flatMap (partsAt N Q) S) → IsPiece S p
-      go (inl k) = firsts-piece S p k
-      go (inr k) =
-          let x = flat-in (partsAt N Q) S p k in
-          let y = joined-in (λ i. cond (eqb (walk N i .to) (x .0 .vertex)) (partAt N Q (x .0 .distance) i) []) (walkCount N) p (x .2) in
-          at-piece S (x .0) (x .1) (y .0) p (y .2)
+      firsts : In p (firstPart N Q (Q .walk)) ⊎ ((asked N Q .twin ≢ none) × In p (firstPart N Q (asked N Q .twin)))
+          → ((p .walk ≡ Q .walk) ⊎ ((p .walk ≡ asked N Q .twin) × (asked N Q .twin ≢ none)) ⊎ (p .walk < walkCount N)) × Piece′ S (p .walk) (p .start) (p .end)
+      firsts (inl k) = let x = first-piece S (Q .walk) p k in (inl (x .0), x .1)
+      firsts (inr k) = let x = first-piece S (asked N Q .twin) p (k .1) in (inr (inl (x .0, k .0)), x .1)
+
+      go : In p (firstParts N Q) ⊎ ((i : ℕ) × (d : ℕ) × (i < walkCount N) × In (settled (walk N i .to) d) S × In p (partAt N Q d i))
+          → ((p .walk ≡ Q .walk) ⊎ ((p .walk ≡ asked N Q .twin) × (asked N Q .twin ≢ none)) ⊎ (p .walk < walkCount N)) × Piece′ S (p .walk) (p .start) (p .end)
+      go (inl k) = firsts (two-cases (firstPart N Q) (Q .walk) (asked N Q .twin) p k)
+      go (inr (i, d, l, m, k)) = let x = at-piece S i d m p k in (inr (inr (rw (x .0) l)), x .1)
 
   -- ---- and each part is listed
-  first-listed : (i : ℕ) → firstStart i ≢ near N Q i → In (thePart i (firstStart i) (near N Q i)) (firstPart N Q i)
-  unfolding firstPart
-  first-listed i q = in-part i (firstStart i) (near N Q i) q
-
   -- only e and its twin have the query place on them
-  near-where : (i : ℕ) → 0 < near N Q i → (i ≡ Q .walk) ⊎ (i ≡ asked N Q .twin)
+  pub near-where : (i : ℕ) → 0 < near N Q i → (i ≡ Q .walk) ⊎ (i ≡ asked N Q .twin)
   unfolding near
   near-where i = go (test i (Q .walk)) (test i (asked N Q .twin))
     where
@@ -132,37 +83,21 @@ module _ (N : Tables) (Q : Query) where
       go (other q) (same e) h = inr e
       go (other q) (other r) h = absurd (omega arith)
 
-  firsts-listed : (i : ℕ) → i ≢ none → firstStart i ≢ near N Q i → In (thePart i (firstStart i) (near N Q i)) (firstParts N Q)
-  unfolding firstParts
-  firsts-listed i n q = go (near-where i (omega arith))
+  pub piece-listed : (S : List Settled) (i : ℕ) → i < walkCount N → i ≢ none → {a z : ℕ} → Piece′ S i a z → In (thePart i a z) (partList N Q S)
+  unfolding partList partsAt partAt firstParts firstPart
+  piece-listed S i l n (first q) =
+      list-in (walkCount N) (λ i. walk N i .to) (partAt N Q) (firstParts N Q) S p
+      (inl (two-in (firstPart N Q) (Q .walk) (asked N Q .twin) p (on-query (firstPart N Q) i n p (in-part i (firstStart i) (near N Q i) q) (near-where i (omega arith)))))
     where
       p : Part
       p = thePart i (firstStart i) (near N Q i)
-
-      go : (i ≡ Q .walk) ⊎ (i ≡ asked N Q .twin) → In p (firstPart N Q (Q .walk) ++ cond (eqb (asked N Q .twin) none) [] (firstPart N Q (asked N Q .twin)))
-      go (inl e) = in-left (firstPart N Q (Q .walk)) _ p (subst (λ (k : ℕ). In p (firstPart N Q k)) e (first-listed i q))
-      go (inr e) =
-          in-right (firstPart N Q (Q .walk)) _ p
-          (rw (ne-eqb (asked N Q .twin) none (λ (z : asked N Q .twin ≡ none). n (e ∙ z))) (subst (λ (k : ℕ). In p (firstPart N Q k)) e (first-listed i q)))
-
-  at-listed : (i d : ℕ) → laterStart d i ≢ walk N i .len
-      → In (thePart i (laterStart d i) (walk N i .len)) (partAt N Q d i)
-  unfolding partAt
-  at-listed i d q = in-part i (laterStart d i) (walk N i .len) q
-
-  pub piece-listed : (S : List Settled) (i : ℕ) → i < walkCount N → i ≢ none → {a z : ℕ} → Piece′ S i a z → In (thePart i a z) (partList N Q S)
-  unfolding partList partsAt
-  piece-listed S i l n (first q) = in-left (firstParts N Q) _ _ (firsts-listed i n q)
   piece-listed S i l n (later d j q) =
       let p = thePart i (laterStart d i) (walk N i .len) in
-      let here : In p (cond (eqb (walk N i .to) (walk N i .to)) (partAt N Q d i) []) = rw (eq-eqb (walk N i .to) (walk N i .to) refl) (at-listed i d q) in
-      (in-right (firstParts N Q) _ p
-      (in-flat (partsAt N Q) S (settled (walk N i .to) d) p j
-      (in-joined (λ k. cond (eqb (walk N k .to) (walk N i .to)) (partAt N Q d k) []) (walkCount N) i p l here)))
+      list-in (walkCount N) (λ i. walk N i .to) (partAt N Q) (firstParts N Q) S p (inr (i, d, l, j, in-part i (laterStart d i) (walk N i .len) q))
 
 module _ (N : Tables) (Q : Query) (ok : Valid N Q) where
   -- the offset of the query place on e, and on its twin, which is another record
-  near-asked : near N Q (Q .walk) ≡ Q .offset
+  pub near-asked : near N Q (Q .walk) ≡ Q .offset
   unfolding near
   near-asked = cond-true (Q .offset) _ (eq-eqb (Q .walk) (Q .walk) refl)
 
@@ -171,15 +106,15 @@ module _ (N : Tables) (Q : Query) (ok : Valid N Q) where
       let p = paired N (ok .tables) (Q .walk) (ok .query .walk-low) n .1 in
       good-walk N (ok .tables) (Q .walk) (ok .query .walk-low) .apart (ap (λ (k : ℕ). walk N k .from) (sym e) ∙ p .from)
 
-  near-twin : asked N Q .twin ≢ none → near N Q (asked N Q .twin) ≡ asked N Q .len - Q .offset
+  pub near-twin : asked N Q .twin ≢ none → near N Q (asked N Q .twin) ≡ asked N Q .len - Q .offset
   unfolding near
   near-twin n =
       cond-false (Q .offset) _ (ne-eqb (asked N Q .twin) (Q .walk) (twin-other n)) ∙ cond-true (asked N Q .len - Q .offset) 0 (eq-eqb (asked N Q .twin) (asked N Q .twin) refl)
 
-  few : (i : ℕ) → i < walkCount N → i ≢ none
+  pub few : (i : ℕ) → i < walkCount N → i ≢ none
   few i l = omega (arith, ok .tables .walks-few)
 
-  twin-len : asked N Q .twin ≢ none → walk N (asked N Q .twin) .len ≡ asked N Q .len
+  pub twin-len : asked N Q .twin ≢ none → walk N (asked N Q .twin) .len ≡ asked N Q .len
   twin-len n = paired N (ok .tables) (Q .walk) (ok .query .walk-low) n .1 .len
 
   pub sound : (i : ℕ) → i < walkCount N → Sound (road N Q i)
@@ -246,7 +181,7 @@ module _ (N : Tables) (Q : Query) (ok : Valid N Q) where
     covered-inside c =
         place-inside i x (allowed Q) il x0
         (covers-from (network N Q) (ways N Q) (allowed Q) l (λ v d j. each (settled v d) j .0) (road N Q i) x
-        (c .start, c .end, listed-piece N Q l (thePart i (c .start) (c .end)) (c .listed), c .low, c .high))
+        (c .start, c .end, listed-piece N Q l (thePart i (c .start) (c .end)) (c .listed) .1, c .low, c .high))
 
     pub inside-covered : Inside N Q i x (allowed Q) → Covered (partList N Q l) i x
     inside-covered j =

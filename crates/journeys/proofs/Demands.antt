@@ -1,33 +1,26 @@
 -- What the definitions promise a planner, in the words of RULES 18. Each theorem says in one sentence what it means. Assumes nothing.
-use mathlib.Core.Path.{_≡_, refl, ap, subst}
-use mathlib.Core.Logic.{_⊎_, inl, inr, ⊎-elim, _↔_, _≢_}
-use mathlib.Core.Bool.{Bool, true, false, not, cond}
-use mathlib.Core.List.{List, [], _∷_}
+use mathlib.Core.Path.{_≡_}
+use mathlib.Core.Logic.{_⊎_, _↔_, _≢_}
+use mathlib.Core.Bool.{true}
+use mathlib.Core.List.{List, []}
 use Prim.Native.Nat.{ℕ, _-_, _≤_, _<_}
 use native.Mathlib.Omega.{arith}
-use lib.ListN.{length, take, drop, take-append-drop}
-use borrow.Author.Tests.{eqb-true, eq-eqb, not-true}
+use lib.ListN.{take}
 use Rattle.journeys.specs.Counting.{none, In}
 use Rattle.journeys.specs.Tables.{Tables, walk, vertexCount, walkCount}
 use Rattle.journeys.specs.Query.{Query, allowed}
 use Rattle.journeys.specs.Journeys.{Journey, Distance, Inside}
 use Rattle.journeys.specs.Order.{Settled, settled, IsOrder}
-use Rattle.journeys.specs.Network.{Network, Held, distanceIn, within, known, remaining, met, held, row, entry, heldList, Dropped, Forgotten}
+use Rattle.journeys.specs.Network.{distanceIn, known, met, held, row, entry, heldList, Dropped, Forgotten}
 use Rattle.journeys.specs.Records.{network}
 use Rattle.journeys.specs.Parts.{partList, Covered}
-use Rattle.journeys.specs.Answers.{tables}
-use Rattle.journeys.proofs.Tests.{never, and-both, and-true, le-or-lt}
-use Rattle.journeys.proofs.Counting.{in-left, in-joined, joined-in}
-use Rattle.journeys.proofs.Ways.{Arrives, arrives-low}
-use Rattle.journeys.proofs.Known.{is-within, within-is}
-use Rattle.journeys.proofs.Firsts.{distance-in}
+use Rattle.journeys.proofs.Ways.{Arrives}
 use Rattle.journeys.proofs.Greedy.{arrives-dec, dist-exists}
-use Rattle.journeys.proofs.Settling.{settled-known}
-use Rattle.journeys.proofs.Held.{dropped-stays, dropped-absent, dropped-spent, forgotten-spent, spent-is, forgotten-absent, forgotten-stays, hopeless-stays}
-use Rattle.journeys.proofs.Valid.{paired}
+use Rattle.journeys.proofs.Told as theory
+use Rattle.journeys.proofs.Valid.{on-either}
 use Rattle.journeys.specs.Valid.{Valid}
-use Rattle.journeys.proofs.Document.{ways, laws, journey-arrives, arrives-journey, dist-distance, allowed-low}
-use Rattle.journeys.proofs.OrderLaws.{order-each, order-all, order-state, order-grows}
+use Rattle.journeys.proofs.Document.{ways, laws, told, journey-arrives, arrives-journey, dist-distance, allowed-low}
+use Rattle.journeys.proofs.OrderLaws.{order-each, order-all}
 use Rattle.journeys.proofs.Coverage.{covered-inside, inside-covered}
 
 -- ---- journeys and distances
@@ -76,45 +69,13 @@ module _ (N : Tables) (Q : Query) (ok : Valid N Q) where
     pub point-exactly : (i x : ℕ) → i < walkCount N → walk N i .twin ≢ none → 0 < x → x < walk N i .len
         → (Covered (partList N Q l) i x ⊎ Covered (partList N Q l) (walk N i .twin) (walk N i .len - x))
         ↔ (((d : ℕ) × (d ≤ allowed Q) × Inside N Q i x d) ⊎ ((d : ℕ) × (d ≤ allowed Q) × Inside N Q (walk N i .twin) (walk N i .len - x) d))
-    point-exactly i x il n x0 xl = (go .0, go .1)
-      where
-        j : ℕ
-        j = walk N i .twin
-
-        there : Covered (partList N Q l) j (walk N i .len - x) ↔ ((d : ℕ) × (d ≤ allowed Q) × Inside N Q j (walk N i .len - x) d)
-        there =
-            let p = paired N (ok .tables) i il n in
-            place-exactly j (walk N i .len - x) (p .0) (omega arith) (omega (arith, p .1 .len))
-
-        go : (Covered (partList N Q l) i x ⊎ Covered (partList N Q l) j (walk N i .len - x))
-            ↔ (((d : ℕ) × (d ≤ allowed Q) × Inside N Q i x d) ⊎ ((d : ℕ) × (d ≤ allowed Q) × Inside N Q j (walk N i .len - x) d))
-        go =
-            let here = place-exactly i x il x0 xl in
-            (λ c. ⊎-elim (λ a. inl (here .0 a)) (λ a. inr (there .0 a)) c, λ c. ⊎-elim (λ a. inl (here .1 a)) (λ a. inr (there .1 a)) c)
+    point-exactly = on-either N (ok .tables) (Covered (partList N Q l)) (λ i x. (d : ℕ) × (d ≤ allowed Q) × Inside N Q i x d) place-exactly
 
     -- ---- demand 3
     -- After k steps the working table lists a vertex exactly if it is held.
     pub held-exactly : (k v : ℕ) → v < vertexCount N
         → In (row (network N Q) (distanceIn (take k l)) v) (heldList (network N Q) (distanceIn (take k l))) ↔ (held (network N Q) (distanceIn (take k l)) v ≡ true)
-    unfolding heldList entry row
-    held-exactly k v vn = (λ i. there (joined-in (entry G far) (vertexCount N) (row G far v) i), λ e. in-joined (entry G far) (vertexCount N) v (row G far v) vn (back (held G far v) e))
-      where
-        G : Network
-        G = network N Q
-
-        far : ℕ → ℕ
-        far = distanceIn (take k l)
-
-        here : (u : ℕ) (t : Bool) → held G far u ≡ t → In (row G far v) (cond t (row G far u ∷ []) []) → held G far v ≡ true
-        here u true e (inl p) = let q : v ≡ u = ap (λ (x : Held). x .vertex) p in rw q e
-        here u false e i = absurd i
-
-        there : (u : ℕ) × (u < vertexCount N) × In (row G far v) (cond (held G far u) (row G far u ∷ []) []) → held G far v ≡ true
-        there x = here (x .0) (held G far (x .0)) refl (x .2)
-
-        back : (t : Bool) → t ≡ true → In (row G far v) (cond t (row G far v ∷ []) [])
-        back true e = inl refl
-        back false e = never e refl
+    held-exactly k = theory.held-exactly (network N Q) (distanceIn (take k l))
 
     -- It is held exactly if it has been met, is not in S with all its departing records leading into S, and is not outside S with all of them leading into S and known
     -- above D. Exactly at D it stays.
@@ -122,57 +83,20 @@ module _ (N : Tables) (Q : Query) (ok : Valid N Q) where
         ↔ ((met (network N Q) (distanceIn (take k l)) v ≡ true)
         × ¬ Dropped (network N Q) (distanceIn (take k l)) v
         × ¬ Forgotten (network N Q) (distanceIn (take k l)) v)
-    unfolding held
-    held-means k v = (
-      λ e.
-          let p = and-both (met G far v) _ e in
-          let kept = not-true _ (p .1) in
-          (p .0, λ g. never (dropped-spent G far v g) kept, λ g. never (forgotten-spent G far v g) kept),
-      λ p. and-true (p .0) (not-is _ (λ t. ⊎-elim (λ g. p .1 g) (λ g. p .2 g) (spent-is G far v t))),
-    )
-      where
-        G : Network
-        G = network N Q
-
-        far : ℕ → ℕ
-        far = distanceIn (take k l)
-
-        not-is : (b : Bool) → (b ≡ true → ⊥) → not b ≡ true
-        not-is true h = absurd (h refl)
-        not-is false h = refl
+    held-means k = theory.held-means (network N Q) (distanceIn (take k l))
 
     -- What is known of a settled vertex is its distance.
     pub known-settled : (k v : ℕ) → v < vertexCount N → distanceIn (take k l) v < none → known (network N Q) (distanceIn (take k l)) v ≡ distanceIn (take k l) v
-    known-settled k v vn h =
-        settled-known (network N Q) (ways N Q) (laws N Q ok) (order-state N Q ok O k) v vn h
+    known-settled = theory.known-settled (network N Q) (ways N Q) (Distance N Q) (told N Q ok) O
 
     -- A dropped vertex is absent at every larger limit.
     pub dropped-stays-absent : (k k′ : ℕ) → k ≤ k′ → (v : ℕ) → Dropped (network N Q) (distanceIn (take k l)) v → entry (network N Q) (distanceIn (take k′ l)) v ≡ []
-    dropped-stays-absent k k′ h v g =
-        dropped-absent (network N Q) (distanceIn (take k′ l)) v
-        (dropped-stays (network N Q) (distanceIn (take k l)) (distanceIn (take k′ l))
-        (λ u s. omega (arith, order-grows N Q ok O k k′ h u s)) v g)
+    dropped-stays-absent = theory.dropped-stays-absent (network N Q) (ways N Q) (Distance N Q) (told N Q ok) O
 
     -- A forgotten vertex is settled at no larger limit: no record is left that could offer it D or less.
     pub forgotten-unsettled : (k k′ : ℕ) → k ≤ k′ → (v : ℕ) → Forgotten (network N Q) (distanceIn (take k l)) v → none ≤ distanceIn (take k′ l) v
-    forgotten-unsettled k k′ h v g =
-        ⊎-elim (λ (q : none ≤ far′ v). q) (λ (q : far′ v < none). absurd (apart q)) (le-or-lt none (far′ v))
-      where
-        far′ : ℕ → ℕ
-        far′ = distanceIn (take k′ l)
-
-        apart : far′ v < none → ⊥
-        apart q =
-            let above = hopeless-stays (network N Q) (distanceIn (take k l)) far′ (λ u s. order-grows N Q ok O k k′ h u s) (allowed-low N Q ok) v (g .1) (g .2) in
-            let listed : In (settled v (far′ v)) l =
-            subst (In (settled v (far′ v))) (take-append-drop k′ l) (in-left (take k′ l) (drop k′ l) (settled v (far′ v)) (distance-in (take k′ l) v q)) in
-            let e = order-each N Q ok O v (far′ v) listed in
-            let low = arrives-low (network N Q) (ways N Q) (laws N Q ok) (journey-arrives N Q ok (e .0 .starts)) in
-            omega (arith, above, e .1, known-settled k′ v low q)
+    forgotten-unsettled = theory.forgotten-unsettled (network N Q) (ways N Q) (Distance N Q) (told N Q ok) O
 
     -- It is absent at every larger limit.
     pub forgotten-stays-absent : (k k′ : ℕ) → k ≤ k′ → (v : ℕ) → Forgotten (network N Q) (distanceIn (take k l)) v → entry (network N Q) (distanceIn (take k′ l)) v ≡ []
-    forgotten-stays-absent k k′ h v g =
-        forgotten-absent (network N Q) (distanceIn (take k′ l)) v
-        (forgotten-stays (network N Q) (distanceIn (take k l)) (distanceIn (take k′ l)) (λ u s. order-grows N Q ok O k k′ h u s) (allowed-low N Q ok) v
-        (forgotten-unsettled k k′ h v g) g)
+    forgotten-stays-absent = theory.forgotten-stays-absent (network N Q) (ways N Q) (Distance N Q) (told N Q ok) O

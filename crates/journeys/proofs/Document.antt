@@ -1,24 +1,25 @@
 -- Walks and hops with the offers of RULES 8.4 are such a network, and the journeys of RULES 6 are those of the theory. Assumes nothing.
 use mathlib.Core.Path.{_≡_, refl, sym, ap, subst, _∙_}
-use mathlib.Core.Logic.{_⊎_, inl, inr, ⊎-elim, _≢_}
-use mathlib.Core.Bool.{Bool, true, false, not, cond, _&&_, _||_}
+use mathlib.Core.Logic.{_⊎_, inl, inr, ⊎-elim, _↔_, _≢_}
+use mathlib.Core.Bool.{true, false}
 use mathlib.Core.List.{List}
 use Prim.Native.Nat.{ℕ, _+_, _-_, _*_, _≤_, _<_}
 use native.Mathlib.Decide.{ℕ-discrete}
 use native.Mathlib.Nat.{mul-le-mul-right, mul-lt-mul-of-pos-right}
 use native.Mathlib.Omega.{arith}
-use lib.Dec.{eqb, leb, ltb}
+use lib.Dec.{ltb}
 use lib.ListN.{List·getD-eq-default}
-use borrow.Author.Tests.{eqb-true, eqb-false, leb-true, ltb-true, eq-eqb, ne-eqb, le-leb, lt-ltb, not-true}
+use borrow.Author.Tests.{ltb-true, eq-eqb, ne-eqb, lt-ltb}
 use Rattle.journeys.specs.Counting.{none}
 use Rattle.journeys.specs.Tables.{Tables, Walk, walk, hop, vertexCount, walkCount, hopCount}
 use Rattle.journeys.specs.Query.{Query, before, asked, askedTwin, waitTicks, pastTicks, walkTicks, fromTicks, toTicks, allowed}
 use Rattle.journeys.specs.Journeys.{Journey, from-end, to-end, at-to, by-walk, by-hop, Distance}
 use Rattle.journeys.specs.Order.{Settled, Order}
 use Rattle.journeys.specs.Records.{Record, walked, ridden, from, to, offer, recordCount, recordAt, seed, network}
-use Rattle.journeys.proofs.Tests.{split, and-both, and-true, or-cases, or-left, or-right, cond-true, cond-false, le-or-lt}
+use Rattle.journeys.proofs.Tests.{split, cond-true, cond-false, le-or-lt}
 use Rattle.journeys.proofs.Ways.{Ways, Arrives, ends, leads, Dist, Laws, Strict, Loopless, arrives-up}
-use Rattle.journeys.proofs.Firsts.{order-same}
+use Rattle.journeys.proofs.Gates.{seeds-are, rides-are}
+use Rattle.journeys.proofs.Told.{Told, told-order, order-told}
 use Rattle.journeys.proofs.Valid.{good-walk, good-hop, paired, allowed-high}
 use Rattle.journeys.specs.Valid.{Valid}
 
@@ -62,53 +63,6 @@ numbered N r l =
     (λ (h : r < walkCount N). subst (Numbered N r) (sym (walk-record N r h)) (of-walk h))
     (le-or-lt (walkCount N) r)
 
--- ---- seeds
-module _ (N : Tables) (Q : Query) where
-  seed-le : (v b : ℕ) → End N Q v b → seed N Q v ≤ b
-  unfolding seed
-  seed-le v b (inl x) = omega (arith, cond-true (fromTicks N Q) none (eq-eqb (asked N Q .from) v (x .0)))
-  seed-le v b (inr x) =
-      omega (arith, cond-true (toTicks N Q) none (and-true (eq-eqb (asked N Q .to) v (x .0)) (go (x .1))))
-    where
-      go : (asked N Q .twin ≢ none) ⊎ (Q .offset ≡ asked N Q .len) → (not (eqb (asked N Q .twin) none) || eqb (Q .offset) (asked N Q .len)) ≡ true
-      go (inl n) = or-left (eqb (Q .offset) (asked N Q .len)) (ap not (ne-eqb (asked N Q .twin) none n))
-      go (inr e) = or-right (not (eqb (asked N Q .twin) none)) (eq-eqb (Q .offset) (asked N Q .len) e)
-
-  seed-end : (v b : ℕ) → b < none → seed N Q v ≤ b → End N Q v b
-  unfolding seed
-  seed-end v b l h =
-      go (split (eqb (asked N Q .from) v)) (split (eqb (asked N Q .to) v && (not (eqb (asked N Q .twin) none) || eqb (Q .offset) (asked N Q .len))))
-    where
-      first : ℕ
-      first = cond (eqb (asked N Q .from) v) (fromTicks N Q) none
-
-      test-to : Bool
-      test-to = eqb (asked N Q .to) v && (not (eqb (asked N Q .twin) none) || eqb (Q .offset) (asked N Q .len))
-
-      second : ℕ
-      second = cond test-to (toTicks N Q) none
-
-      at-from : eqb (asked N Q .from) v ≡ true → first ≤ b → End N Q v b
-      at-from t k = inl (eqb-true _ _ t, omega (arith, cond-true (fromTicks N Q) none t))
-
-      at-to-end : test-to ≡ true → second ≤ b → End N Q v b
-      at-to-end t k =
-          let p = and-both (eqb (asked N Q .to) v) _ t in
-          inr (
-            eqb-true _ _ (p .0),
-            ⊎-elim (λ e. inl (eqb-false _ _ (not-true _ e))) (λ e. inr (eqb-true _ _ e)) (or-cases (not (eqb (asked N Q .twin) none)) _ (p .1)),
-            omega (arith, cond-true (toTicks N Q) none t),
-          )
-
-      go : (eqb (asked N Q .from) v ≡ true) ⊎ (eqb (asked N Q .from) v ≡ false) → (test-to ≡ true) ⊎ (test-to ≡ false) → End N Q v b
-      go (inl t) u = ⊎-elim (λ (k : first ≤ b). at-from t k) (λ (k : b < first). second-only k u) (le-or-lt first b)
-        where
-          second-only : b < first → (test-to ≡ true) ⊎ (test-to ≡ false) → End N Q v b
-          second-only k (inl u) = at-to-end u (omega arith)
-          second-only k (inr u) = absurd (omega (arith, cond-false (toTicks N Q) none u))
-      go (inr t) (inl u) = at-to-end u (omega (arith, cond-false (fromTicks N Q) none t))
-      go (inr t) (inr u) = absurd (omega (arith, cond-false (fromTicks N Q) none t, cond-false (toTicks N Q) none u))
-
 -- ---- offers
 before-mono : (Q : Query) (x y : ℕ) → x ≤ y → before Q y ≤ before Q x
 before-mono Q x y h = mul-le-mul-right (Q .speed) (let q : Q .arrival - y ≤ Q .arrival - x = omega arith in q)
@@ -124,32 +78,23 @@ lead-down : (Q : Query) (x : Record) (d d′ b : ℕ) → d′ ≤ d → Lead Q 
 lead-down Q (walked w) d d′ b h o = omega arith
 lead-down Q (ridden w) d d′ b h o = (o .0, omega (arith, o .1), o .2)
 
-offer-le : (Q : Query) (x : Record) (d b : ℕ) → Lead Q x d b → offer Q x d ≤ b
+offer-are : (Q : Query) (x : Record) (d b : ℕ) → b < none → Lead Q x d b ↔ (offer Q x d ≤ b)
 unfolding offer
-offer-le Q (walked w) d b o = o
-offer-le Q (ridden h) d b o =
-    omega (arith, o .2, cond-true (before Q (h .departure)) none (and-true (le-leb (h .arrival) (Q .arrival) (o .0)) (le-leb d (before Q (h .arrival)) (o .1))))
+offer-are Q (walked w) d b l = (λ o. o, λ o. o)
+offer-are Q (ridden h) d b l = rides-are (h .arrival) (Q .arrival) d (before Q (h .arrival)) (before Q (h .departure)) b l
 
-offer-lead : (Q : Query) (x : Record) (d b : ℕ) → b < none → offer Q x d ≤ b → Lead Q x d b
-unfolding offer
-offer-lead Q (walked w) d b l o = o
-offer-lead Q (ridden h) d b l o = go (split (leb (h .arrival) (Q .arrival) && leb d (before Q (h .arrival))))
-  where
-    rides : Bool
-    rides = leb (h .arrival) (Q .arrival) && leb d (before Q (h .arrival))
-
-    go : (rides ≡ true) ⊎ (rides ≡ false) → (h .arrival ≤ Q .arrival) × (d ≤ before Q (h .arrival)) × (before Q (h .departure) ≤ b)
-    go (inl t) = let p = and-both (leb (h .arrival) (Q .arrival)) _ t in (leb-true _ _ (p .0), leb-true _ _ (p .1), omega (arith, cond-true (before Q (h .departure)) none t))
-    go (inr t) = absurd (omega (arith, cond-false (before Q (h .departure)) none t))
+seed-are : (N : Tables) (Q : Query) (v b : ℕ) → b < none → End N Q v b ↔ (seed N Q v ≤ b)
+unfolding seed
+seed-are N Q v b l = seeds-are (asked N Q .from) (asked N Q .to) (asked N Q .twin) (Q .offset) (asked N Q .len) (fromTicks N Q) (toTicks N Q) v b l
 
 -- every ride takes time; good tables may have rides that take none
 abbrev pub Timely : Tables → Type 0
 Timely N = (j : ℕ) → j < hopCount N → hop N j .departure < hop N j .arrival
 
 module _ (N : Tables) (Q : Query) (ok : Valid N Q) where
-  record-from : (r : ℕ) {x : Record} → Numbered N r x → from x < vertexCount N
-  record-from r (of-walk l) = good-walk N (ok .tables) r l .from-low
-  record-from r (of-hop j l e) = good-hop N (ok .tables) j l .from-low
+  pub record-low : (r : ℕ) {x : Record} → Numbered N r x → (from x < vertexCount N) × (to x < vertexCount N)
+  record-low r (of-walk l) = (good-walk N (ok .tables) r l .from-low, good-walk N (ok .tables) r l .to-low)
+  record-low r (of-hop j l e) = (good-hop N (ok .tables) j l .from-low, good-hop N (ok .tables) j l .to-low)
 
   record-le : (r d b : ℕ) {x : Record} → Numbered N r x → Lead Q x d b → d ≤ b
   record-le r d b (of-walk l) o = omega arith
@@ -160,7 +105,7 @@ module _ (N : Tables) (Q : Query) (ok : Valid N Q) where
   record-strict timely r d b (of-hop j l e) o =
       omega (arith, o .1, o .2, before-less Q (hop N j .departure) (hop N j .arrival) (ok .query .speed-low) (timely j l) (o .0))
 
-  record-apart : (r : ℕ) {x : Record} → Numbered N r x → from x ≢ to x
+  pub record-apart : (r : ℕ) {x : Record} → Numbered N r x → from x ≢ to x
   record-apart r (of-walk l) = good-walk N (ok .tables) r l .apart
   record-apart r (of-hop j l e) = good-hop N (ok .tables) j l .apart
 
@@ -175,14 +120,14 @@ module _ (N : Tables) (Q : Query) (ok : Valid N Q) where
   pub laws : Laws (network N Q) (ways N Q)
   laws =
       record {
-        from-low = λ r l. record-from r (numbered N r l);
+        from-low = λ r l. record-low r (numbered N r l) .0;
         ends-low = end-low;
         ends-up = end-up;
         leads-up = λ r d b b′ h o. lead-up Q (recordAt N r) d b b′ h o;
         leads-down = λ r d d′ b h o. lead-down Q (recordAt N r) d d′ b h o;
         leads-le = λ r d b l o. record-le r d b (numbered N r l) o;
-        seed-is = λ v b vn l. (seed-le N Q v b, seed-end N Q v b l);
-        offer-is = λ r d b rl l. (offer-le Q (recordAt N r) d b, offer-lead Q (recordAt N r) d b l);
+        seed-is = λ v b vn l. seed-are N Q v b l;
+        offer-is = λ r d b rl l. offer-are Q (recordAt N r) d b l;
       }
 
   pub strict : Timely N → Strict (network N Q) (ways N Q)
@@ -246,11 +191,15 @@ module _ (N : Tables) (Q : Query) (ok : Valid N Q) where
   pub dist-distance : {v d : ℕ} → Dist (network N Q) (ways N Q) v d → Distance N Q v d
   dist-distance x = record { starts = arrives-journey (x .0); latest = λ b j. x .1 b (journey-arrives j) }
 
-  pub order-dist : {D : ℕ} {l : List Settled} → Order (network N Q) (Distance N Q) D l → Order (network N Q) (Dist (network N Q) (ways N Q)) D l
-  order-dist = order-same (network N Q) (λ v d. distance-dist) (λ v d. dist-distance)
-
-  pub dist-order : {D : ℕ} {l : List Settled} → Order (network N Q) (Dist (network N Q) (ways N Q)) D l → Order (network N Q) (Distance N Q) D l
-  dist-order = order-same (network N Q) (λ v d. dist-distance) (λ v d. distance-dist)
-
   pub allowed-low : allowed Q < none
   allowed-low = omega (arith, allowed-high (ok .query))
+
+  -- The distance of the journeys is the theory's.
+  pub told : Told (network N Q) (ways N Q) (Distance N Q)
+  told = record { laws = laws; is-dist = λ v d. distance-dist; dist-is = λ v d. dist-distance; few = allowed-low }
+
+  pub order-dist : {D : ℕ} {l : List Settled} → Order (network N Q) (Distance N Q) D l → Order (network N Q) (Dist (network N Q) (ways N Q)) D l
+  order-dist = told-order (network N Q) (ways N Q) (Distance N Q) told
+
+  pub dist-order : {D : ℕ} {l : List Settled} → Order (network N Q) (Dist (network N Q) (ways N Q)) D l → Order (network N Q) (Distance N Q) D l
+  dist-order = order-told (network N Q) (ways N Q) (Distance N Q) told

@@ -1,14 +1,14 @@
 -- All figures fit their 4 bytes (RULES 7.4): within the limits of RULES 4 and 5.1 every seed, offer, known distance, offset and count is below none. Assumes nothing.
 use mathlib.Core.Path.{_≡_, refl, subst}
-use mathlib.Core.Logic.{_⊎_, inl, inr, ⊎-elim}
+use mathlib.Core.Logic.{_⊎_, inl, inr, ⊎-elim, _≢_}
 use mathlib.Core.Bool.{Bool, true, false, not, cond, _&&_, _||_}
 use mathlib.Core.List.{List, [], _∷_, _++_, flatMap}
-use Prim.Native.Nat.{ℕ, zero, suc, _+_, _-_, _*_, _≤_, _<_, min, max}
+use Prim.Native.Nat.{ℕ, zero, suc, _+_, _-_, _*_, _≤_, _<_, min}
 use native.Mathlib.Nat.{mul-le-mul}
 use native.Mathlib.Decide.{ℕ-discrete}
 use native.Mathlib.Omega.{arith}
 use lib.Dec.{eqb, leb, ltb}
-use borrow.Author.Tests.{eqb-false, lt-ltb, le-ltb}
+use borrow.Author.Tests.{lt-ltb, le-ltb}
 use lib.ListN.{length, take, drop, length-append, take-append-drop}
 use lib.Seq.{take-nil}
 use Rattle.journeys.specs.Counting.{none, count, joined, In, one}
@@ -20,22 +20,52 @@ use Rattle.journeys.specs.Network.{Network, distanceIn, within, known, h
 use Rattle.journeys.specs.Records.{Record, offer, recordCount, recordAt, seed, network}
 use Rattle.journeys.specs.Parts.{Part, part, near, firstPart, firstParts, partAt, partsAt, partList}
 use Rattle.journeys.proofs.Tests.{Test, same, other, test, le-or-lt}
-use Rattle.journeys.proofs.Counting.{is-one, is-zero, count-most, count-join, in-append, in-left, in-right, flat-in, joined-in}
+use Rattle.journeys.proofs.Counting.{is-one, is-zero, count-most, count-join, in-left, in-right}
 use Rattle.journeys.proofs.Known.{By, known-by, known-seed, known-record}
 use Rattle.journeys.proofs.Firsts.{distance-in, follows-apart}
 use Rattle.journeys.proofs.Valid.{good-walk, good-hop, paired, allowed-high, wait-most}
 use Rattle.journeys.specs.Valid.{Valid}
 use Rattle.journeys.proofs.Document.{Numbered, of-walk, of-hop, numbered, ways, no-twin}
 use Rattle.journeys.proofs.Cover.{Piece, first, later}
-use Rattle.journeys.proofs.Coverage.{road, firstStart, laterStart, sound, listed-piece, first-walk, firsts-cases, at-walk}
+use Rattle.journeys.proofs.Listing.{twoOf, partsBy}
+use Rattle.journeys.proofs.Coverage.{road, firstStart, laterStart, sound, listed-piece}
 
 -- the largest figure: a start at -86,400 s for an arrival at 172,800 s, at 100 dm/s
 abbrev pub largest : ℕ
 largest = 25920000
 
--- none, or no more than this
+-- none, or no more than a figure
+abbrev pub Within : ℕ → ℕ → Type 0
+Within most x = (x ≡ none) ⊎ (x ≤ most)
+
 abbrev pub Fits : ℕ → Type 0
-Fits x = (x ≡ none) ⊎ (x ≤ largest)
+Fits x = Within largest x
+
+pub gate-within : {most : ℕ} (b : Bool) (x : ℕ) → x ≤ most → Within most (cond b x none)
+gate-within true x q = inr q
+gate-within false x q = inl refl
+
+-- the lesser of two seeds
+pub seeds-within : {most x y : ℕ} (a b : Bool) → x ≤ most → y ≤ most → Within most (min (cond a x none) (cond b y none))
+seeds-within true true p q = inr (omega arith)
+seeds-within true false p q = inr (omega arith)
+seeds-within false true p q = inr (omega arith)
+seeds-within false false p q = inl (omega arith)
+
+-- What is known comes from a seed or from an offer at a distance within D: where those fit, it does.
+pub all-fit : (G : Network) (most : ℕ) → ((v : ℕ) → Within most (G .seed v)) → ((r d : ℕ) → r < G .records → d ≤ G .allowed → Within most (G .offer r d))
+    → (far : ℕ → ℕ) → ((u : ℕ) → far u < none → far u ≤ G .allowed) → (v : ℕ) → known G far v < none → known G far v ≤ most
+all-fit G most seeds offers far low v h = go (known-by G far v (known G far v) h (omega arith))
+  where
+    fits : (x : ℕ) → Within most x → x ≤ known G far v → known G far v ≤ x → known G far v ≤ most
+    fits x (inl e) a b = absurd (omega arith)
+    fits x (inr e) a b = omega arith
+
+    go : By G far v (known G far v) → known G far v ≤ most
+    go (inl s) = fits (G .seed v) (seeds v) s (known-seed G far v)
+    go (inr x) =
+        let i = x .1 in
+        fits (G .offer (x .0) (far (G .to (x .0)))) (offers (x .0) (far (G .to (x .0))) (i .0) (low (G .to (x .0)) (i .2))) (x .2) (known-record G far v (x .0) i)
 
 module _ (N : Tables) (Q : Query) (ok : Valid N Q) where
   before-fits : (second : ℕ) → midnight - 86400 ≤ second → before Q second ≤ largest
@@ -48,14 +78,10 @@ module _ (N : Tables) (Q : Query) (ok : Valid N Q) where
   unfolding offer
   offer-fits r d l h = go (numbered N r l)
     where
-      ridden-fits : (b : Bool) (x : ℕ) → x ≤ largest → Fits (cond b x none)
-      ridden-fits true x q = inr q
-      ridden-fits false x q = inl refl
-
       go : {x : Record} → Numbered N r x → Fits (offer Q x d)
       go (of-walk i) = inr (omega (arith, good-walk N (ok .tables) r i .len-high, wait-most (ok .query) (walk N r .wait) (good-walk N (ok .tables) r i .wait-high), allowed-high (ok .query)))
       go (of-hop j i e) =
-          ridden-fits (leb (hop N j .arrival) (Q .arrival) && leb d (before Q (hop N j .arrival))) (before Q (hop N j .departure)) (before-fits (hop N j .departure) (good-hop N (ok .tables) j i .departure-low))
+          gate-within (leb (hop N j .arrival) (Q .arrival) && leb d (before Q (hop N j .arrival))) (before Q (hop N j .departure)) (before-fits (hop N j .departure) (good-hop N (ok .tables) j i .departure-low))
 
   -- The ticks of both seeds.
   long : asked N Q .len ≤ 100000
@@ -71,66 +97,40 @@ module _ (N : Tables) (Q : Query) (ok : Valid N Q) where
   pub from-fits : fromTicks N Q ≤ 112000
   from-fits = omega (arith, long, ok .query .offset-low, past-fits (asked N Q) (Q .offset) (good-walk N (ok .tables) (Q .walk) (ok .query .walk-low) .wait-high))
 
-  pub to-fits : toTicks N Q ≤ 112000
-  to-fits = omega (arith, long, past-fits (askedTwin N Q) (asked N Q .len - Q .offset) (go (ℕ-discrete (asked N Q .twin) none)))
+  pub twin-wait : askedTwin N Q .wait ≤ 120
+  twin-wait = go (ℕ-discrete (asked N Q .twin) none)
     where
       go : Dec (asked N Q .twin ≡ none) → askedTwin N Q .wait ≤ 120
       go (yes e) = rw (no-twin N Q ok e) (omega arith)
       go (no n) = good-walk N (ok .tables) (asked N Q .twin) (paired N (ok .tables) (Q .walk) (ok .query .walk-low) n .0) .wait-high
 
+  pub to-fits : toTicks N Q ≤ 112000
+  to-fits = omega (arith, long, past-fits (askedTwin N Q) (asked N Q .len - Q .offset) twin-wait)
+
   -- Every seed.
   pub seed-fits : (v : ℕ) → Fits (seed N Q v)
   unfolding seed
   seed-fits v =
-      go (eqb (asked N Q .from) v) (eqb (asked N Q .to) v && (not (eqb (asked N Q .twin) none) || eqb (Q .offset) (asked N Q .len)))
-    where
-      go : (a b : Bool) → Fits (min (cond a (fromTicks N Q) none) (cond b (toTicks N Q) none))
-      go true true = inr (omega (arith, from-fits))
-      go true false = inr (omega (arith, from-fits))
-      go false true = inr (omega (arith, to-fits))
-      go false false = inl (omega arith)
+      seeds-within (eqb (asked N Q .from) v) (eqb (asked N Q .to) v && (not (eqb (asked N Q .twin) none) || eqb (Q .offset) (asked N Q .len)))
+      (omega (arith, from-fits)) (omega (arith, to-fits))
 
   -- Every known distance, where all that is settled is within D.
   pub known-fits : (far : ℕ → ℕ) → ((u : ℕ) → far u < none → far u ≤ allowed Q) → (v : ℕ) → known (network N Q) far v < none → known (network N Q) far v ≤ largest
-  known-fits far low v h = go (known-by (network N Q) far v (known (network N Q) far v) h (omega arith))
-    where
-      fits : (x : ℕ) → Fits x → x ≤ known (network N Q) far v → known (network N Q) far v ≤ x → known (network N Q) far v ≤ largest
-      fits x (inl e) a b = absurd (omega arith)
-      fits x (inr e) a b = omega arith
-
-      go : By (network N Q) far v (known (network N Q) far v) → known (network N Q) far v ≤ largest
-      go (inl s) = fits (seed N Q v) (seed-fits v) s (known-seed (network N Q) far v)
-      go (inr x) =
-          let i = x .1 in
-          fits (offer Q (recordAt N (x .0)) (far (network N Q .to (x .0)))) (offer-fits (x .0) (far (network N Q .to (x .0))) (i .0) (low (network N Q .to (x .0)) (i .2))) (x .2)
-          (known-record (network N Q) far v (x .0) i)
+  known-fits = all-fit (network N Q) largest seed-fits (λ r d l h. offer-fits r d l h)
 
   -- Every part: a record of the table, and offsets on it.
   pub part-fits : (S : List Settled) (p : Part) → In p (partList N Q S)
       → (p .walk < walkCount N) × (p .start ≤ p .end) × (p .end ≤ walk N (p .walk) .len)
-  unfolding partList partsAt
   part-fits S p j =
-      let l : p .walk < walkCount N = go (in-append (firstParts N Q) _ p j) in
-      let q = piece-fits (p .walk) l (listed-piece N Q S p j) in
+      let x = listed-piece N Q S p j in
+      let l : p .walk < walkCount N = on-table (x .0) in
+      let q = piece-fits (p .walk) l (x .1) in
       (l, q .0, q .1)
     where
-      of-first : (i : ℕ) → i < walkCount N → In p (firstPart N Q i) → p .walk < walkCount N
-      of-first i l k = rw (first-walk N Q i p k) l
-
-      by-twin : (t : Bool) → eqb (asked N Q .twin) none ≡ t → In p (cond t [] (firstPart N Q (asked N Q .twin))) → p .walk < walkCount N
-      by-twin true e k = absurd k
-      by-twin false e k = of-first (asked N Q .twin) (paired N (ok .tables) (Q .walk) (ok .query .walk-low) (eqb-false (asked N Q .twin) none e) .0) k
-
-      firsts : In p (firstPart N Q (Q .walk)) ⊎ In p (cond (eqb (asked N Q .twin) none) [] (firstPart N Q (asked N Q .twin))) → p .walk < walkCount N
-      firsts (inl k) = of-first (Q .walk) (ok .query .walk-low) k
-      firsts (inr k) = by-twin (eqb (asked N Q .twin) none) refl k
-
-      go : In p (firstParts N Q) ⊎ In p (flatMap (partsAt N Q) S) → p .walk < walkCount N
-      go (inl k) = firsts (firsts-cases N Q p k)
-      go (inr k) =
-          let x = flat-in (partsAt N Q) S p k in
-          let y = joined-in (λ i. cond (eqb (walk N i .to) (x .0 .vertex)) (partAt N Q (x .0 .distance) i) []) (walkCount N) p (x .2) in
-          rw (at-walk N Q (x .0) (y .0) p (y .2)) (y .1)
+      on-table : (p .walk ≡ Q .walk) ⊎ ((p .walk ≡ asked N Q .twin) × (asked N Q .twin ≢ none)) ⊎ (p .walk < walkCount N) → p .walk < walkCount N
+      on-table (inl e) = rw e (ok .query .walk-low)
+      on-table (inr (inl e)) = rw (e .0) (paired N (ok .tables) (Q .walk) (ok .query .walk-low) (e .1) .0)
+      on-table (inr (inr l)) = l
 
       piece-fits : (i : ℕ) → i < walkCount N → {a z : ℕ} → Piece (network N Q) (ways N Q) (allowed Q) S (road N Q i) a z → (a ≤ z) × (z ≤ walk N i .len)
       piece-fits i l (first q) = (omega arith, sound N Q ok i l .on)
@@ -141,7 +141,7 @@ at-most-one : {A : Type 0} (t : Bool) (x : A) → (length (cond t (x ∷ []) [])
 at-most-one true x = (omega arith, omega arith)
 at-most-one false x = (omega arith, omega arith)
 
-part-most : (i a b : ℕ) → length (part i a b) ≤ 1
+pub part-most : (i a b : ℕ) → length (part i a b) ≤ 1
 unfolding part
 part-most i a b = let p : Part = record { walk = i; start = a; end = b } in at-most-one (eqb a b) p .1
 
@@ -170,48 +170,49 @@ split-one S x out some v = go (test v (x .vertex))
     go (same e) = omega (arith, is-one (lt-ltb (x .distance) none some), is-zero (le-ltb (distanceIn S v) none (rw e out)))
     go (other q) = omega arith
 
-module _ (N : Tables) (Q : Query) where
-  at-most : (x : Settled) → length (partsAt N Q x) ≤ count (λ i. eqb (walk N i .to) (x .vertex)) (walkCount N)
-  unfolding partsAt partAt
-  at-most x =
-      joined-most (λ i. cond (eqb (walk N i .to) (x .vertex)) (partAt N Q (x .distance) i) []) (λ i. eqb (walk N i .to) (x .vertex)) (walkCount N)
-      (λ i l. go (eqb (walk N i .to) (x .vertex)) i)
-    where
-      go : (t : Bool) (i : ℕ) → length (cond t (part i (laterStart N Q (x .distance) i) (walk N i .len)) []) ≤ one t
-      go true i = part-most i (laterStart N Q (x .distance) i) (walk N i .len)
-      go false i = omega arith
+-- At each settled vertex no more than one part of each walk with that end, so no more in all than there are walks.
+parts-by-most : (n : ℕ) (end : ℕ → ℕ) (at : ℕ → ℕ → List Part) → ((d i : ℕ) → length (at d i) ≤ 1) → (S : List Settled) → Distinct S
+    → length (flatMap (partsBy n end at) S) ≤ count (λ i. within (distanceIn S) (end i)) n
+unfolding flatMap
+parts-by-most n end at one-each [] h = omega arith
+parts-by-most n end at one-each (x ∷ S) h =
+    omega (
+      arith,
+      length-append (partsBy n end at x) (flatMap (partsBy n end at) S),
+      joined-most (λ i. cond (eqb (end i) (x .vertex)) (at (x .distance) i) []) (λ i. eqb (end i) (x .vertex)) n (λ i l. go (eqb (end i) (x .vertex)) i),
+      parts-by-most n end at one-each S (h .2),
+      count-join (λ i. within (distanceIn (x ∷ S)) (end i)) (λ i. eqb (end i) (x .vertex)) (λ i. within (distanceIn S) (end i)) n
+          (λ i l. split-one S x (h .0) (h .1) (end i)),
+    )
+  where
+    go : (t : Bool) (i : ℕ) → length (cond t (at (x .distance) i) []) ≤ one t
+    go true i = one-each (x .distance) i
+    go false i = omega arith
 
-  -- each walk arrives at one vertex
-  parts-of-most : (S : List Settled) → Distinct S → length (flatMap (partsAt N Q) S) ≤ count (λ i. within (distanceIn S) (walk N i .to)) (walkCount N)
-  unfolding flatMap
-  parts-of-most [] h = omega arith
-  parts-of-most (x ∷ S) h =
-      omega (
-        arith,
-        length-append (partsAt N Q x) (flatMap (partsAt N Q) S),
-        at-most x,
-        parts-of-most S (h .2),
-        count-join (λ i. within (distanceIn (x ∷ S)) (walk N i .to)) (λ i. eqb (walk N i .to) (x .vertex)) (λ i. within (distanceIn S) (walk N i .to)) (walkCount N)
-            (λ i l. split-one S x (h .0) (h .1) (walk N i .to)),
-      )
+-- And with those of step 0.
+pub list-most : (n : ℕ) (end : ℕ → ℕ) (at : ℕ → ℕ → List Part) (start : ℕ → List Part) (e t : ℕ) → ((d i : ℕ) → length (at d i) ≤ 1) → ((i : ℕ) → length (start i) ≤ 1)
+    → (S : List Settled) → Distinct S → length (twoOf start e t ++ flatMap (partsBy n end at) S) ≤ n + 2
+list-most n end at start e t one-each one-start S h =
+    omega (
+      arith,
+      length-append (twoOf start e t) (flatMap (partsBy n end at) S),
+      length-append (start e) (cond (eqb t none) [] (start t)),
+      one-start e,
+      twin (eqb t none),
+      parts-by-most n end at one-each S h,
+      count-most (λ i. within (distanceIn S) (end i)) n,
+    )
+  where
+    twin : (b : Bool) → length (cond b [] (start t)) ≤ 1
+    twin true = omega arith
+    twin false = one-start t
 
-  -- No more parts are written than there are walks, and two for the query's road.
-  pub parts-most : (S : List Settled) → Distinct S → length (partList N Q S) ≤ walkCount N + 2
-  unfolding partList firstParts firstPart
-  parts-most S h =
-      omega (
-        arith,
-        length-append (firstParts N Q) (flatMap (partsAt N Q) S),
-        length-append (firstPart N Q (Q .walk)) (cond (eqb (asked N Q .twin) none) [] (firstPart N Q (asked N Q .twin))),
-        part-most (Q .walk) (firstStart N Q (Q .walk)) (near N Q (Q .walk)),
-        twin (eqb (asked N Q .twin) none),
-        parts-of-most S h,
-        count-most (λ i. within (distanceIn S) (walk N i .to)) (walkCount N),
-      )
-    where
-      twin : (t : Bool) → length (cond t [] (part (asked N Q .twin) (firstStart N Q (asked N Q .twin)) (near N Q (asked N Q .twin)))) ≤ 1
-      twin true = omega arith
-      twin false = part-most (asked N Q .twin) (firstStart N Q (asked N Q .twin)) (near N Q (asked N Q .twin))
+-- No more parts are written than there are walks, and two for the query's road.
+pub parts-most : (N : Tables) (Q : Query) (S : List Settled) → Distinct S → length (partList N Q S) ≤ walkCount N + 2
+unfolding partList partsAt partAt firstParts firstPart
+parts-most N Q S h =
+    list-most (walkCount N) (λ i. walk N i .to) (partAt N Q) (firstPart N Q) (Q .walk) (asked N Q .twin)
+    (λ d i. part-most i (laterStart N Q d i) (walk N i .len)) (λ i. part-most i (firstStart N Q i) (near N Q i)) S h
 
 -- The order, and each beginning of it, gives each vertex one distance.
 pub distinct : (G : Network) (distance : ℕ → ℕ → Type 0) (D : ℕ) → D < none → (S l : List Settled) → Follows G distance D S l → (k : ℕ) → Distinct (take k l)

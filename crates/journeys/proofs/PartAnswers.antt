@@ -1,9 +1,9 @@
 -- The parts operation: what may be assumed of an input that is not refused, and its three ways to end. Assumes nothing.
 use mathlib.Core.Path.{_≡_, refl, sym, ap, subst, _∙_}
 use mathlib.Core.Logic.{⊎-elim, _≢_, _↔_}
-use mathlib.Core.Bool.{Bool, true, false, _&&_, _||_}
+use mathlib.Core.Bool.{true, _&&_, _||_}
 use mathlib.Core.List.{List, [], _∷_, _++_, flatMap, append-assoc}
-use Prim.Native.Nat.{ℕ, zero, suc, _+_, _*_, _/_, _≤_, _<_}
+use Prim.Native.Nat.{ℕ, zero, suc, _+_, _/_, _≤_, _<_}
 use native.Mathlib.Omega.{arith}
 use lib.Dec.{eqb, leb, ltb}
 use lib.ListN.{length, take}
@@ -15,12 +15,13 @@ use Rattle.journeys.specs.Tables.{vertexCount}
 use Rattle.journeys.specs.Query.{Query, allowed}
 use Rattle.journeys.specs.Order.{Settled, settled}
 use Rattle.journeys.specs.Parts.{Part, firstParts, partsAt, partList}
-use Rattle.journeys.specs.Lists.{allows, named, vertexIn, distanceAt, entryOk, listRefusal, settledIn}
-use Rattle.journeys.specs.Refusals.{Refusal, unless, tableLengths, contents, queryRefusal}
-use Rattle.journeys.specs.PartAnswers.{PartsLent, PartsAnswer, partsTables, listLengths, partsEarly, PartsRoom, partsTo, partsRoomAt, partsRoom, partsRefused, partsAccepted, partsAnswer}
+use Rattle.journeys.specs.Lists.{allows, vertexIn, distanceAt, entryOk, listRefusal, settledIn}
+use Rattle.journeys.specs.Refusals.{Refusal, tableLengths, contents, queryRefusal}
+use Rattle.journeys.specs.ListAnswers.{partsToFor, PartsRoomFor, partsRoomAtFor, partsRoomFor, partsRefusedFor, partsAcceptedFor, partsAnswerFor}
+use Rattle.journeys.specs.PartAnswers.{PartsLent, partsTables, listLengths, partsEarly, PartsRoom, partsTo, partsRoomAt, partsRoom, partsRefused, partsAccepted, partsAnswer}
 use Rattle.journeys.proofs.Tests.{cond-true, cond-false, and-both, or-cases, le-or-lt}
 use Rattle.journeys.proofs.Counting.{length-joined, flat-snoc}
-use Rattle.journeys.proofs.Refusals.{or-fine, unless-fine, unless-good, unless-bad, bad-fine, from-fine, from-none, from-first}
+use Rattle.journeys.proofs.Refusals.{or-fine, unless-fine, unless-good, unless-bad, bad-fine, from-none, from-first}
 use Rattle.journeys.proofs.Valid.{lengths-valid, query-valid, allowed-high}
 use Rattle.journeys.specs.Valid.{Valid}
 
@@ -77,44 +78,68 @@ module _ (b : PartsLent) (Q : Query) (e : partsEarly b Q .number ≡ 0) where
             (or-cases (eqb (allowed Q) none) _ (q .1)),
       )
 
--- ---- the three ways to end
-module _ (b : PartsLent) (Q : Query) where
+-- ---- the three ways to end, by the parts that the list gives and what is refused before them
+module _ (partsOf : List Settled → List Part) (list parts : List ℕ) (early : Refusal) where
   abbrev m : ℕ
-  m = length (settledIn (b .list))
+  m = length (settledIn list)
 
-  room-is : (k : ℕ) → (partsRoomAt b Q k .number ≡ 0) ↔ PartsRoom b Q k
-  unfolding partsRoomAt
+  room-is : (k : ℕ) → (partsRoomAtFor partsOf list parts k .number ≡ 0) ↔ PartsRoomFor partsOf list parts k
+  unfolding partsRoomAtFor
   room-is k = (
-    λ e. leb-true _ _ (unless-fine (leb (length (partsTo b Q k)) (length (b .parts) / 12)) 10 k (omega arith) e),
+    λ e. leb-true _ _ (unless-fine (leb (length (partsToFor partsOf list k)) (length parts / 12)) 10 k (omega arith) e),
     λ h. ap (λ (r : Refusal). r .number) (unless-good _ 10 k (le-leb _ _ h)),
   )
 
-  above : (k : ℕ) → (PartsRoom b Q k → ⊥) → length (b .parts) / 12 < length (partsTo b Q k)
-  above k x = ⊎-elim (λ (h : length (partsTo b Q k) ≤ length (b .parts) / 12). absurd (x h)) (λ (h : length (b .parts) / 12 < length (partsTo b Q k)). h) (le-or-lt (length (partsTo b Q k)) (length (b .parts) / 12))
+  above : (k : ℕ) → (PartsRoomFor partsOf list parts k → ⊥) → length parts / 12 < length (partsToFor partsOf list k)
+  above k x =
+      ⊎-elim (λ (h : length (partsToFor partsOf list k) ≤ length parts / 12). absurd (x h)) (λ (h : length parts / 12 < length (partsToFor partsOf list k)). h)
+      (le-or-lt (length (partsToFor partsOf list k)) (length parts / 12))
 
-  -- Refusals 1 to 7 and 21.
-  pub parts-refused : partsEarly b Q .number ≢ 0 → partsAnswer b Q ≡ partsRefused b Q (partsEarly b Q) (b .parts)
-  unfolding partsAnswer
-  parts-refused x = cond-false _ (partsRefused b Q (partsEarly b Q) (b .parts)) (ne-eqb (partsEarly b Q .number) 0 x)
+  -- What is refused before the parts.
+  pub refused-before : early .number ≢ 0 → partsAnswerFor partsOf list parts early ≡ partsRefusedFor early parts
+  unfolding partsAnswerFor
+  refused-before x = cond-false _ (partsRefusedFor early parts) (ne-eqb (early .number) 0 x)
 
   -- Refusal 10, at the first entry whose parts do not fit.
-  pub parts-short : partsEarly b Q .number ≡ 0 → (k : ℕ) → k ≤ m → (PartsRoom b Q k → ⊥) → ((j : ℕ) → j < k → PartsRoom b Q j)
-      → partsAnswer b Q ≡ partsRefused b Q (record { number = 10; place = k }) (cleared (b .parts))
-  unfolding partsAnswer partsRoom partsRoomAt
-  parts-short e k l x before =
-      let at : partsRoom b Q ≡ partsRoomAt b Q k = from-first (partsRoomAt b Q) (m + 1) 0 k (omega arith) (omega arith) (λ z. x (room-is k .0 z)) (λ j a c. room-is j .1 (before j c)) in
-      let is : partsRoomAt b Q k ≡ record { number = 10; place = k } = unless-bad _ 10 k (lt-leb _ _ (above k x)) in
-      cond-true _ (partsRefused b Q (partsEarly b Q) (b .parts)) (eq-eqb (partsEarly b Q .number) 0 e)
-      ∙ cond-false (partsAccepted b Q) _ (ne-eqb (partsRoom b Q .number) 0 (λ z. omega (arith, ap (λ (r : Refusal). r .number) (at ∙ is))))
-      ∙ ap (λ (r : Refusal). partsRefused b Q r (cleared (b .parts))) (at ∙ is)
+  pub refused-short : early .number ≡ 0 → (k : ℕ) → k ≤ m → (PartsRoomFor partsOf list parts k → ⊥) → ((j : ℕ) → j < k → PartsRoomFor partsOf list parts j)
+      → partsAnswerFor partsOf list parts early ≡ partsRefusedFor (record { number = 10; place = k }) (cleared parts)
+  unfolding partsAnswerFor partsRoomFor partsRoomAtFor
+  refused-short e k l x before =
+      let at : partsRoomFor partsOf list parts ≡ partsRoomAtFor partsOf list parts k =
+      from-first (partsRoomAtFor partsOf list parts) (m + 1) 0 k (omega arith) (omega arith) (λ z. x (room-is k .0 z)) (λ j a c. room-is j .1 (before j c)) in
+      let is : partsRoomAtFor partsOf list parts k ≡ record { number = 10; place = k } = unless-bad _ 10 k (lt-leb _ _ (above k x)) in
+      cond-true _ (partsRefusedFor early parts) (eq-eqb (early .number) 0 e)
+      ∙ cond-false (partsAcceptedFor partsOf list parts) _ (ne-eqb (partsRoomFor partsOf list parts .number) 0 (λ z. omega (arith, ap (λ (r : Refusal). r .number) (at ∙ is))))
+      ∙ ap (λ (r : Refusal). partsRefusedFor r (cleared parts)) (at ∙ is)
 
   -- Every part fits.
-  pub parts-fit : partsEarly b Q .number ≡ 0 → ((j : ℕ) → j ≤ m → PartsRoom b Q j) → partsAnswer b Q ≡ partsAccepted b Q
-  unfolding partsAnswer partsRoom
-  parts-fit e room =
-      let at : partsRoom b Q .number ≡ 0 = ap (λ (r : Refusal). r .number) (from-none (partsRoomAt b Q) (m + 1) 0 (λ j a c. room-is j .1 (room j (omega arith)))) in
-      cond-true _ (partsRefused b Q (partsEarly b Q) (b .parts)) (eq-eqb (partsEarly b Q .number) 0 e)
-      ∙ cond-true (partsAccepted b Q) _ (eq-eqb (partsRoom b Q .number) 0 at)
+  pub all-fits : early .number ≡ 0 → ((j : ℕ) → j ≤ m → PartsRoomFor partsOf list parts j) → partsAnswerFor partsOf list parts early ≡ partsAcceptedFor partsOf list parts
+  unfolding partsAnswerFor partsRoomFor
+  all-fits e room =
+      let at : partsRoomFor partsOf list parts .number ≡ 0 =
+      ap (λ (r : Refusal). r .number) (from-none (partsRoomAtFor partsOf list parts) (m + 1) 0 (λ j a c. room-is j .1 (room j (omega arith)))) in
+      cond-true _ (partsRefusedFor early parts) (eq-eqb (early .number) 0 e)
+      ∙ cond-true (partsAcceptedFor partsOf list parts) _ (eq-eqb (partsRoomFor partsOf list parts .number) 0 at)
+
+-- For given tables and a query.
+module _ (b : PartsLent) (Q : Query) where
+  -- The ordinary answer is that for the ordinary parts.
+  pub ordinary-parts : partsAnswer b Q ≡ partsAnswerFor (partList (partsTables b) Q) (b .list) (b .parts) (partsEarly b Q)
+  unfolding partsAnswer partsAnswerFor partsRoom partsRoomFor partsRoomAt partsRoomAtFor partsRefused partsRefusedFor partsAccepted partsAcceptedFor
+  ordinary-parts = refl
+
+  pub parts-refused : partsEarly b Q .number ≢ 0 → partsAnswer b Q ≡ partsRefused b Q (partsEarly b Q) (b .parts)
+  unfolding partsAnswer partsAnswerFor partsRoom partsRoomFor partsRoomAt partsRoomAtFor partsRefused partsRefusedFor partsAccepted partsAcceptedFor
+  parts-refused = refused-before (partList (partsTables b) Q) (b .list) (b .parts) (partsEarly b Q)
+
+  pub parts-short : partsEarly b Q .number ≡ 0 → (k : ℕ) → k ≤ length (settledIn (b .list)) → (PartsRoom b Q k → ⊥) → ((j : ℕ) → j < k → PartsRoom b Q j)
+      → partsAnswer b Q ≡ partsRefused b Q (record { number = 10; place = k }) (cleared (b .parts))
+  unfolding partsAnswer partsAnswerFor partsRoom partsRoomFor partsRoomAt partsRoomAtFor partsRefused partsRefusedFor partsAccepted partsAcceptedFor
+  parts-short = refused-short (partList (partsTables b) Q) (b .list) (b .parts) (partsEarly b Q)
+
+  pub parts-fit : partsEarly b Q .number ≡ 0 → ((j : ℕ) → j ≤ length (settledIn (b .list)) → PartsRoom b Q j) → partsAnswer b Q ≡ partsAccepted b Q
+  unfolding partsAnswer partsAnswerFor partsRoom partsRoomFor partsRoomAt partsRoomAtFor partsRefused partsRefusedFor partsAccepted partsAcceptedFor
+  parts-fit = all-fits (partList (partsTables b) Q) (b .list) (b .parts) (partsEarly b Q)
 
 -- The parts of one entry more stand behind those before it.
 pub parts-next : (b : PartsLent) (Q : Query) (i : ℕ) → i < length (b .list) / 8

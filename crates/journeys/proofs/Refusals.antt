@@ -12,7 +12,10 @@ use Rattle.journeys.specs.Counting.{In}
 use Rattle.journeys.specs.Query.{Query}
 use Rattle.journeys.specs.Order.{Settled}
 use Rattle.journeys.specs.Refusals.{Refusal, fine, unless, orElse, chain, firstFrom, firstBad}
-use Rattle.journeys.specs.Answers.{Lent, heldAfter, roomAt, roomUpTo, Room}
+use Rattle.journeys.specs.Network.{Network}
+use Rattle.journeys.specs.Records.{network}
+use Rattle.journeys.specs.RunAnswers.{heldFor, RoomFor, roomFor, roomUpToFor, acceptedFor, lateFor, answerFor}
+use Rattle.journeys.specs.Answers.{Lent, tables, refusedLate, roomAt, roomUpTo, Room, acceptedAfter, answerOver}
 use Rattle.journeys.proofs.Tests.{split, cond-true, cond-false, same-or-below}
 
 pub or-fine : (a b : Refusal) → orElse a b .number ≡ 0 → (a .number ≡ 0) × (b .number ≡ 0)
@@ -105,38 +108,57 @@ bad-first number good n i l h e before =
     from-first (λ i. unless (good i) number i) n 0 i (omega arith) (omega arith) some
     (λ j a b. ap (λ (r : Refusal). r .number) (unless-good (good j) number j (before j b))) ∙ q
 
--- ---- room
-module _ (b : Lent) (Q : Query) (l : List Settled) where
-  pub room-is : (k : ℕ) → (roomAt b Q l k .number ≡ 0) ↔ Room b Q l k
-  unfolding roomAt
-  room-is k = (there, back)
+-- ---- room, over any network
+module _ (G : Network) (held settled : List ℕ) (l : List Settled) where
+  pub roomFor-is : (k : ℕ) → (roomFor G held settled l k .number ≡ 0) ↔ RoomFor G held settled l k
+  unfolding roomFor
+  roomFor-is k = (there, back)
     where
-      held : Bool
-      held = leb (length (heldAfter b Q l k)) (length (b .held) / 16)
+      table : Bool
+      table = leb (length (heldFor G l k)) (length held / 16)
 
       listed : Bool
-      listed = leb (length (take k l)) (length (b .settled) / 8)
+      listed = leb (length (take k l)) (length settled / 8)
 
-      there : orElse (unless held 8 k) (unless listed 9 k) .number ≡ 0 → Room b Q l k
+      there : orElse (unless table 8 k) (unless listed 9 k) .number ≡ 0 → RoomFor G held settled l k
       there e =
-          let x = or-fine (unless held 8 k) _ e in
-          (leb-true _ _ (unless-fine held 8 k (omega arith) (x .0)), leb-true _ _ (unless-fine listed 9 k (omega arith) (x .1)))
+          let x = or-fine (unless table 8 k) _ e in
+          (leb-true _ _ (unless-fine table 8 k (omega arith) (x .0)), leb-true _ _ (unless-fine listed 9 k (omega arith) (x .1)))
 
-      back : Room b Q l k → orElse (unless held 8 k) (unless listed 9 k) .number ≡ 0
+      back : RoomFor G held settled l k → orElse (unless table 8 k) (unless listed 9 k) .number ≡ 0
       back r =
-          let p = unless-good held 8 k (le-leb _ _ (r .0)) in
+          let p = unless-good table 8 k (le-leb _ _ (r .0)) in
           let q = unless-good listed 9 k (le-leb _ _ (r .1)) in
-          ap (λ (z : Refusal). z .number) (or-next (unless held 8 k) _ (ap (λ (z : Refusal). z .number) p) ∙ q)
+          ap (λ (z : Refusal). z .number) (or-next (unless table 8 k) _ (ap (λ (z : Refusal). z .number) p) ∙ q)
 
   -- Room is refused exactly when a table or list would be larger than lent after one of the steps made.
-  pub room-exactly : (k : ℕ) → (roomUpTo b Q l k .number ≡ 0) ↔ ((j : ℕ) → j ≤ k → Room b Q l j)
-  unfolding roomUpTo
-  room-exactly k = (
-    λ e j h. room-is j .0 (from-fine (roomAt b Q l) (k + 1) 0 e j (omega arith) (omega arith)),
-    λ h. ap (λ (z : Refusal). z .number) (from-none (roomAt b Q l) (k + 1) 0 (λ j a c. room-is j .1 (h j (omega arith)))),
+  pub roomFor-exactly : (k : ℕ) → (roomUpToFor G held settled l k .number ≡ 0) ↔ ((j : ℕ) → j ≤ k → RoomFor G held settled l j)
+  unfolding roomUpToFor
+  roomFor-exactly k = (
+    λ e j h. roomFor-is j .0 (from-fine (roomFor G held settled l) (k + 1) 0 e j (omega arith) (omega arith)),
+    λ h. ap (λ (z : Refusal). z .number) (from-none (roomFor G held settled l) (k + 1) 0 (λ j a c. roomFor-is j .1 (h j (omega arith)))),
   )
 
   -- And then the earliest such step gives the refusal.
+  pub roomFor-first : (k j : ℕ) → j ≤ k → (RoomFor G held settled l j → ⊥) → ((i : ℕ) → i < j → RoomFor G held settled l i) → roomUpToFor G held settled l k ≡ roomFor G held settled l j
+  unfolding roomUpToFor
+  roomFor-first k j h n before = from-first (roomFor G held settled l) (k + 1) 0 j (omega arith) (omega arith) (λ e. n (roomFor-is j .0 e)) (λ i a c. roomFor-is i .1 (before i c))
+
+-- The same for the run over given tables.
+module _ (b : Lent) (Q : Query) (l : List Settled) where
+  pub room-is : (k : ℕ) → (roomAt b Q l k .number ≡ 0) ↔ Room b Q l k
+  unfolding roomAt roomFor
+  room-is = roomFor-is (network (tables b) Q) (b .held) (b .settled) l
+
+  pub room-exactly : (k : ℕ) → (roomUpTo b Q l k .number ≡ 0) ↔ ((j : ℕ) → j ≤ k → Room b Q l j)
+  unfolding roomUpTo roomUpToFor roomAt roomFor
+  room-exactly = roomFor-exactly (network (tables b) Q) (b .held) (b .settled) l
+
   pub room-first : (k j : ℕ) → j ≤ k → (Room b Q l j → ⊥) → ((i : ℕ) → i < j → Room b Q l i) → roomUpTo b Q l k ≡ roomAt b Q l j
-  unfolding roomUpTo
-  room-first k j h n before = from-first (roomAt b Q l) (k + 1) 0 j (omega arith) (omega arith) (λ e. n (room-is j .0 e)) (λ i a c. room-is i .1 (before i c))
+  unfolding roomUpTo roomUpToFor roomAt roomFor
+  room-first = roomFor-first (network (tables b) Q) (b .held) (b .settled) l
+
+-- The ordinary run is the run over the ordinary network.
+pub ordinary-run : (b : Lent) (Q : Query) (l : List Settled) (limit : ℕ) → answerOver b Q l limit ≡ answerFor (network (tables b) Q) (b .held) (b .settled) l limit
+unfolding answerOver answerFor roomUpTo roomUpToFor roomAt roomFor acceptedAfter acceptedFor refusedLate lateFor
+ordinary-run b Q l limit = refl

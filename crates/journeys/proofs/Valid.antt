@@ -1,6 +1,6 @@
 -- What is not refused is valid, and what a valid record says. Assumes nothing.
 use mathlib.Core.Path.{_≡_, sym, subst}
-use mathlib.Core.Logic.{⊎-elim, _≢_}
+use mathlib.Core.Logic.{_⊎_, inl, inr, ⊎-elim, _↔_, _≢_}
 use mathlib.Core.Bool.{true, _&&_}
 use mathlib.Core.List.{List}
 use Prim.Native.Nat.{ℕ, _+_, _-_, _*_, _/_, _≤_, _<_}
@@ -9,9 +9,9 @@ use native.Mathlib.Omega.{arith}
 use lib.Dec.{eqb, leb, ltb}
 use lib.ListN.{length}
 use borrow.Author.Tests.{leb-true, ltb-true, eqb-true, eqb-false, not-true}
-use Rattle.journeys.specs.Counting.{none}
+use Rattle.journeys.specs.Counting.{none, count}
 use Rattle.journeys.specs.Bytes.{midnight}
-use Rattle.journeys.specs.Tables.{Tables, tablesOf, vertexCount, walkCount, hopCount, walk, hop}
+use Rattle.journeys.specs.Tables.{Tables, tablesOf, vertexCount, walkCount, hopCount, vertex, walk, hop}
 use Rattle.journeys.specs.Query.{Query, ticks, asked, allowed}
 use Rattle.journeys.specs.Refusals.{unless, firstBad, wholeOf, hopSizeOk, tableOf, tableLengths, bufferLengths, endsOk, lengthOk, waitOk, pairOk, walkOk, hopOk, walkAscends, hopAscends, vertexOk, contents, queryRefusal, check}
 use Rattle.journeys.specs.Valid.{ValidTables, ValidQuery, Valid}
@@ -175,6 +175,16 @@ module _ (N : Tables) (ok : ValidTables N) where
   pub good-hop : (j : ℕ) → j < hopCount N → GoodHop N j
   good-hop j l = hop-says N j (ok .hops j l)
 
+-- The firsts of a good vertex are the numbers of records with a smaller "to".
+pub good-firsts : (N : Tables) → ValidTables N → (v : ℕ) → v < vertexCount N
+    → (vertex N v .firstWalk ≡ count (λ i. ltb (walk N i .to) v) (walkCount N)) × (vertex N v .firstHop ≡ count (λ j. ltb (hop N j .to) v) (hopCount N))
+unfolding vertexOk
+good-firsts N ok v l =
+    let a = and-both (eqb (vertex N v .firstWalk) (count (λ i. ltb (walk N i .to) v) (walkCount N)) && eqb (vertex N v .firstHop) (count (λ j. ltb (hop N j .to) v) (hopCount N)) && _) _ (ok .vertices v l) in
+    let b = and-both (eqb (vertex N v .firstWalk) (count (λ i. ltb (walk N i .to) v) (walkCount N)) && eqb (vertex N v .firstHop) (count (λ j. ltb (hop N j .to) v) (hopCount N))) _ (a .0) in
+    let c = and-both (eqb (vertex N v .firstWalk) (count (λ i. ltb (walk N i .to) v) (walkCount N))) _ (b .0) in
+    (eqb-true _ _ (c .0), eqb-true _ _ (c .1))
+
 -- the twin of a record: the same road the other way
 pub record Paired (N : Tables) (i j : ℕ) : Type 0 where
   pub back : walk N j .twin ≡ i
@@ -193,6 +203,16 @@ twin-says N i ok n =
 
 pub paired : (N : Tables) → ValidTables N → (i : ℕ) → i < walkCount N → walk N i .twin ≢ none → (walk N i .twin < walkCount N) × Paired N i (walk N i .twin)
 paired N ok i l n = twin-says N i (ok .walks i l) n
+
+-- What two facts have in common on every place inside a record they have in common on a road with a twin, told by either record.
+pub on-either : (N : Tables) → ValidTables N → (A B : ℕ → ℕ → Type 0) → ((i x : ℕ) → i < walkCount N → 0 < x → x < walk N i .len → A i x ↔ B i x)
+    → (i x : ℕ) → i < walkCount N → walk N i .twin ≢ none → 0 < x → x < walk N i .len
+    → (A i x ⊎ A (walk N i .twin) (walk N i .len - x)) ↔ (B i x ⊎ B (walk N i .twin) (walk N i .len - x))
+on-either N ok A B same i x il n x0 xl =
+    let p = paired N ok i il n in
+    let here = same i x il x0 xl in
+    let there = same (walk N i .twin) (walk N i .len - x) (p .0) (omega arith) (omega (arith, p .1 .len)) in
+    (λ c. ⊎-elim (λ a. inl (here .0 a)) (λ a. inr (there .0 a)) c, λ c. ⊎-elim (λ a. inl (here .1 a)) (λ a. inr (there .1 a)) c)
 
 -- D is some, and far below none
 pub allowed-some : {N : Tables} {Q : Query} → ValidQuery N Q → 1 ≤ allowed Q

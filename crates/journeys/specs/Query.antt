@@ -24,6 +24,10 @@ allowed Q = ticks Q (Q .duration)
 abbrev pub before : Query → ℕ → ℕ
 before Q second = ticks Q (Q .arrival - second)
 
+-- how many ticks after T, which is then the departure, a second lies that is not before T
+abbrev pub after : Query → ℕ → ℕ
+after Q second = ticks Q (second - Q .arrival)
+
 -- the record e of the query, and its twin
 abbrev pub asked : Tables → Query → Walk
 asked N Q = walk N (Q .walk)
