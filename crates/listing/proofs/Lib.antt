@@ -1,3 +1,4 @@
 pub mod PlaceLaws
 pub mod Froms
 pub mod Laying
+pub mod Determined
