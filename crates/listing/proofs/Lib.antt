@@ -1,0 +1,4 @@
+pub mod PlaceLaws
+pub mod Froms
+pub mod Laying
+pub mod Determined
