@@ -75,10 +75,9 @@ pub fn all() -> Vec<(Case, Said)> {
     all.push(to_and_fro(MOST_HOPS + 1, MOST_HOPS, Said::Whole(Err((17, 0)))));
     all.push(to_and_fro(20_000, 0, Said::Whole(Err((17, 0)))));
     for shuffled in [false, true] {
-        // No two stops in a row are one vertex, so each line but the first of a trip has its hop.
         let feed = city(30_000, 300, 800, shuffled);
-        all.push((feed.case(&mut Rng::new(3, 0), 29_200), Said::Refusal((0, 0))));
-        all.push((feed.case(&mut Rng::new(3, 0), 29_199), Said::Whole(Err((17, 0)))));
+        all.push((feed.case(&mut Rng::new(3, 0), feed.hops()), Said::Refusal((0, 0))));
+        all.push((feed.case(&mut Rng::new(3, 0), feed.hops() - 1), Said::Whole(Err((17, 0)))));
     }
     all
 }

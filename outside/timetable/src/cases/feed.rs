@@ -105,12 +105,19 @@ impl Feed {
     }
 }
 
+impl Feed {
+    /// The hops of a feed whose timed stops all have one but the first of each trip.
+    pub fn hops(&self) -> usize {
+        self.rows.iter().filter(|row| !row.arrival.is_empty()).count() - self.trips.len()
+    }
+}
+
 pub fn clock(seconds: u32) -> String {
     format!("{:02}:{:02}:{:02}", seconds / 3_600, seconds / 60 % 60, seconds % 60)
 }
 
-/// A feed of a size: so many lines, stops and trips, each trip as many minutes long as it has stops, in the order of the
-/// trips or in any other.
+/// A feed of a size: so many lines, stops (ten at least) and trips, in the order of the trips or in any other. Every seventh
+/// stop of a trip is untimed; no two timed stops behind one another are the same, so that each but a trip's first has its hop.
 pub fn city(lines: usize, stops: usize, trips: usize, shuffled: bool) -> Feed {
     let mut rng = Rng::new(3, (lines + stops + trips) as u64);
     let mut rows = Vec::with_capacity(lines);
@@ -118,10 +125,10 @@ pub fn city(lines: usize, stops: usize, trips: usize, shuffled: bool) -> Feed {
         let count = lines / trips + usize::from(trip < lines % trips);
         let (mut at, mut second) = (rng.below(stops), rng.range(4 * 3_600, 24 * 3_600) as u32);
         for sequence in 1..=count {
-            let arrival = clock(second);
-            let departure = clock(second + rng.below(30) as u32);
+            let timed = sequence % 7 != 4 || sequence == count;
+            let [arrival, departure] = [second, second + rng.below(30) as u32].map(|second| if timed { clock(second) } else { String::new() });
             rows.push(Row { trip: format!("T{trip:06}"), arrival, departure, stop: format!("stop-{at:05}"), sequence: sequence.to_string(), more: String::new() });
-            at = (at + 1 + rng.below(stops - 1)) % stops;
+            at = (at + 1 + rng.below(stops / 3)) % stops;
             second += 60 + rng.below(120) as u32;
         }
     }
