@@ -1,20 +1,21 @@
-//! `timetable self|mutants|make|judge [SEED [CASES]|hand|big]`: the timetable of RULES 26 judged from outside. `make` writes cases for the driver
-//! and `judge` reads what the library answered. `hand` are the cases with a told answer, `big` the large ones; those of a seed stand behind all others but these. The last line is 'N passed, M failed'.
+//! `timetable self|mutants|make|judge [SEED [CASES]|hand|big|room]`: the timetable of RULES 26 judged from outside. `make` writes cases for the driver
+//! and `judge` reads what the library answered. `hand` are the cases with a told answer, `big` the large ones, `room` those with more lines or ids than a memory; those of a seed stand behind all others but these. The last line is 'N passed, M failed'.
 
 use std::io::{self, Write};
 use std::process::exit;
 
 use timetable::call::{Case, Outcome};
-use timetable::cases::{big, every_line, fixed, made::made, told, Said};
+use timetable::cases::{big, every_line, fixed, made::made, room, told, Said};
 use timetable::plain::{self, RIGHT};
 use timetable::{exchange, quick, wrong};
 
-const USAGE: &str = "timetable self|mutants|make|judge [SEED [CASES]|hand|big]";
+const USAGE: &str = "timetable self|mutants|make|judge [SEED [CASES]|hand|big|room]";
 
 /// The cases that a command is about.
 enum Asked {
     Hand,
     Big,
+    Room,
     Seed(u64, u64),
 }
 
@@ -22,6 +23,7 @@ fn cases(asked: &Asked) -> Box<dyn Iterator<Item = (Case, Said)>> {
     match *asked {
         Asked::Hand => Box::new(fixed::all().into_iter().chain(every_line::all())),
         Asked::Big => Box::new(big::all().into_iter()),
+        Asked::Room => Box::new(room::all().into_iter()),
         Asked::Seed(seed, count) => Box::new(told().into_iter().chain((0..count).map(move |i| (made(seed, i), Said::Nothing)))),
     }
 }
@@ -56,7 +58,7 @@ fn own(asked: &Asked) -> Counts {
     for (case, said) in cases(asked) {
         let right = quick::answered(&case);
         counts.note(said.agrees(&case, &right), || println!("{case:?}\nnot as it is told\n{right:?}"));
-        if !matches!(asked, Asked::Big) {
+        if !matches!(asked, Asked::Big | Asked::Room) {
             counts.compare(&case, &right, &plain::answered(&case, &RIGHT));
         }
     }
@@ -101,6 +103,7 @@ fn asked(words: &[String]) -> Option<Asked> {
     match words.first().map(String::as_str) {
         Some("hand") => Some(Asked::Hand),
         Some("big") => Some(Asked::Big),
+        Some("room") => Some(Asked::Room),
         _ => Some(Asked::Seed(given(0, 1)?, given(1, 20_000)?)),
     }
 }

@@ -70,6 +70,11 @@ wrong! {
     "OneRecordMore": most_records = RIGHT.most_records + 1;
     "OneRecordLess": most_records = RIGHT.most_records - 1;
     "LengthLast": lengths_come_first = false;
+    "IdsBeyondUnknown": ids_of_a_list = 250;
+    "StopsByTheHundred": stops_of_a_trip = 100;
+    "RepeatsByTheHundred": stops_for_repeats = 100;
+    "JudgedWithinRoom": judged_beyond_room = false;
+    "RoomForLines": room_is_for_hops = false;
 }
 
 /// The wrong version of a name.

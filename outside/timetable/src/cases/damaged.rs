@@ -25,7 +25,14 @@ const SHORT: [&[u8]; 3] = [
     b"x,9\n",
 ];
 
-const FEEDS: [[&[u8]; 3]; 3] = [EXAMPLE, CARRIED, SHORT];
+/// One route several times, its trips mixed and under one number; two ids of one stop.
+const FREQUENT: [&[u8]; 3] = [
+    b"trip_id,stop_sequence,stop_id,departure_time,arrival_time\nr1,0,a,8:00:00,\nr2,0,a,8:10:00,\nr1,1,b,8:04:30,8:04:00\nr3,0,a,8:20:00,\nr2,1,b,,\nr3,1,B,8:24:00,8:24:00\nr1,2,c,,8:09:00\nr3,2,c,,8:24:00\nr2,2,c,,8:19:00\nr1,3,C,,8:09:00\n",
+    b"a,4\nb,2\nc,9\nB,2\nC,9\n",
+    b"r3,77\nr2,77\nr1,77\n",
+];
+
+const FEEDS: [[&[u8]; 3]; 4] = [EXAMPLE, CARRIED, SHORT, FREQUENT];
 
 const BYTES: [u8; 13] = [b',', b'"', b'\r', b'\n', b'0', b'1', b'9', b':', b' ', b'x', b'_', 0, 0xff];
 

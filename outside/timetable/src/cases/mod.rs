@@ -1,4 +1,4 @@
-//! Cases: the ones written out by hand, feeds damaged at every byte, each refusal at every line, large ones, and those of a seed.
+//! Cases: the ones written out by hand, feeds damaged at every byte, each refusal at every line, large ones, more lines and ids than there is room for, and those of a seed.
 
 pub mod big;
 pub mod damaged;
@@ -6,6 +6,7 @@ pub mod every_line;
 pub mod feed;
 pub mod fixed;
 pub mod made;
+pub mod room;
 #[cfg(test)]
 mod tests;
 
@@ -35,5 +36,5 @@ impl Said {
 
 /// Every case that does not depend on a seed, the large ones left out.
 pub fn told() -> Vec<(Case, Said)> {
-    [fixed::all(), every_line::all(), damaged::all()].into_iter().flatten().collect()
+    [fixed::all(), every_line::all(), room::small(), damaged::all()].into_iter().flatten().collect()
 }

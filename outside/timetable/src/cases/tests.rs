@@ -13,9 +13,8 @@ fn refusal(outcome: &Outcome) -> Refusal {
 /// What is written out by hand tells every wrong version, without a seed.
 #[test]
 fn told_cases_catch_every_wrong_version() {
-    let all: Vec<(Case, Outcome)> = [fixed::all(), every_line::all(), damaged::all()]
+    let all: Vec<(Case, Outcome)> = told()
         .into_iter()
-        .flatten()
         .filter(|(_, said)| !matches!(said, Said::Nothing))
         .map(|(case, _)| (quick::answered(&case), case))
         .map(|(right, case)| (case, right))
