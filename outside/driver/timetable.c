@@ -7,12 +7,6 @@
 #define MOST_SLICES 5
 #include "slices.h"
 
-uint32_t siltbrow_timetable(const uint8_t *stop_times, size_t stop_times_len,
-                            const uint8_t *stops, size_t stops_len,
-                            const uint8_t *trips, size_t trips_len,
-                            uint8_t *hops, size_t hops_len,
-                            uint8_t *answer, size_t answer_len);
-
 enum { CASE = 1 };
 
 enum { STOP_TIMES, STOPS, TRIPS, HOPS, ANSWER, SLICES };
