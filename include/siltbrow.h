@@ -8,7 +8,8 @@
  *
  * Below the calls stand names for the numbers used here, and a few inline
  * functions for the bytes. examples/streets.c is one query, examples/server.c
- * answers many at once from threads.
+ * answers many at once from threads, examples/timetable.c begins with an
+ * operator's timetable.
  *
  * The tables are big-endian records of fixed size with no header, numbered
  * from 0. Times are signed seconds from midnight of the service day; all other
@@ -286,6 +287,66 @@
  * They are judged in this order. Refusals 1 to 7, 19 and 20 change no byte of
  * held, settled and report; 8 and 9 leave the three zero.
  *
+ * siltbrow_timetable makes hops of 20 bytes from an operator's timetable. It
+ * reads three texts, of any bytes and any length, and fills a target.
+ *
+ *   stop_times: a GTFS file stop_times.txt. Lines end in LF or CRLF, the last
+ *               perhaps in neither; empty ones are passed over. Fields have
+ *               commas between them; one that begins with a quote (") ends at
+ *               the next, and two quotes inside it are one. Line 1 names the
+ *               columns: trip_id, stop_id, arrival_time, departure_time and
+ *               stop_sequence once each, in any order, among any others.
+ *               Times are H:MM:SS or HH:MM:SS up to 47:59:59, or blank: one
+ *               given time stands for both, and a stop with none is passed
+ *               over. The lines of a trip may stand anywhere; its stops are
+ *               ordered by stop_sequence, a number of 32 bits.
+ *   stops:      lines of a stop id and its vertex, up to 65,535; no header
+ *   trips:      lines of a trip id and its number of 32 bits, 0 for unknown;
+ *               in both lists the first line of an id counts. Several ids may
+ *               have one number, and are several trips.
+ *   hops:       20 bytes a record: for each timed stop of a trip and the next
+ *               timed one a hop, or none where both are one vertex; in
+ *               ascending order of "to", then of the line of the departure.
+ *               What is left of the target is zero.
+ *
+ * The hops are in the order that the tables ask for, so that refusal 5 never
+ * comes of them; nor does 3, where every vertex of the list of stops is one of
+ * the tables. The vertex table is the caller's to make: first arriving hops
+ * and departing records count them (examples/timetable.c).
+ *
+ * There are fewer hops than line ends: siltbrow_timetable_room gives bytes that
+ * are enough wherever 262,144 hops are.
+ *
+ * The answer is one more slice, of 12 bytes: three numbers of 4 bytes each,
+ * big-endian.
+ *
+ *   refusal, place: both 0 where nothing is refused
+ *   hop count: the records written; 0 in a refusal
+ *
+ * It returns 0, for a refusal too. Where the answer slice is not 12 bytes it
+ * returns 1 and writes nothing at all.
+ *
+ *   refusal 1:  the target is no whole number of records of 20 bytes, or has
+ *               more than 262,144 (place: 2)
+ *   refusal 29: a line of stops is not an id and a vertex, or, where all of
+ *               these are, a line of trips is not an id and a number (place:
+ *               its line, counted from 1 with the empty ones, as all lines)
+ *   refusal 12: line 1 of stop_times lacks one of the five columns or has one
+ *               twice (1)
+ *   refusal 13: a line has stray or open quotes, another number of fields than
+ *               line 1, a bad time, or no sequence of 32 bits (the line)
+ *   refusal 14: the stop or the trip of a line is not in its list (the line)
+ *   refusal 15: an earlier line of the trip has the sequence (the line)
+ *   refusal 16: the first or last stop of a trip has no time, or times fall: a
+ *               departure before the arrival at that stop, or an arrival
+ *               before the departure of the timed stop before it (the line of
+ *               the stop, of two that of the later one in the trip)
+ *   refusal 17: there are more hops than the target can take (0)
+ *
+ * They are judged in this order, each over the whole file before the next, and
+ * of one number the lowest line is given. Refusal 1 changes no byte of the
+ * target, the others leave it zero.
+ *
  * Until it returns, a call uses its buffers, its target and its answer alone:
  * they overlap neither one another nor what the call reads.
  *
@@ -303,8 +364,14 @@
  * - One held record for each vertex keeps the search fast on any tables. With
  *   less room tables can be made on which a run takes over a second.
  * - A frame of 65,536 entries takes about a millisecond.
+ * - A timetable is read in time that grows with its lines and their logarithm,
+ *   in whatever order they stand, where the target has a record for each of
+ *   them or nearly. With far less room, as where few hops are to be expected of
+ *   many lines, the file is read many times.
  * - A call uses less than 8 KB of stack, 4,096 bytes of them for its arrays;
- *   siltbrow_judge less than 264 KB, 256 KB of them for an array.
+ *   siltbrow_judge less than 264 KB, 256 KB of them for an array;
+ *   siltbrow_timetable less than 144 KB, TO-FILL bytes of them for its arrays,
+ *   whatever the texts: a line of a million fields takes no more.
  * - The library is code for x86-64 Linux. It needs memset and nothing else.
  *   siltbrow_frame compares floats: call it with denormal numbers as they are,
  *   not taken for zero (the bit DAZ of MXCSR, which -ffast-math can set).
@@ -319,6 +386,7 @@
 /* The second number moves where a call changes, the third where only the
  * inside does; the first becomes 1 when all calls are there.
  *
+ * 0.11: siltbrow_timetable is new, and with it refusals 12 to 17 and 29.
  * 0.10: siltbrow_patients is new, and with it refusals 19 and 20.
  * 0.9: siltbrow_runs is new.
  * 0.8: siltbrow_judge is new, and with it refusals 25 to 28.
@@ -340,9 +408,9 @@
  *      refusal 10 is gone from it; siltbrow_parts makes the parts. A page that
  *      shows streets calls it with the records that the run has settled.
  * 0.2: siltbrow_frame is new. */
-#define SILTBROW_VERSION "0.10.0"
+#define SILTBROW_VERSION "0.11.0"
 #define SILTBROW_VERSION_MAJOR 0
-#define SILTBROW_VERSION_MINOR 10
+#define SILTBROW_VERSION_MINOR 11
 #define SILTBROW_VERSION_PATCH 0
 
 #ifdef __cplusplus
@@ -409,10 +477,16 @@ uint32_t siltbrow_patients(const uint8_t *vertices, size_t vertices_len,
                            uint8_t *report, size_t report_len,
                            uint8_t *answer, size_t answer_len);
 
+uint32_t siltbrow_timetable(const uint8_t *stop_times, size_t stop_times_len,
+                            const uint8_t *stops, size_t stops_len,
+                            const uint8_t *trips, size_t trips_len,
+                            uint8_t *hops, size_t hops_len,
+                            uint8_t *answer, size_t answer_len);
+
 /* The bytes of each record, of an entry of siltbrow_judge, of a query of
  * siltbrow_runs, of a count of patients or a figure of their report, of a point
- * of the coordinate table, of the answer of a run, a frame or an evening, and of
- * that of siltbrow_parts. */
+ * of the coordinate table, of the answer of a run, a frame or an evening, of
+ * that of siltbrow_parts, and of that of siltbrow_timetable. */
 #define SILTBROW_VERTEX_SIZE 12u
 #define SILTBROW_WALK_SIZE 16u
 #define SILTBROW_HOP_SIZE 16u
@@ -426,6 +500,7 @@ uint32_t siltbrow_patients(const uint8_t *vertices, size_t vertices_len,
 #define SILTBROW_POINT_SIZE 8u
 #define SILTBROW_ANSWER_SIZE 24u
 #define SILTBROW_PARTS_ANSWER_SIZE 12u
+#define SILTBROW_TIMETABLE_ANSWER_SIZE 12u
 
 /* "None" as a distance, and "no twin". */
 #define SILTBROW_NONE 0xFFFFFFFFu
@@ -455,7 +530,7 @@ uint32_t siltbrow_patients(const uint8_t *vertices, size_t vertices_len,
 /* The refusals: 1 to 6 of the check; 1 to 9 of a run, one or many; 1 to 7, 21 and 10 of
  * parts; 1, 21, 23 and 24 of a frame; 1 of a move, and 11 where it goes
  * backward; 1 to 7 and 25 to 28 of siltbrow_judge; 1 to 7, 19, 20, 8 and 9 of
- * siltbrow_patients. */
+ * siltbrow_patients; 1, 29 and 12 to 17 of siltbrow_timetable. */
 #define SILTBROW_ACCEPTED 0u
 #define SILTBROW_BAD_LENGTH 1u
 #define SILTBROW_BAD_WALK 2u
@@ -468,6 +543,12 @@ uint32_t siltbrow_patients(const uint8_t *vertices, size_t vertices_len,
 #define SILTBROW_SETTLED_ROOM 9u
 #define SILTBROW_PART_ROOM 10u
 #define SILTBROW_KNOWN_TRIP 11u
+#define SILTBROW_BAD_COLUMNS 12u
+#define SILTBROW_BAD_LINE 13u
+#define SILTBROW_UNKNOWN_ID 14u
+#define SILTBROW_SEQUENCE_REPEATED 15u
+#define SILTBROW_BAD_STOP 16u
+#define SILTBROW_HOP_ROOM 17u
 #define SILTBROW_TOO_MANY_PATIENTS 19u
 #define SILTBROW_BAD_EVENING 20u
 #define SILTBROW_BAD_ENTRY 21u
@@ -477,6 +558,7 @@ uint32_t siltbrow_patients(const uint8_t *vertices, size_t vertices_len,
 #define SILTBROW_LISTED_DISTANCE 26u
 #define SILTBROW_LISTED_RECORD 27u
 #define SILTBROW_BETTER_OFFER 28u
+#define SILTBROW_BAD_ID_LINE 29u
 
 /* The bytes of a list, from the settled count of a run: what siltbrow_parts and
  * siltbrow_frame are given of the settled buffer. */
@@ -518,6 +600,13 @@ typedef struct siltbrow_parts_answer {
     uint32_t place;
     uint32_t parts;
 } siltbrow_parts_answer;
+
+/* The answer of siltbrow_timetable. */
+typedef struct siltbrow_timetable_answer {
+    uint32_t refusal;
+    uint32_t place;
+    uint32_t hops;
+} siltbrow_timetable_answer;
 
 /* The answer of siltbrow_frame. */
 typedef struct siltbrow_frame_answer {
@@ -588,6 +677,26 @@ static inline siltbrow_parts_answer siltbrow_read_parts(const uint8_t *bytes)
     answer.place = siltbrow_get(bytes + 4);
     answer.parts = siltbrow_get(bytes + 8);
     return answer;
+}
+
+/* The answer in the 12 bytes that siltbrow_timetable has filled. */
+static inline siltbrow_timetable_answer siltbrow_read_timetable(const uint8_t *bytes)
+{
+    siltbrow_timetable_answer answer;
+    answer.refusal = siltbrow_get(bytes);
+    answer.place = siltbrow_get(bytes + 4);
+    answer.hops = siltbrow_get(bytes + 8);
+    return answer;
+}
+
+/* The bytes of a target that takes the hops of a stop_times.txt: a record for
+ * each line end, and no more than a hop table may have. */
+static inline size_t siltbrow_timetable_room(const uint8_t *stop_times, size_t stop_times_len)
+{
+    size_t records = 0;
+    for (size_t i = 0; i < stop_times_len && records < SILTBROW_MAX_HOPS; i++)
+        records += stop_times[i] == '\n';
+    return records * SILTBROW_HOP_WITH_TRIP_SIZE;
 }
 
 /* The answer in the 24 bytes that siltbrow_frame has filled. */
@@ -679,6 +788,12 @@ static inline const char *siltbrow_refusal_text(uint32_t refusal)
     case SILTBROW_SETTLED_ROOM: return "there is too little room for settled records";
     case SILTBROW_PART_ROOM: return "there is too little room for parts";
     case SILTBROW_KNOWN_TRIP: return "a hop's trip is known, and 16 bytes have no place for it";
+    case SILTBROW_BAD_COLUMNS: return "line 1 of the stop times lacks a column or has one twice";
+    case SILTBROW_BAD_LINE: return "a line of the stop times has wrong quotes, another number of fields than line 1, a bad time or no sequence";
+    case SILTBROW_UNKNOWN_ID: return "a stop or a trip is not in its list";
+    case SILTBROW_SEQUENCE_REPEATED: return "an earlier line of the trip has the sequence";
+    case SILTBROW_BAD_STOP: return "the first or last stop of a trip has no time, or times fall";
+    case SILTBROW_HOP_ROOM: return "there is too little room for hops";
     case SILTBROW_TOO_MANY_PATIENTS: return "a vertex has more than 65,535 patients";
     case SILTBROW_BAD_EVENING: return "the gap, the number of arrivals or the last arrival is outside its limits";
     case SILTBROW_BAD_ENTRY: return "an entry of the list names no vertex, one that an earlier entry has or, for parts, a distance above the duration";
@@ -688,6 +803,7 @@ static inline const char *siltbrow_refusal_text(uint32_t refusal)
     case SILTBROW_LISTED_DISTANCE: return "an entry of a bought list has a distance above the duration";
     case SILTBROW_LISTED_RECORD: return "an entry of a bought list names a record that does not give its distance from an earlier entry";
     case SILTBROW_BETTER_OFFER: return "a vertex can be nearer than a bought list says, or is missing there";
+    case SILTBROW_BAD_ID_LINE: return "a line of the stops is not an id and a vertex, or one of the trips not an id and a number";
     default: return "there is no such refusal";
     }
 }
@@ -715,6 +831,12 @@ static inline const char *siltbrow_place_text(uint32_t refusal)
     case SILTBROW_BAD_EVENING: return "field: 0 gap, 1 number of arrivals, 2 last arrival";
     case SILTBROW_TOO_MANY_PATIENTS:
     case SILTBROW_BAD_POINT: return "vertex";
+    case SILTBROW_BAD_COLUMNS:
+    case SILTBROW_BAD_LINE:
+    case SILTBROW_UNKNOWN_ID:
+    case SILTBROW_SEQUENCE_REPEATED:
+    case SILTBROW_BAD_STOP: return "line of the stop times";
+    case SILTBROW_BAD_ID_LINE: return "line of the list";
     default: return "nothing";
     }
 }

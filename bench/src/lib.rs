@@ -26,3 +26,4 @@ pub mod room;
 pub mod speed;
 pub mod stall;
 pub mod stalling;
+pub mod timetables;

@@ -2,6 +2,7 @@
 
 use bench::frames::Framer;
 use bench::program::Program;
+use bench::timetables::Reader;
 use outside::records::{Evening, Lent, Query, Tables, Way};
 
 macro_rules! declared {
@@ -22,6 +23,19 @@ extern "C" {
         list_len: usize,
         coordinates: *const u8,
         coordinates_len: usize,
+        answer: *mut u8,
+        answer_len: usize,
+    ) -> u32;
+
+    fn siltbrow_timetable(
+        stop_times: *const u8,
+        stop_times_len: usize,
+        stops: *const u8,
+        stops_len: usize,
+        trips: *const u8,
+        trips_len: usize,
+        hops: *mut u8,
+        hops_len: usize,
         answer: *mut u8,
         answer_len: usize,
     ) -> u32;
@@ -148,6 +162,26 @@ impl Framer for Linked {
                 l.len(),
                 c.as_ptr(),
                 c.len(),
+                answer.as_mut_ptr(),
+                answer.len(),
+            )
+        }
+    }
+}
+
+impl Reader for Linked {
+    fn timetable(&self, t: &[u8], s: &[u8], i: &[u8], hops: &mut [u8], answer: &mut [u8]) -> u32 {
+        // SAFETY: each pair is a whole slice; the two written to are borrowed alone.
+        unsafe {
+            siltbrow_timetable(
+                t.as_ptr(),
+                t.len(),
+                s.as_ptr(),
+                s.len(),
+                i.as_ptr(),
+                i.len(),
+                hops.as_mut_ptr(),
+                hops.len(),
                 answer.as_mut_ptr(),
                 answer.len(),
             )

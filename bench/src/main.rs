@@ -1,5 +1,5 @@
-//! `bench speed ROUNDS [PAGE]`, `bench evening ROUNDS` and `bench figures PAGE
-//! FOLDER`.
+//! `bench speed ROUNDS [PAGE]`, `bench evening ROUNDS`, `bench timetable ROUNDS`
+//! and `bench figures PAGE FOLDER`.
 
 mod linked;
 
@@ -8,12 +8,13 @@ use std::path::Path;
 use std::process::ExitCode;
 
 use bench::{bought, checks, evening, figures, frames, growth, hubs, limit, machine, many, moves};
-use bench::{page, patients, speed, stall};
+use bench::{page, patients, speed, stall, timetables};
 use linked::Linked;
 
 const USAGE: &str = "usage:
   bench speed ROUNDS [PAGE]     times of the library and of both programs in Rust
   bench evening ROUNDS          the evening load alone
+  bench timetable ROUNDS        the reader of timetables alone
   bench figures PAGE FOLDER     how many vertices are held, as numbers and pictures";
 
 /// The product is for x86-64; elsewhere its module is compiled once more.
@@ -31,6 +32,7 @@ fn main() -> ExitCode {
             counted(rounds).and_then(|rounds| measure(rounds, rest.first().copied()))
         }
         ["evening", rounds] => counted(rounds).and_then(evening),
+        ["timetable", rounds] => counted(rounds).and_then(timetable),
         ["figures", page, folder] => draw(page, folder),
         _ => Err(USAGE.to_string()),
     };
@@ -71,6 +73,13 @@ fn evening(rounds: usize) -> Result<(), String> {
     Ok(())
 }
 
+/// Prints the rows of the timetables.
+fn timetable(rounds: usize) -> Result<(), String> {
+    let heading = heading(rounds);
+    print!("{heading}\n{}", timetables::table(&Linked, rounds)?);
+    Ok(())
+}
+
 /// Prints the times; puts them in a page where one is named, and the picture of
 /// growth in the folder `figures` beside it.
 fn measure(rounds: usize, page: Option<&str>) -> Result<(), String> {
@@ -93,6 +102,7 @@ fn measure(rounds: usize, page: Option<&str>) -> Result<(), String> {
         bought::table(&Linked, rounds)?,
         many::table(&Linked, rounds)?,
         patients::table(&Linked, rounds)?,
+        timetables::table(&Linked, rounds)?,
     ]
     .join("\n");
     let report = format!("{report}\n{}", verdict(&report));

@@ -437,9 +437,51 @@ static void frame_test(void)
     count(siltbrow_frame(vertices, sizeof vertices, list, l, points, p, bytes, sizeof bytes - 1) == 1 && bytes[0] == 7, "an answer that is too short");
 }
 
+/* The hops of a timetable of two stops, in a target of so many bytes. */
+static siltbrow_timetable_answer timetable(const char *times, const char *stops, const char *trips, uint8_t *target, size_t target_len)
+{
+    uint8_t bytes[SILTBROW_TIMETABLE_ANSWER_SIZE];
+    memset(target, 7, target_len);
+    (void)siltbrow_timetable((const uint8_t *)times, strlen(times), (const uint8_t *)stops, strlen(stops), (const uint8_t *)trips, strlen(trips),
+                             target, target_len, bytes, sizeof bytes);
+    return siltbrow_read_timetable(bytes);
+}
+
+static void read_refused(siltbrow_timetable_answer answer, uint32_t refusal, uint32_t place, const uint8_t *target, uint8_t left, const char *what)
+{
+    count(answer.refusal == refusal && answer.place == place && answer.hops == 0 && target[0] == left && target[SILTBROW_HOP_WITH_TRIP_SIZE] == left, what);
+}
+
+#define HEADER "trip_id,arrival_time,departure_time,stop_id,stop_sequence\n"
+#define RIDE "x,9:00:00,,A,1\nx,9:05:00,,B,2\n"
+
+static void timetable_test(void)
+{
+    static const char *const lines = HEADER RIDE, *const ab = "A,0\nB,1\n";
+    uint8_t target[2 * SILTBROW_HOP_WITH_TRIP_SIZE], bytes[SILTBROW_TIMETABLE_ANSWER_SIZE] = {7};
+    size_t t = sizeof target;
+    count(siltbrow_timetable_room((const uint8_t *)lines, strlen(lines)) == 3 * SILTBROW_HOP_WITH_TRIP_SIZE, "a record for each line end");
+    siltbrow_timetable_answer answer = timetable(lines, ab, "x,1001", target, t);
+    count(answer.refusal == SILTBROW_ACCEPTED && answer.place == 0 && answer.hops == 1, "the hop of two stops");
+    count(siltbrow_get(target) == 0 && siltbrow_get(target + 4) == 1 && siltbrow_get_time(target + 8) == 32400 && siltbrow_get_time(target + 12) == 32700
+              && siltbrow_get_trip(target) == 1001 && target[SILTBROW_HOP_WITH_TRIP_SIZE] == 0 && target[t - 1] == 0, "its bytes, and zeros behind it");
+    moved(siltbrow_check(vertices, sizeof vertices, walks, sizeof walks, target, SILTBROW_HOP_WITH_TRIP_SIZE, SILTBROW_HOP_WITH_TRIP_SIZE), SILTBROW_BAD_VERTEX, 0,
+          "the hop is good, and the vertices are those of other hops");
+    read_refused(timetable(lines, ab, "x,1001", target, t - 1), SILTBROW_BAD_LENGTH, 2, target, 7, "a cut record");
+    read_refused(timetable(lines, "A\n", "x", target, t), SILTBROW_BAD_ID_LINE, 1, target, 0, "a stop without a vertex");
+    read_refused(timetable(lines, ab, "y,1\nx,4294967296", target, t), SILTBROW_BAD_ID_LINE, 2, target, 0, "a trip of 33 bits");
+    read_refused(timetable("trip_id\n" RIDE, ab, "x,1", target, t), SILTBROW_BAD_COLUMNS, 1, target, 0, "columns are missing");
+    read_refused(timetable(HEADER "\nx,48:00:00,,A,1\n", ab, "x,1", target, t), SILTBROW_BAD_LINE, 3, target, 0, "a bad time, behind an empty line");
+    read_refused(timetable(lines, "A,0", "x,1", target, t), SILTBROW_UNKNOWN_ID, 3, target, 0, "an unknown stop");
+    read_refused(timetable(HEADER RIDE RIDE, ab, "x,1", target, t), SILTBROW_SEQUENCE_REPEATED, 4, target, 0, "a sequence twice");
+    read_refused(timetable(HEADER RIDE "x,,,A,3", ab, "x,1", target, t), SILTBROW_BAD_STOP, 4, target, 0, "a last stop without a time");
+    read_refused(timetable(lines, ab, "x,1", target, 0), SILTBROW_HOP_ROOM, 0, target, 0, "no room");
+    count(siltbrow_timetable(NULL, 0, NULL, 0, NULL, 0, NULL, 0, bytes, sizeof bytes - 1) == 1 && bytes[0] == 7, "a timetable's answer that is too short");
+}
+
 static void text_test(void)
 {
-    static const uint32_t refusals[] = {0, 1, 2, 3, 4, 5, 6, 7, 8, 9, 10, SILTBROW_KNOWN_TRIP, SILTBROW_TOO_MANY_PATIENTS, SILTBROW_BAD_EVENING, SILTBROW_BAD_ENTRY, SILTBROW_BAD_POINT, SILTBROW_EMPTY_LIST, 25, 26, 27, 28, 99};
+    static const uint32_t refusals[] = {0, 1, 2, 3, 4, 5, 6, 7, 8, 9, 10, SILTBROW_KNOWN_TRIP, 12, 13, 14, 15, 16, 17, SILTBROW_TOO_MANY_PATIENTS, SILTBROW_BAD_EVENING, SILTBROW_BAD_ENTRY, SILTBROW_BAD_POINT, SILTBROW_EMPTY_LIST, 25, 26, 27, 28, SILTBROW_BAD_ID_LINE, 99};
     char version[32];
     for (size_t a = 0; a < sizeof refusals / sizeof *refusals; a++)
         for (size_t b = 0; b < a; b++)
@@ -465,6 +507,7 @@ int main(void)
     count_test();
     move_test();
     frame_test();
+    timetable_test();
     text_test();
     printf("%u passed, %u failed\n", passed, failed);
     return failed != 0;

@@ -9,7 +9,7 @@
 
 #include "siltbrow.h"
 
-enum { SIDE = 160, VERTICES = SIDE * SIDE, WALKS = 4 * SIDE * (SIDE - 1), STACK = 1 << 20, MOST = 8192, MOST_JUDGE = MOST + (1 << 18) };
+enum { SIDE = 160, VERTICES = SIDE * SIDE, WALKS = 4 * SIDE * (SIDE - 1), STACK = 1 << 20, MOST = 8192, MOST_JUDGE = MOST + (1 << 18), MOST_READING = 147456, FIELDS = 1000000, LINES = 20000, TRIPS = 20000 };
 
 static uint8_t vertices[VERTICES * SILTBROW_VERTEX_SIZE];
 static uint8_t walks[WALKS * SILTBROW_WALK_SIZE];
@@ -166,6 +166,55 @@ static void *backward(void *unused)
     return unused;
 }
 
+/* A line of a million fields, plain and quoted in turn; and many lines, with
+ * their trips in one another, whose ids stand in a long list. */
+static char *wide_text, *long_text, *trip_list;
+static uint8_t ridden[LINES * SILTBROW_HOP_WITH_TRIP_SIZE];
+
+static void make_texts(void)
+{
+    char *at = wide_text = (char *)malloc(8 * FIELDS);
+    at += sprintf(at, "trip_id,arrival_time,departure_time,stop_id,stop_sequence");
+    for (int i = 0; i < FIELDS; i++)
+        at += sprintf(at, i % 2 == 0 ? ",a" : ",\"b\"");
+    sprintf(at, "\n");
+    at = long_text = (char *)malloc(64 * LINES);
+    at += sprintf(at, "trip_id,arrival_time,departure_time,stop_id,stop_sequence\n");
+    for (int i = LINES - 1; i >= 0; i--)
+        at += sprintf(at, "\"t%d\",%02d:%02d:00,,%c,%d\n", i % 100, i / 6000, i / 100 % 60, i / 100 % 2 == 0 ? 'A' : 'B', i);
+    at = trip_list = (char *)malloc(32 * TRIPS);
+    for (int i = 0; i < TRIPS; i++)
+        at += sprintf(at, "t%d,%d\n", i, i);
+}
+
+static void read_text(const char *times, size_t room)
+{
+    static const char stops[] = "A,0\nB,1\n";
+    uint8_t here = 0;
+    top = &here;
+    (void)siltbrow_timetable((const uint8_t *)times, strlen(times), (const uint8_t *)stops, strlen(stops), (const uint8_t *)trip_list, strlen(trip_list),
+                             ridden, room * SILTBROW_HOP_WITH_TRIP_SIZE, answer, SILTBROW_TIMETABLE_ANSWER_SIZE);
+}
+
+static void *read_wide(void *unused)
+{
+    read_text(wide_text, LINES);
+    return unused;
+}
+
+static void *read_long(void *unused)
+{
+    read_text(long_text, LINES);
+    return unused;
+}
+
+/* With less room than there are lines, and hops. */
+static void *read_narrow(void *unused)
+{
+    read_text(long_text, 5);
+    return unused;
+}
+
 /* The bytes below the caller's frame that a call has used. */
 static size_t used(void *(*call)(void *))
 {
@@ -223,10 +272,17 @@ int main(void)
     size_t framing = used(frame);
     int framed = siltbrow_read_frame(answer).refusal == SILTBROW_ACCEPTED;
     size_t moving = used(forward), back = used(backward);
-    printf("a check uses %zu bytes of stack, a run at most %zu, parts at most %zu, a frame %zu, the moves %zu and %zu, judging %zu, queries %zu and %zu, an evening %zu\n", depth, most, covering,
-           framing, moving, back, judging, several, single, reporting);
+    make_texts();
+    size_t wide_line = used(read_wide);
+    int read = siltbrow_read_timetable(answer).refusal == SILTBROW_ACCEPTED;
+    size_t reading = used(read_long);
+    read = read && siltbrow_read_timetable(answer).hops == LINES - 100;
+    size_t in_turn = used(read_narrow);
+    read = read && siltbrow_read_timetable(answer).refusal == SILTBROW_HOP_ROOM;
+    printf("a check uses %zu bytes of stack, a run at most %zu, parts at most %zu, a frame %zu, the moves %zu and %zu, judging %zu, queries %zu and %zu, an evening %zu, a timetable %zu, with little room %zu, with a line of a million fields %zu\n", depth, most, covering,
+           framing, moving, back, judging, several, single, reporting, reading, in_turn, wide_line);
     int good = whole > 0 && framed && depth > 1000 && most > 1000 && covering > 1000 && framing > 1000 && depth < MOST && most < MOST
-               && covering < MOST && framing < MOST && moving < MOST && back < MOST && right && judging < MOST_JUDGE && shared && several < MOST && single < MOST && reached == VERTICES && reporting < MOST && memcmp(narrow, walks, sizeof walks) == 0;
+               && covering < MOST && framing < MOST && moving < MOST && back < MOST && right && judging < MOST_JUDGE && shared && several < MOST && single < MOST && reached == VERTICES && reporting < MOST && read && reading < MOST_READING && in_turn < MOST_READING && wide_line < MOST_READING && memcmp(narrow, walks, sizeof walks) == 0;
     printf("%d passed, %d failed\n", good, !good);
     return !good;
 }

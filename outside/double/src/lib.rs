@@ -1,10 +1,12 @@
 //! A stand-in for the library, made of the judge's own fast program. It shows
 //! that driver and judge work, and says nothing about the library. With
-//! OUTSIDE_MUTANT set it answers as that wrong version does.
+//! OUTSIDE_MUTANT set it answers as that wrong version does; with TIMETABLE_WRONG
+//! it reads timetables as that wrong version of their reader.
 
 use outside::mutant::{Mutant, Sound};
 use outside::outcome::{Fast, Program};
 use outside::records::{Evening, Lent, Query, Tables, Way};
+use timetable::{call, plain, quick, wrong};
 
 /// An argument as C gives it.
 #[derive(Clone, Copy)]
@@ -160,6 +162,23 @@ impl<'a> Call<'a> {
         }
     }
 
+    /// What the quick reader of timetables returns, or the wrong version that is asked for.
+    unsafe fn timetable(&self) -> u32 {
+        let times = self.read("stop_times");
+        let (stops, trips) = (self.read("stops"), self.read("trips"));
+        let (hops, answer) = (self.write("hops"), self.write("answer"));
+        let Some(rules) = wrong_reader() else {
+            return quick::timetable(times, stops, trips, hops, answer);
+        };
+        let mut case = call::Case::new(times, stops, trips, 0);
+        case.hops = hops.to_vec();
+        case.answer = answer.to_vec();
+        let left = plain::answered(&case, rules);
+        hops.copy_from_slice(&left.hops);
+        answer.copy_from_slice(&left.answer);
+        left.value
+    }
+
     /// With DOUBLE_STRAY set to a call, one of its slices, and `before`, `behind`
     /// or `inside`, as in `run held behind`, one byte there is changed: a library
     /// that the driver's guards have to find out.
@@ -188,6 +207,17 @@ impl<'a> Call<'a> {
     }
 }
 
+/// The wrong version of the timetable's reader that is asked for.
+fn wrong_reader() -> Option<&'static plain::Rules> {
+    let name = std::env::var("TIMETABLE_WRONG").ok()?;
+    let rules = wrong::named(&name);
+    if rules.is_none() {
+        eprintln!("double: there is no wrong version {name}");
+        std::process::exit(2)
+    }
+    rules
+}
+
 /// The answer of the fast program, or of the wrong version of it that is asked for.
 ///
 /// # Safety
@@ -197,6 +227,7 @@ unsafe fn answered(name: &str, given: &[(&'static str, Given)]) -> u64 {
     let name = name.trim_start_matches("siltbrow_");
     let call = Call { name, given };
     let returned = match Mutant::from_environment() {
+        _ if name == "timetable" => call.timetable().into(),
         Ok(None) => call.by(Fast(Sound)),
         Ok(Some(mutant)) => call.by(Fast(mutant)),
         Err(message) => {
@@ -220,3 +251,8 @@ macro_rules! exported {
 }
 
 outside::calls!(exported);
+
+exported! { siltbrow_timetable(
+    stop_times: *const u8, stop_times_len: usize, stops: *const u8, stops_len: usize, trips: *const u8, trips_len: usize,
+    hops: *mut u8, hops_len: usize, answer: *mut u8, answer_len: usize
+) -> u32 }
