@@ -5,3 +5,4 @@ pub mod Ids
 pub mod Stops
 pub mod Trips
 pub mod Answers
+pub mod Feeds

@@ -2,9 +2,16 @@
 use mathlib.Core.Bool.{Bool, true, false, cond, _&&_, _||_}
 use mathlib.Core.List.{List, [], _∷_}
 use Prim.Native.Nat.{ℕ, _+_, min}
+use Prim.Native.Char.{code}
+use Prim.Native.String.{String, [] as none-left, _∷_ as _then_}
 use lib.Dec.{eqb}
 use Rattle.journeys.specs.Counting.{none}
 use Rattle.journeys.specs.Refusals.{Refusal, fine, unless, orElse}
+
+-- a text that is written out in these definitions, as bytes
+abbrev pub bytes : String → List ℕ
+bytes none-left = []
+bytes (c then s) = code c ∷ bytes s
 
 unfoldable pub empty : List ℕ → Bool
 empty [] = true

@@ -6,31 +6,26 @@ use lib.Dec.{eqb}
 use lib.ListN.{length, getD, drop}
 use Rattle.journeys.specs.Counting.{none, one}
 use Rattle.journeys.specs.Refusals.{Refusal, unless, orElse}
-use Rattle.feed.specs.Lines.{empty, linesOf, firstBadLine}
+use Rattle.feed.specs.Lines.{bytes, empty, linesOf, firstBadLine}
 use Rattle.feed.specs.Fields.{Row, rowOf, field, same}
 use Rattle.feed.specs.Values.{number, valueOf, timeOrBlank, secondsOf}
 use Rattle.feed.specs.Ids.{known, lineOf, numberOf}
 
 -- ---- the names of the five columns
--- "trip_id"
 abbrev pub tripName : List ℕ
-tripName = 116 ∷ 114 ∷ 105 ∷ 112 ∷ 95 ∷ 105 ∷ 100 ∷ []
+tripName = bytes "trip_id"
 
--- "arrival_time"
 abbrev pub arrivalName : List ℕ
-arrivalName = 97 ∷ 114 ∷ 114 ∷ 105 ∷ 118 ∷ 97 ∷ 108 ∷ 95 ∷ 116 ∷ 105 ∷ 109 ∷ 101 ∷ []
+arrivalName = bytes "arrival_time"
 
--- "departure_time"
 abbrev pub departureName : List ℕ
-departureName = 100 ∷ 101 ∷ 112 ∷ 97 ∷ 114 ∷ 116 ∷ 117 ∷ 114 ∷ 101 ∷ 95 ∷ 116 ∷ 105 ∷ 109 ∷ 101 ∷ []
+departureName = bytes "departure_time"
 
--- "stop_id"
 abbrev pub stopName : List ℕ
-stopName = 115 ∷ 116 ∷ 111 ∷ 112 ∷ 95 ∷ 105 ∷ 100 ∷ []
+stopName = bytes "stop_id"
 
--- "stop_sequence"
 abbrev pub sequenceName : List ℕ
-sequenceName = 115 ∷ 116 ∷ 111 ∷ 112 ∷ 95 ∷ 115 ∷ 101 ∷ 113 ∷ 117 ∷ 101 ∷ 110 ∷ 99 ∷ 101 ∷ []
+sequenceName = bytes "stop_sequence"
 
 -- how many of these fields have a name, and the number of the first that has it, counted on from k
 unfoldable pub times : List ℕ → List (List ℕ) → ℕ

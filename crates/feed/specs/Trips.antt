@@ -1,7 +1,7 @@
 -- Stops in the order of their lines, each on a trip at its sequence: refusals 15 and 16, and the hops. Assumes nothing.
 use mathlib.Core.Bool.{Bool, true, false, not, cond, _&&_, _||_}
 use mathlib.Core.List.{List, [], _∷_, _++_}
-use Prim.Native.Nat.{ℕ, zero, suc}
+use Prim.Native.Nat.{ℕ, zero, suc, _+_, max}
 use lib.Dec.{eqb, ltb}
 use lib.ListN.{length, getD}
 use Rattle.journeys.specs.Counting.{joined}
@@ -14,6 +14,11 @@ use Rattle.feed.specs.Stops.{Stop}
 unfoldable pub some : (ℕ → Bool) → ℕ → Bool
 some p zero = false
 some p (suc n) = some p n || p n
+
+-- a number above every vertex of these stops
+unfoldable pub beyond : List Stop → ℕ
+beyond [] = 0
+beyond (s ∷ S) = max (s .vertex + 1) (beyond S)
 
 abbrev pub noStop : Stop
 noStop = record { line = 0; trip = 0; tripNumber = 0; sequence = 0; vertex = 0; timed = false; arrival = 0; departure = 0 }
@@ -61,12 +66,10 @@ module _ (S : List Stop) where
   unfoldable pub hopTo : ℕ → ℕ → ℕ → List (List ℕ)
   hopTo v p i = cond (eqb (stop i .vertex) v && not (eqb (stop p .vertex) v) && next p i) (hop p i ∷ []) []
 
-  -- to each vertex below m in turn; to one vertex in the order of the lines of departure
+  -- to one vertex in the order of the lines of departure
   unfoldable pub hopsTo : ℕ → List (List ℕ)
   hopsTo v = joined (λ p. joined (hopTo v p) (length S)) (length S)
 
-  unfoldable pub hopsBelow : ℕ → List (List ℕ)
-  hopsBelow m = joined hopsTo m
-
+  -- to each vertex in turn
   unfoldable pub hopsOf : List (List ℕ)
-  hopsOf = hopsBelow 65536
+  hopsOf = joined hopsTo (beyond S)

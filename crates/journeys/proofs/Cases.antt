@@ -50,7 +50,7 @@ unfoldable pub partsTested : List PartsCase → Bool
 unfolding tested
 partsTested cs = every partPasses cs
 
-same-is : (xs ys : List ℕ) → same xs ys ≡ true → xs ≡ ys
+pub same-is : (xs ys : List ℕ) → same xs ys ≡ true → xs ≡ ys
 same-is [] [] e = refl
 same-is [] (y ∷ ys) e = never e refl
 same-is (x ∷ xs) [] e = never e refl
