@@ -1,0 +1,6 @@
+pub mod Steps
+pub mod Stands
+pub mod Onward
+pub mod Rows
+pub mod Reading
+pub mod Passing
