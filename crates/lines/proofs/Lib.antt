@@ -4,3 +4,5 @@ pub mod Onward
 pub mod Rows
 pub mod Reading
 pub mod Passing
+pub mod Lines
+pub mod Spans
