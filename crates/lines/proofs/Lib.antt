@@ -6,3 +6,4 @@ pub mod Reading
 pub mod Passing
 pub mod Lines
 pub mod Spans
+pub mod Passes
