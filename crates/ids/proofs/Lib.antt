@@ -1,0 +1,2 @@
+pub mod Quoteless
+pub mod ListLines

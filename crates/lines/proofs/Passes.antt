@@ -8,7 +8,7 @@ use mathlib.Core.List.{List, [], _∷_}
 use lib.Dec.{eqb}
 use lib.ListN.{length, take, drop, length-drop, drop-of-length-le}
 use lib.Seq.{drop-drop}
-use Rattle.journeys.proofs.Tests.{split, and-right}
+use Rattle.journeys.proofs.Tests.{split, and-right, le-or-lt}
 use Rattle.journeys.specs.Counting.{none}
 use Rattle.journeys.specs.Refusals.{Refusal, fine, unless, orElse}
 use Rattle.feed.specs.Lines.{empty, endsNow, linesOf, place, firstBadLine}
@@ -24,6 +24,17 @@ pub capped : (number : ℕ) (good : List ℕ → Bool) (i : ℕ) (ls : List (Lis
 unfolding firstBadLine
 capped number good i [] h = refl
 capped number good i (l ∷ ls) h = rw (same-place i h, capped number good (i + 1) ls (omega arith)) refl
+
+pub place-is : (i : ℕ) → i ≤ none → place i ≡ i
+unfolding place
+place-is i h = omega arith
+
+-- the number of the next line, as far as 32 bits hold it
+pub next-place : (number : ℕ) (good : List ℕ → Bool) (i : ℕ) (ls : List (List ℕ)) → i ≤ none → firstBadLine number good (i + 1) ls ≡ firstBadLine number good (min (i + 1) none) ls
+next-place number good i ls h =
+    ⊎-elim (λ (k : none ≤ i). let e : min (i + 1) none ≡ i = omega arith in rw e (capped number good i ls k))
+    (λ (k : i < none). let e : min (i + 1) none ≡ i + 1 = omega arith in rw e refl)
+    (le-or-lt none i)
 
 module _ (number : ℕ) (good : List ℕ → Bool) (text : List ℕ) (i at : ℕ) where
   pub pass-over : length text ≤ at → firstBadLine number good i (linesOf (drop at text)) ≡ fine

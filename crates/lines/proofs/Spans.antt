@@ -17,6 +17,7 @@ use Rattle.lines.specs.declared.Stand.the-variants.{Begins, Ended, Broke
 use Rattle.lines.specs.Passing.{plainWidth, quotedWidth, opensAt, plainStop, quotedStop, stand}
 use Rattle.lines.specs.Rows.{rowAt, behind, Stood, undoubled}
 use Rattle.lines.specs.Spans.{spanAt, bytesIn, quotes, paired}
+use Rattle.lines.proofs.Steps.{opens-within, plain-within, quoted-within}
 use Rattle.lines.proofs.Rows.{closing, closingQuote}
 use Rattle.lines.proofs.Reading.{plainBytes, quotedBytes, row-plain, row-quoted, stand-row}
 
@@ -170,7 +171,7 @@ module _ (s : List ℕ) (at : ℕ) where
         ∙ quoted-first (undoubled (quotedBytes s at)) (drop (quotedStop s (at + 1)) s) (rw e at h)
         ∙ ap undoubled (sym (bytes-quoted q))
 
-whole : (s : List ℕ) → rowAt s 0 ≡ rowOf s
+pub whole : (s : List ℕ) → rowAt s 0 ≡ rowOf s
 unfolding rowAt rowOf
 whole s = refl
 
@@ -184,3 +185,10 @@ field-value s n p e h =
     let first : field (rowOf s) n ≡ field (rowAt s p) 0 = at-first s n ∙ ap (λ t. field t 0) (sym (told .2)) in
     let some : 0 < length (rowAt s p .fields) = rw (told .2) (omega (arith, length-drop n (rowAt s 0 .fields), ap (λ t. length (t .fields)) (whole s))) in
     first ∙ span-value s p some
+
+pub span-within : (s : List ℕ) (at : ℕ) (p : Span) → at ≤ length s → p ≡ spanAt s at → (p .start ≤ p .stop) × (p .stop ≤ length s)
+unfolding spanAt
+span-within s at p h e =
+    ⊎-elim (λ (q : opensAt s at ≡ true). rw (e, q) (quoted-within s (at + 1) (omega (arith, opens-within s at q))))
+    (λ (q : opensAt s at ≡ false). rw (e, q) (plain-within s at h))
+    (split (opensAt s at))
