@@ -1,2 +1,2 @@
-pub mod Quoteless
 pub mod ListLines
+pub mod Determined

@@ -7,3 +7,4 @@ pub mod Passing
 pub mod Lines
 pub mod Spans
 pub mod Passes
+pub mod Determined
