@@ -170,7 +170,8 @@ fn quoted(line: &[u8], at: usize, left: usize) -> Stand
     plain(line, next, left - 1)
 }
 
-fn some_fields(line: &[u8], at: usize, left: usize) -> Stand
+// So many fields, the first of which begins at a place; each takes a little stack.
+pub fn some_fields(line: &[u8], at: usize, left: usize) -> Stand
     requires { ⌜ (at ≤ length (now line)) × (0 < left) ⌝ }
     ensures { λ r. ⌜ r ≡ stand (now (line .entry)) left at ⌝ }
 {
