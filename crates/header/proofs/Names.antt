@@ -146,3 +146,24 @@ times-none name fields e = rw e refl
 
 pub times-whole : (name s : List ℕ) → 0 + times name (rowAt s 0 .fields) ≡ times name (rowOf s .fields)
 times-whole name s = rw (whole s) (omega arith)
+
+-- ---- at which field it stands first
+module _ (name f : List ℕ) (k : ℕ) (fields fs : List (List ℕ)) (e : fields ≡ f ∷ fs) where
+  pub column-here : same name f ≡ true → columnFrom name k fields ≡ k
+  unfolding columnFrom
+  column-here q = rw (e, q) refl
+
+  pub column-on : same name f ≡ false → columnFrom name k fields ≡ columnFrom name (k + 1) fs
+  unfolding columnFrom
+  column-on q = rw (e, q) refl
+
+pub column-none : (name : List ℕ) (k : ℕ) (fields : List (List ℕ)) → fields ≡ [] → columnFrom name k fields ≡ k
+unfolding columnFrom
+column-none name k fields e = rw e refl
+
+pub column-whole : (name s : List ℕ) → columnFrom name 0 (rowAt s 0 .fields) ≡ column name (rowOf s)
+unfolding column
+column-whole name s = rw (whole s) refl
+
+pub all-five : {a a′ b b′ c c′ d d′ e e′ : Bool} → a ≡ a′ → b ≡ b′ → c ≡ c′ → d ≡ d′ → e ≡ e′ → (a && b && c && d && e) ≡ (a′ && b′ && c′ && d′ && e′)
+all-five p q r s t = cc

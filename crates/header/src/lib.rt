@@ -5,6 +5,7 @@ use lines::Stand;
 ghost use mathlib.Core.Path.{_≡_};
 ghost use mathlib.Core.Bool.{false};
 ghost use Prim.Native.Nat.{_+_, _-_, _<_, _≤_};
+ghost use lib.Dec.{eqb};
 ghost use lib.ListN.{length, take, drop};
 ghost use Rattle.feed.specs.Fields.{rowOf, field, same};
 ghost use Rattle.feed.specs.Stops.{times, column, columnsOnce};
@@ -71,4 +72,53 @@ pub fn times_named(line: &[u8], name: &[u8]) -> usize
             }
         }
     }
+}
+
+// The number of the first field that has a name; the number of fields where none has it.
+pub fn column_of(line: &[u8], name: &[u8]) -> usize
+    requires { ⌜ quotes (now name) ≡ false ⌝ }
+    ensures { λ r. ⌜ r ≡ column (now (name .entry)) (rowOf (now (line .entry))) ⌝ }
+{
+    let mut at = 0;
+    let mut k: usize = 0;
+    loop {
+        let stand = lines::some_fields(line, at, 1);
+        match stand {
+            Stand::Begins(next) => {
+                if named(line, at, name) {
+                    return k;
+                }
+                at = next;
+                k += 1;
+            }
+            Stand::Ended(_) => {
+                if named(line, at, name) {
+                    return k;
+                }
+                return k + 1;
+            }
+            Stand::Broken(_) => {
+                return k;
+            }
+        }
+    }
+}
+
+fn once(line: &[u8], name: &[u8]) -> bool
+    requires { ⌜ quotes (now name) ≡ false ⌝ }
+    ensures { λ r. ⌜ r ≡ eqb (times (now (name .entry)) (rowOf (now (line .entry)) .fields)) 1 ⌝ }
+{
+    times_named(line, name) == 1
+}
+
+// Each of the five names stands in the line once: otherwise refusal 12.
+pub fn columns_once(line: &[u8]) -> bool
+    ensures { λ r. ⌜ r ≡ columnsOnce (rowOf (now (line .entry))) ⌝ }
+{
+    let trip = once(line, b"trip_id");
+    let arrival = once(line, b"arrival_time");
+    let departure = once(line, b"departure_time");
+    let stop = once(line, b"stop_id");
+    let sequence = once(line, b"stop_sequence");
+    trip & arrival & departure & stop & sequence
 }
