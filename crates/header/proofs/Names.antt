@@ -167,3 +167,26 @@ column-whole name s = rw (whole s) refl
 
 pub all-five : {a a′ b b′ c c′ d d′ e e′ : Bool} → a ≡ a′ → b ≡ b′ → c ≡ c′ → d ≡ d′ → e ≡ e′ → (a && b && c && d && e) ≡ (a′ && b′ && c′ && d′ && e′)
 all-five p q r s t = cc
+
+-- ---- how many there are, and whether the quotes are in order
+module _ (s : List ℕ) (at : ℕ) (h : at ≤ length s) where
+  pub count-goes : (next : ℕ) → stand s 1 at ≡ Begins next → (length (rowAt s at .fields) ≡ 1 + length (rowAt s next .fields)) × (rowAt s next .sound ≡ rowAt s at .sound)
+  count-goes next e = (omega (arith, ap length (goes-field s at h next e .1)), ap (λ u. u .sound) (told s at h e .2))
+
+  pub count-ends : (over : ℕ) → stand s 1 at ≡ Ended over → (length (rowAt s at .fields) ≡ 1) × (rowAt s at .sound ≡ true)
+  count-ends over e = (ap length (last-field s at h over e .0), told s at h e .1)
+
+  pub count-breaks : (over : ℕ) → stand s 1 at ≡ Broken over → (length (rowAt s at .fields) ≡ 0) × (rowAt s at .sound ≡ false)
+  count-breaks over e = (ap length (broken-field s at h over e), told s at h e .1)
+
+pub count-whole : (s : List ℕ) → (0 + length (rowAt s 0 .fields) ≡ length (rowOf s .fields)) × (rowAt s 0 .sound ≡ rowOf s .sound)
+count-whole s = rw (whole s) (omega arith, refl)
+
+-- a name that stands there once stands at one of the fields
+pub column-inside : (name : List ℕ) (k : ℕ) (fields : List (List ℕ)) → times name fields ≡ 1 → columnFrom name k fields < k + length fields
+unfolding times columnFrom
+column-inside name k [] e = absurd (omega arith)
+column-inside name k (f ∷ fs) e =
+    ⊎-elim (λ (q : same name f ≡ true). rw q (omega arith))
+    (λ (q : same name f ≡ false). let z : times name fs ≡ 1 = let y = rw q at e in omega arith in rw q (omega (arith, column-inside name (k + 1) fs z)))
+    (split (same name f))

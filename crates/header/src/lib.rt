@@ -9,6 +9,7 @@ ghost use lib.Dec.{eqb};
 ghost use lib.ListN.{length, take, drop};
 ghost use Rattle.feed.specs.Fields.{rowOf, field, same};
 ghost use Rattle.feed.specs.Stops.{times, column, columnsOnce};
+ghost use Rattle.header.specs.Counted.{Counted};
 ghost use Rattle.lines.specs.Rows.{rowAt};
 ghost use Rattle.lines.specs.Spans.{quotes};
 
@@ -121,4 +122,38 @@ pub fn columns_once(line: &[u8]) -> bool
     let stop = once(line, b"stop_id");
     let sequence = once(line, b"stop_sequence");
     trip & arrival & departure & stop & sequence
+}
+
+// How many fields a line has, up to a quote that breaks it, and whether none does.
+pub struct Fields {
+    pub count: usize,
+    pub sound: bool,
+}
+
+pub fn count_fields(line: &[u8]) -> Fields
+    ensures { λ r. ⌜ Counted (now (line .entry)) r ⌝ }
+{
+    let mut at = 0;
+    let mut k: usize = 0;
+    loop {
+        let stand = lines::some_fields(line, at, 1);
+        match stand {
+            Stand::Begins(next) => {
+                at = next;
+                k += 1;
+            }
+            Stand::Ended(_) => {
+                return Fields {
+                    count: k + 1,
+                    sound: true,
+                };
+            }
+            Stand::Broken(_) => {
+                return Fields {
+                    count: k,
+                    sound: false,
+                };
+            }
+        }
+    }
 }
