@@ -1,6 +1,6 @@
-// The lines of a timetable behind line 1, each a stop of a trip, judged: refusal 13.
-// Promises: the first line that is not good, for columns that were found in line 1, as the definitions of `feed` say.
-// Rests on: lines (`lines`), the fields of a line (`rows`), refusals (`words`).
+// The lines of a timetable, line 1 with its columns and each other a stop of a trip, judged: refusals 12 and 13.
+// Promises: which of them the text has first and at which line, as the definitions of `feed` say.
+// Rests on: lines (`lines`), the fields of a line (`rows`), the columns of line 1 (`header`), refusals (`words`).
 use values::Number;
 use values::Time;
 use words::Refusal;
@@ -11,8 +11,10 @@ ghost use lib.ListN.{length, take, drop};
 ghost use Rattle.feed.specs.Lines.{empty, linesOf, firstBadLine};
 ghost use Rattle.feed.specs.Fields.{rowOf, field};
 ghost use Rattle.feed.specs.Values.{timeOrBlank};
+ghost use Rattle.journeys.specs.Refusals.{orElse};
+ghost use Rattle.feed.specs.Stops.{headerRefusal, linesRefusal};
 ghost use Rattle.words.specs.Told.{told};
-ghost use Rattle.stops.specs.StopLines.{lineGood};
+ghost use Rattle.stops.specs.StopLines.{lineGood, faultBelow};
 
 // A field that is a time, or blank.
 fn time_or_blank(line: &[u8], k: usize) -> bool
@@ -95,4 +97,33 @@ pub fn lines_fault(
         line = ids::next_number(line);
     }
     words::fine()
+}
+
+// Refusals 12 and 13 of a text whose line 1 is a line, and whose other lines begin at a place.
+fn fault_below(line: &[u8], text: &[u8], from: usize) -> Refusal
+    requires { ⌜ from ≤ length (now text) ⌝ }
+    ensures { λ r. ⌜ told r ≡ faultBelow (rowOf (now (line .entry))) (linesOf (drop from (now (text .entry)))) ⌝ }
+{
+    if !header::columns_once(line) {
+        return words::refused(12, 1);
+    }
+    let fields = header::count_fields(line);
+    let count = fields.count;
+    let sound = fields.sound;
+    if !sound {
+        return words::refused(13, 1);
+    }
+    let arrival = header::column_of(line, b"arrival_time");
+    let departure = header::column_of(line, b"departure_time");
+    let sequence = header::column_of(line, b"stop_sequence");
+    lines_fault(text, from, 2, count, arrival, departure, sequence)
+}
+
+// Refusals 12 and 13 of a text.
+pub fn text_fault(text: &[u8]) -> Refusal
+    ensures { λ r. ⌜ told r ≡ orElse (headerRefusal (now (text .entry))) (linesRefusal (now (text .entry))) ⌝ }
+{
+    let stop = lines::line_stop(text, 0);
+    let from = lines::line_next(text, stop);
+    fault_below(&text[..stop], text, from)
 }
