@@ -1,0 +1,6 @@
+pub mod SortedLaws
+pub mod Digits
+pub mod MoveLaws
+pub mod CutLaws
+pub mod SearchLaws
+pub mod Determined
