@@ -1,0 +1,3 @@
+pub mod SomeLaws
+pub mod OrderLaws
+pub mod TimeLaws
