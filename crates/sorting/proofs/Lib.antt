@@ -1,4 +1,5 @@
 pub mod SortedLaws
+pub mod Arranged
 pub mod Digits
 pub mod MoveLaws
 pub mod CutLaws

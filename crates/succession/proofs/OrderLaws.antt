@@ -40,10 +40,10 @@ pub record Ordered (S : List Stop) : Type 0 where
   pub trips : (i j : ℕ) → i < j → j < length S → stop S i .trip ≤ stop S j .trip
   pub sequences : (i j : ℕ) → i < j → j < length S → stop S i .trip ≡ stop S j .trip → stop S i .sequence ≤ stop S j .sequence
 
-divided : (x y : ℕ) → x ≤ y → x / 2 ^ 64 ≤ y / 2 ^ 64
+pub divided : (x y : ℕ) → x ≤ y → x / 2 ^ 64 ≤ y / 2 ^ 64
 divided x y h = omega arith
 
-rests : (x y : ℕ) → x ≤ y → x / 2 ^ 64 ≡ y / 2 ^ 64 → x % 2 ^ 64 ≤ y % 2 ^ 64
+pub rests : (x y : ℕ) → x ≤ y → x / 2 ^ 64 ≡ y / 2 ^ 64 → x % 2 ^ 64 ≤ y % 2 ^ 64
 rests x y h e = omega arith
 
 halved : (x y : ℕ) → x ≤ y → x / 2 ^ 32 ≤ y / 2 ^ 32

@@ -20,28 +20,35 @@ fn lesser(x: u32, y: u32) -> u32
     if x < y { x } else { y }
 }
 
-fn line(b: &[u8], n: usize, i: usize) -> u32
+pub fn line(b: &[u8], n: usize, i: usize) -> u32
     requires { ⌜ (length (now b) ≡ 20 * n) × (i < n) ⌝ }
     ensures { λ r. ⌜ r ≡ stop (stopsIn (recs n (now (b .entry)))) i .line ⌝ }
 {
     (middle(b, n, i) % 4294967296) as u32
 }
 
-fn timed(b: &[u8], n: usize, i: usize) -> bool
+pub fn timed(b: &[u8], n: usize, i: usize) -> bool
     requires { ⌜ (length (now b) ≡ 20 * n) × (i < n) ⌝ }
     ensures { λ r. ⌜ r ≡ stop (stopsIn (recs n (now (b .entry)))) i .timed ⌝ }
 {
     low(b, n, i) / 68719476736 % 2 == 1
 }
 
-fn arrival(b: &[u8], n: usize, i: usize) -> u32
+pub fn vertex(b: &[u8], n: usize, i: usize) -> u32
+    requires { ⌜ (length (now b) ≡ 20 * n) × (i < n) ⌝ }
+    ensures { λ r. ⌜ r ≡ stop (stopsIn (recs n (now (b .entry)))) i .vertex ⌝ }
+{
+    (low(b, n, i) / 1099511627776) as u32
+}
+
+pub fn arrival(b: &[u8], n: usize, i: usize) -> u32
     requires { ⌜ (length (now b) ≡ 20 * n) × (i < n) ⌝ }
     ensures { λ r. ⌜ r ≡ stop (stopsIn (recs n (now (b .entry)))) i .arrival ⌝ }
 {
     (low(b, n, i) / 262144 % 262144) as u32
 }
 
-fn departure(b: &[u8], n: usize, i: usize) -> u32
+pub fn departure(b: &[u8], n: usize, i: usize) -> u32
     requires { ⌜ (length (now b) ≡ 20 * n) × (i < n) ⌝ }
     ensures { λ r. ⌜ r ≡ stop (stopsIn (recs n (now (b .entry)))) i .departure ⌝ }
 {
