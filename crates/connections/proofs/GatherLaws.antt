@@ -16,53 +16,12 @@ use Rattle.journeys.proofs.Tests.{never, split, cond-true, cond-false, and-both
 use Rattle.table_bytes.specs.Columns.{at}
 use Rattle.feed.specs.Stops.{Stop}
 use Rattle.feed.specs.Trips.{stop}
-use Rattle.succession.specs.Entries.{stopIn, stopsIn}
+use Rattle.succession.specs.Entries.{stopIn, stopsIn, lastFrom, lastTimed}
 use Rattle.succession.proofs.OrderLaws.{stop-at}
-use Rattle.connections.specs.Gathered.{lastFrom, lastTimed, hopEntry, ends, hopAt, hopEntries, gatheredIn}
+use Rattle.succession.proofs.TimeLaws.{from-cases, last-step}
+use Rattle.connections.specs.Gathered.{hopEntry, ends, hopAt, hopEntries, gatheredIn}
 
 module _ (S : List Stop) where
-  module _ (i m : ℕ) where
-    pub from-first : i ≡ 0 → lastFrom S i m ≡ 0
-    from-first e = cond-true _ _ (eq-eqb i 0 e)
-
-    module _ (h : 0 < i) where
-      later : eqb i 0 ≡ false
-      later = ne-eqb i 0 (λ e. absurd (omega arith))
-
-      pub from-new : (stop S (i - 1) .trip ≡ stop S i .trip → ⊥) → lastFrom S i m ≡ 0
-      from-new f = cond-false _ _ later ∙ cond-false _ _ (ne-eqb _ _ f)
-
-      pub from-timed : stop S (i - 1) .trip ≡ stop S i .trip → stop S (i - 1) .timed ≡ true → lastFrom S i m ≡ i
-      from-timed t q = cond-false _ _ later ∙ cond-true _ _ (eq-eqb _ _ t) ∙ cond-true _ _ q
-
-      pub from-same : stop S (i - 1) .trip ≡ stop S i .trip → stop S (i - 1) .timed ≡ false → lastFrom S i m ≡ m
-      from-same t q = cond-false _ _ later ∙ cond-true _ _ (eq-eqb _ _ t) ∙ cond-false _ _ q
-
-      from-cases : (lastFrom S i m ≡ 0) ⊎ ((lastFrom S i m ≡ i) ⊎ ((lastFrom S i m ≡ m) × (stop S (i - 1) .timed ≡ false)))
-      from-cases = ⊎-elim
-          (λ (t : eqb (stop S (i - 1) .trip) (stop S i .trip) ≡ true).
-          ⊎-elim (λ (q : stop S (i - 1) .timed ≡ true). inr (inl (from-timed (eqb-true _ _ t) q)))
-          (λ (q : stop S (i - 1) .timed ≡ false). inr (inr (from-same (eqb-true _ _ t) q, q)))
-          (split (stop S (i - 1) .timed)))
-          (λ (t : eqb (stop S (i - 1) .trip) (stop S i .trip) ≡ false). inl (from-new (eqb-false _ _ t)))
-          (split (eqb (stop S (i - 1) .trip) (stop S i .trip)))
-
-  pub last-step : (i : ℕ) → lastFrom S i (lastTimed S (i - 1)) ≡ lastTimed S i
-  unfolding lastTimed
-  last-step zero = from-first 0 (lastTimed S (0 - 1)) refl
-  last-step (suc i) = let e : suc i - 1 ≡ i = omega arith in ap (λ (m : ℕ). lastFrom S (suc i) (lastTimed S m)) e
-
-  -- it stands before i
-  pub last-below : (i : ℕ) → lastTimed S i ≤ i
-  unfolding lastTimed
-  last-below zero = omega arith
-  last-below (suc i) = go (last-below i) (from-cases (suc i) (lastTimed S i) (omega arith))
-    where
-      go : {x m : ℕ} → m ≤ i → (x ≡ 0) ⊎ ((x ≡ suc i) ⊎ ((x ≡ m) × (stop S (suc i - 1) .timed ≡ false))) → x ≤ suc i
-      go h (inl e) = omega arith
-      go h (inr (inl e)) = omega arith
-      go h (inr (inr e)) = omega (arith, e .0)
-
   pub hop-one : (i : ℕ) → ends S (lastTimed S i) i ≡ true → hopAt S i ≡ hopEntry S (lastTimed S i - 1) i ∷ []
   unfolding hopAt
   hop-one i e = cond-true _ _ e
@@ -97,7 +56,7 @@ module _ (S : List Stop) where
   pub fewer : (i : ℕ) → 0 < lastTimed S i → length (hopEntries S i) ≤ lastTimed S i - 1
   unfolding lastTimed
   fewer zero h = absurd (omega arith)
-  fewer (suc i) h = go (λ p. fewer i p) h (from-cases (suc i) (lastTimed S i) (omega arith))
+  fewer (suc i) h = go (λ p. fewer i p) h (from-cases S (suc i) (lastTimed S i) (omega arith))
     where
       go : {x : ℕ} → (0 < lastTimed S i → length (hopEntries S i) ≤ lastTimed S i - 1) → 0 < x
           → (x ≡ 0) ⊎ ((x ≡ suc i) ⊎ ((x ≡ lastTimed S i) × (stop S (suc i - 1) .timed ≡ false))) → length (hopEntries S (suc i)) ≤ x - 1

@@ -1,24 +1,15 @@
 -- The hops between consecutive timed stops, of stops that stand by trip and sequence.
 use mathlib.Core.Bool.{Bool, cond, not, _&&_}
 use mathlib.Core.List.{List, [], _∷_, _++_}
-use Prim.Native.Nat.{ℕ, zero, suc, _+_, _-_, _*_, _^_}
+use Prim.Native.Nat.{ℕ, _+_, _-_, _*_, _^_}
 use lib.Dec.{eqb, ltb}
 use lib.ListN.{length, drop}
 use Rattle.journeys.specs.Counting.{joined}
 use Rattle.feed.specs.Stops.{Stop}
 use Rattle.feed.specs.Trips.{stop}
-use Rattle.succession.specs.Entries.{stopsIn}
+use Rattle.succession.specs.Entries.{stopsIn, lastTimed}
 
 module _ (S : List Stop) where
-  -- The last timed stop before i in its trip, counted from 1; 0 where there is none. `before` is what stood there for the stop before i.
-  abbrev pub lastFrom : ℕ → ℕ → ℕ
-  lastFrom i before =
-      cond (eqb i 0) 0 (cond (eqb (stop S (i - 1) .trip) (stop S i .trip)) (cond (stop S (i - 1) .timed) i before) 0)
-
-  unfoldable pub lastTimed : ℕ → ℕ
-  lastTimed zero = 0
-  lastTimed (suc i) = lastFrom (suc i) (lastTimed i)
-
   -- A hop from stop p to stop i as one record: "to" and the line of the departure stand last, so that they are compared first; then the
   -- trip, "from", and the two times of 18 bits.
   unfoldable pub hopEntry : ℕ → ℕ → ℕ
@@ -31,7 +22,7 @@ module _ (S : List Stop) where
   ends last i = ltb 0 last && (stop S i .timed && not (eqb (stop S (last - 1) .vertex) (stop S i .vertex)))
 
   unfoldable pub hopAt : ℕ → List ℕ
-  hopAt i = cond (ends (lastTimed i) i) (hopEntry (lastTimed i - 1) i ∷ []) []
+  hopAt i = cond (ends (lastTimed S i) i) (hopEntry (lastTimed S i - 1) i ∷ []) []
 
   -- those that end at one of the first n stops
   unfoldable pub hopEntries : ℕ → List ℕ

@@ -8,31 +8,15 @@ ghost use lib.ListN.{length, set};
 ghost use Rattle.sorting.specs.Sorted.{recs};
 ghost use Rattle.succession.specs.Entries.{stopsIn};
 ghost use Rattle.connections.specs.Gathered as spec;
-ghost use Rattle.connections.specs.Gathered.{lastFrom, hopEntry, hopEntries, gatheredIn};
+ghost use Rattle.connections.specs.Gathered.{hopEntry, hopEntries, gatheredIn};
 use sorting::high;
 use sorting::put;
 use succession::arrival;
 use succession::departure;
+use succession::last_timed;
 use succession::line;
 use succession::timed;
 use succession::vertex;
-
-// The last timed stop before stop i in its trip, counted from 1, from that of the stop before it.
-fn last_timed(b: &[u8], n: usize, i: usize, last: usize) -> usize
-    requires { ⌜ (length (now b) ≡ 20 * n) × (i < n) ⌝ }
-    ensures { λ r. ⌜ r ≡ lastFrom (stopsIn (recs n (now (b .entry)))) i last ⌝ }
-{
-    if i == 0 {
-        return 0;
-    }
-    if high(b, n, i - 1) != high(b, n, i) {
-        return 0;
-    }
-    if timed(b, n, i - 1) {
-        return i;
-    }
-    last
-}
 
 fn ends(b: &[u8], n: usize, last: usize, i: usize) -> bool
     requires { ⌜ (length (now b) ≡ 20 * n) × (i < n) × (last ≤ n) ⌝ }

@@ -1,6 +1,6 @@
 -- The last timed stop before a stop is the one that its arrival is held against.
-use mathlib.Core.Path.{_≡_, refl, sym, ap, _∙_}
-use mathlib.Core.Logic.{⊎-elim}
+use mathlib.Core.Path.{_≡_, refl, sym, ap, subst, _∙_}
+use mathlib.Core.Logic.{_⊎_, inl, inr, ⊎-elim}
 use mathlib.Core.Bool.{Bool, true, false, not, cond, _&&_, _||_}
 use mathlib.Core.List.{List}
 use Prim.Native.Nat.{ℕ, zero, suc, _+_, _-_, _<_, _≤_}
@@ -8,43 +8,69 @@ use native.Mathlib.Omega.{arith}
 use native.Mathlib.Decide.{decLt, ℕ-discrete}
 use lib.Dec.{eqb, ltb}
 use lib.ListN.{length}
-use borrow.Author.Tests.{eq-eqb, ne-eqb, eqb-true, eqb-false, ltb-true, lt-ltb}
-use Rattle.journeys.proofs.Tests.{never, and-both, and-true, same-test, last-or-below, split, cond-true, cond-false}
+use borrow.Author.Tests.{eq-eqb, ne-eqb, eqb-true, eqb-false, ltb-true, lt-ltb, le-ltb}
+use Rattle.journeys.proofs.Tests.{never, and-both, and-true, and-left, same-test, last-or-below, split, cond-true, cond-false}
 use Rattle.feed.specs.Stops.{Stop}
 use Rattle.feed.specs.Trips.{stop, some, earlier, between, next, tooSoon, inTime}
-use Rattle.succession.specs.Entries.{AllOnce, lastDeparture}
+use Rattle.succession.specs.Entries.{AllOnce, lastFrom, lastTimed, fallsBack}
 use Rattle.succession.proofs.SomeLaws.{some-at, some-is, some-none, not-not}
 use Rattle.succession.proofs.OrderLaws.{Ordered, earlier-below, earlier-above}
 
--- d is the departure of the last timed stop before i in its trip, or 0
-pub data Latest (S : List Stop) (i : ℕ) : ℕ → Type 0 where
-  nothing : ((p : ℕ) → p < i → stop S p .trip ≡ stop S i .trip → stop S p .timed ≡ false) → Latest S i 0
-  left : (p : ℕ) → p < i → stop S p .trip ≡ stop S i .trip → stop S p .timed ≡ true → ((k : ℕ) → p < k → k < i → stop S k .timed ≡ false) → Latest S i (stop S p .departure)
-
 -- from one stop to the next
 module _ (S : List Stop) where
-  pub last-first : lastDeparture S 0 ≡ 0
-  unfolding lastDeparture
+  module _ (i m : ℕ) where
+    pub from-first : i ≡ 0 → lastFrom S i m ≡ 0
+    from-first e = cond-true _ _ (eq-eqb i 0 e)
+
+    module _ (h : 0 < i) where
+      later : eqb i 0 ≡ false
+      later = ne-eqb i 0 (λ e. absurd (omega arith))
+
+      pub from-new : (stop S (i - 1) .trip ≡ stop S i .trip → ⊥) → lastFrom S i m ≡ 0
+      from-new f = cond-false _ _ later ∙ cond-false _ _ (ne-eqb _ _ f)
+
+      pub from-timed : stop S (i - 1) .trip ≡ stop S i .trip → stop S (i - 1) .timed ≡ true → lastFrom S i m ≡ i
+      from-timed t q = cond-false _ _ later ∙ cond-true _ _ (eq-eqb _ _ t) ∙ cond-true _ _ q
+
+      pub from-same : stop S (i - 1) .trip ≡ stop S i .trip → stop S (i - 1) .timed ≡ false → lastFrom S i m ≡ m
+      from-same t q = cond-false _ _ later ∙ cond-true _ _ (eq-eqb _ _ t) ∙ cond-false _ _ q
+
+      pub from-cases : (lastFrom S i m ≡ 0) ⊎ ((lastFrom S i m ≡ i) ⊎ ((lastFrom S i m ≡ m) × (stop S (i - 1) .timed ≡ false)))
+      from-cases = ⊎-elim
+          (λ (t : eqb (stop S (i - 1) .trip) (stop S i .trip) ≡ true).
+          ⊎-elim (λ (q : stop S (i - 1) .timed ≡ true). inr (inl (from-timed (eqb-true _ _ t) q)))
+          (λ (q : stop S (i - 1) .timed ≡ false). inr (inr (from-same (eqb-true _ _ t) q, q)))
+          (split (stop S (i - 1) .timed)))
+          (λ (t : eqb (stop S (i - 1) .trip) (stop S i .trip) ≡ false). inl (from-new (eqb-false _ _ t)))
+          (split (eqb (stop S (i - 1) .trip) (stop S i .trip)))
+
+  pub last-first : lastTimed S 0 ≡ 0
+  unfolding lastTimed
   last-first = refl
 
-  pub last-new : (i : ℕ) → 0 < i → (stop S (i - 1) .trip ≡ stop S i .trip → ⊥) → lastDeparture S i ≡ 0
-  unfolding lastDeparture
-  last-new zero h f = refl
-  last-new (suc i) h f = let e : suc i - 1 ≡ i = omega arith in cond-false _ _ (ne-eqb _ _ (rw e at f))
+  pub last-step : (i : ℕ) → lastFrom S i (lastTimed S (i - 1)) ≡ lastTimed S i
+  unfolding lastTimed
+  last-step zero = from-first 0 (lastTimed S (0 - 1)) refl
+  last-step (suc i) = let e : suc i - 1 ≡ i = omega arith in ap (λ (m : ℕ). lastFrom S (suc i) (lastTimed S m)) e
 
-  pub last-timed : (i : ℕ) → 0 < i → stop S (i - 1) .trip ≡ stop S i .trip → stop S (i - 1) .timed ≡ true → lastDeparture S i ≡ stop S (i - 1) .departure
-  unfolding lastDeparture
-  last-timed zero h t q = absurd (omega arith)
-  last-timed (suc i) h t q =
-      let e : suc i - 1 ≡ i = omega arith in
-      rw e (cond-true _ _ (eq-eqb _ _ (rw e at t)) ∙ cond-true _ _ (rw e at q))
+  pub last-next : (i : ℕ) {m r : ℕ} → r ≡ lastFrom S i m → m ≡ lastTimed S (i - 1) → r ≡ lastTimed S i
+  last-next i e f = e ∙ ap (lastFrom S i) f ∙ last-step i
 
-  pub last-same : (i : ℕ) → 0 < i → stop S (i - 1) .trip ≡ stop S i .trip → stop S (i - 1) .timed ≡ false → lastDeparture S i ≡ lastDeparture S (i - 1)
-  unfolding lastDeparture
-  last-same zero h t q = absurd (omega arith)
-  last-same (suc i) h t q =
-      let e : suc i - 1 ≡ i = omega arith in
-      rw e (cond-true _ _ (eq-eqb _ _ (rw e at t)) ∙ cond-false _ _ (rw e at q))
+  -- it stands before i
+  pub last-below : (i : ℕ) → lastTimed S i ≤ i
+  unfolding lastTimed
+  last-below zero = omega arith
+  last-below (suc i) = go (last-below i) (from-cases (suc i) (lastTimed S i) (omega arith))
+    where
+      go : {x m : ℕ} → m ≤ i → (x ≡ 0) ⊎ ((x ≡ suc i) ⊎ ((x ≡ m) × (stop S (suc i - 1) .timed ≡ false))) → x ≤ suc i
+      go h (inl e) = omega arith
+      go h (inr (inl e)) = omega arith
+      go h (inr (inr e)) = omega (arith, e .0)
+
+-- d is the last timed stop before i in its trip, counted from 1, or 0
+pub data Latest (S : List Stop) (i : ℕ) : ℕ → Type 0 where
+  nothing : ((p : ℕ) → p < i → stop S p .trip ≡ stop S i .trip → stop S p .timed ≡ false) → Latest S i 0
+  left : (p : ℕ) → p < i → stop S p .trip ≡ stop S i .trip → stop S p .timed ≡ true → ((k : ℕ) → p < k → k < i → stop S k .timed ≡ false) → Latest S i (suc p)
 
 module _ {S : List Stop} (o : Ordered S) where
   one-trip : (p k i : ℕ) → p ≤ k → k < i → i < length S → stop S p .trip ≡ stop S i .trip → stop S k .trip ≡ stop S i .trip
@@ -54,18 +80,23 @@ module _ {S : List Stop} (o : Ordered S) where
       go (yes q) = rw (← q) e
       go (no q) = omega (arith, e, o .trips p k (omega arith) (omega arith), o .trips k i b h)
 
-  pub latest : (i : ℕ) → i < length S → Latest S i (lastDeparture S i)
-  unfolding lastDeparture
+  pub latest : (i : ℕ) → i < length S → Latest S i (lastTimed S i)
+  unfolding lastTimed
   latest zero h = nothing (λ p l e. absurd (omega arith))
-  latest (suc i) h = ⊎-elim
+  latest (suc i) h =
+      let z : suc i - 1 ≡ i = omega arith in
+      let m = lastTimed S i in
+      ⊎-elim
       (λ (t : eqb (stop S i .trip) (stop S (suc i) .trip) ≡ true).
       let e = eqb-true _ _ t in
+      let e′ : stop S (suc i - 1) .trip ≡ stop S (suc i) .trip = rw z e in
       ⊎-elim
-      (λ (q : stop S i .timed ≡ true). rw (t, q) (left i (omega arith) e q (λ k a b. absurd (omega arith))))
-      (λ (q : stop S i .timed ≡ false). rw (t, q) (on e q (latest i (omega arith))))
+      (λ (q : stop S i .timed ≡ true). subst (λ (d : ℕ). Latest S (suc i) d) (sym (from-timed S (suc i) m (omega arith) e′ (rw z q))) (left i (omega arith) e q (λ k a b. absurd (omega arith))))
+      (λ (q : stop S i .timed ≡ false). subst (λ (d : ℕ). Latest S (suc i) d) (sym (from-same S (suc i) m (omega arith) e′ (rw z q))) (on e q (latest i (omega arith))))
       (split (stop S i .timed)))
       (λ (t : eqb (stop S i .trip) (stop S (suc i) .trip) ≡ false).
-      rw t (nothing (λ p l e. absurd (eqb-false _ _ t (one-trip p i (suc i) (omega arith) (omega arith) h e)))))
+      let f : stop S i .trip ≡ stop S (suc i) .trip → ⊥ = eqb-false _ _ t in
+      subst (λ (d : ℕ). Latest S (suc i) d) (sym (from-new S (suc i) m (omega arith) (rw z f))) (nothing (λ p l e. absurd (f (one-trip p i (suc i) (omega arith) (omega arith) h e)))))
       (split (eqb (stop S i .trip) (stop S (suc i) .trip)))
     where
       on : {d : ℕ} → stop S i .trip ≡ stop S (suc i) .trip → stop S i .timed ≡ false → Latest S i d → Latest S (suc i) d
@@ -99,22 +130,27 @@ module _ {S : List Stop} (o : Ordered S) where
         let t = one-trip p k i (omega arith) b h e in
         and-true (and-true q (earlier-above o u p k a (omega arith) (e ∙ sym t))) (earlier-above o u k i b h t)
 
-    soon : (i d : ℕ) → i < length S → stop S i .timed ≡ true → Latest S i d → some (tooSoon S i) (length S) ≡ ltb (stop S i .arrival) d
-    unfolding tooSoon
+    soon : (i d : ℕ) → i < length S → stop S i .timed ≡ true → Latest S i d → some (tooSoon S i) (length S) ≡ fallsBack S d i
+    unfolding tooSoon fallsBack
     soon i d h q (nothing f) = same-test _ _
         (λ e.
         let r = some-is (tooSoon S i) (length S) e in
         let k = next-known (r .0) i (r .1) (and-both _ _ (r .2) .0) in
         never (k .2) (f (r .0) (k .0) (k .1)))
-        (λ e. absurd (omega (arith, ltb-true (stop S i .arrival) 0 e)))
+        (λ e. never e refl)
     soon i d h q (left p a t w f) = same-test _ _
         (λ e.
         let r = some-is (tooSoon S i) (length S) e in
         let both = and-both _ _ (r .2) in
         let k = next-known (r .0) i (r .1) (both .0) in
-        same (r .0) k (both .1) (ℕ-discrete (r .0) p) (decLt (r .0) p))
-        (λ e. some-at (tooSoon S i) (length S) p (omega arith) (and-true (next-is p i a h t w q f) e))
+        and-true (lt-ltb 0 (suc p) (omega arith)) (rw z (same (r .0) k (both .1) (ℕ-discrete (r .0) p) (decLt (r .0) p))))
+        (λ e.
+        let y : ltb (stop S i .arrival) (stop S (suc p - 1) .departure) ≡ true = and-both (ltb 0 (suc p)) (ltb (stop S i .arrival) (stop S (suc p - 1) .departure)) e .1 in
+        some-at (tooSoon S i) (length S) p (omega arith) (and-true (next-is p i a h t w q f) (rw z at y)))
       where
+        z : suc p - 1 ≡ p
+        z = omega arith
+
         same : (x : ℕ) → (x < i) × (stop S x .trip ≡ stop S i .trip) × (stop S x .timed ≡ true) × (some (between S x i) (length S) ≡ false)
             → ltb (stop S i .arrival) (stop S x .departure) ≡ true → Dec (x ≡ p) → Dec (x < p) → ltb (stop S i .arrival) (stop S p .departure) ≡ true
         same x k e (yes z) c = rw (← z) e
@@ -123,9 +159,9 @@ module _ {S : List Stop} (o : Ordered S) where
 
     -- the two tests of a stop
     pub timed-test : (i : ℕ) → i < length S → stop S i .timed ≡ true
-        → not (inTime S i) ≡ ltb (stop S i .departure) (stop S i .arrival) || ltb (stop S i .arrival) (lastDeparture S i)
+        → not (inTime S i) ≡ ltb (stop S i .departure) (stop S i .arrival) || fallsBack S (lastTimed S i) i
     unfolding inTime
-    timed-test i h q = rw (q, soon i (lastDeparture S i) h q (latest i h)) (either (ltb (stop S i .departure) (stop S i .arrival)) (ltb (stop S i .arrival) (lastDeparture S i)))
+    timed-test i h q = rw (q, soon i (lastTimed S i) h q (latest i h)) (either (ltb (stop S i .departure) (stop S i .arrival)) (fallsBack S (lastTimed S i) i))
       where
         either : (a b : Bool) → not (not a && not b) ≡ a || b
         either true b = refl
@@ -139,3 +175,13 @@ module _ {S : List Stop} (o : Ordered S) where
         either : (a b : Bool) → not (a && b) ≡ not a || not b
         either true b = refl
         either false b = refl
+
+-- which times fall back
+module _ (S : List Stop) (last i : ℕ) where
+  pub back-none : last ≡ 0 → fallsBack S last i ≡ false
+  unfolding fallsBack
+  back-none e = and-left _ (le-ltb 0 last (omega arith))
+
+  pub back-some : 0 < last → fallsBack S last i ≡ ltb (stop S i .arrival) (stop S (last - 1) .departure)
+  unfolding fallsBack
+  back-some h = rw (lt-ltb 0 last h)

@@ -1,13 +1,13 @@
 -- A stop of a trip as one record of 20 bytes, and the lowest line among stops that are not good.
 use mathlib.Core.Path.{_≡_}
-use mathlib.Core.Bool.{Bool, true, cond}
+use mathlib.Core.Bool.{Bool, true, cond, _&&_}
 use mathlib.Core.List.{List, map}
-use Prim.Native.Nat.{ℕ, zero, suc, _/_, _%_, _<_, _^_}
-use lib.Dec.{eqb}
+use Prim.Native.Nat.{ℕ, zero, suc, _-_, _/_, _%_, _<_, _^_}
+use lib.Dec.{eqb, ltb}
 use lib.ListN.{length}
 use Rattle.journeys.specs.Counting.{none, least}
 use Rattle.feed.specs.Stops.{Stop}
-use Rattle.feed.specs.Trips.{stop, some, earlier, once}
+use Rattle.feed.specs.Trips.{stop, once}
 
 -- From the last bytes to the first: the trip, the sequence, where the line begins, which stands for the line; then the vertex, a bit
 -- for timed, and the two times of 18 bits. So records in ascending order are stops by trip, sequence and line.
@@ -35,8 +35,15 @@ module _ (S : List Stop) where
   abbrev pub AllOnce : Type 0
   AllOnce = (i : ℕ) → i < length S → once S i ≡ true
 
-  -- the departure of the last timed stop before i in its trip; 0 where there is none
-  unfoldable pub lastDeparture : ℕ → ℕ
-  lastDeparture zero = 0
-  lastDeparture (suc i) =
-      cond (eqb (stop S i .trip) (stop S (suc i) .trip)) (cond (stop S i .timed) (stop S i .departure) (lastDeparture i)) 0
+  -- The last timed stop before i in its trip, counted from 1; 0 where there is none. `before` is what stood there for the stop before i.
+  abbrev pub lastFrom : ℕ → ℕ → ℕ
+  lastFrom i before =
+      cond (eqb i 0) 0 (cond (eqb (stop S (i - 1) .trip) (stop S i .trip)) (cond (stop S (i - 1) .timed) i before) 0)
+
+  unfoldable pub lastTimed : ℕ → ℕ
+  lastTimed zero = 0
+  lastTimed (suc i) = lastFrom (suc i) (lastTimed i)
+
+  -- stop i is reached before the stop `last`, counted from 1, is left
+  unfoldable pub fallsBack : ℕ → ℕ → Bool
+  fallsBack last i = ltb 0 last && ltb (stop S i .arrival) (stop S (last - 1) .departure)

@@ -7,7 +7,7 @@ ghost use Prim.Native.Nat.{ℕ, _+_, _*_, _-_, _<_, _≤_, min};
 ghost use lib.ListN.{length};
 ghost use Rattle.sorting.specs.Sorted.{recs, Ascending};
 ghost use Rattle.feed.specs.Trips.{stop, some, earlier, once, inTime};
-ghost use Rattle.succession.specs.Entries.{stopsIn, lowestBad, lastDeparture, AllOnce};
+ghost use Rattle.succession.specs.Entries.{stopsIn, lowestBad, lastFrom, lastTimed, fallsBack, AllOnce};
 use sorting::high;
 use sorting::low;
 use sorting::middle;
@@ -107,10 +107,10 @@ fn ends(b: &[u8], n: usize, i: usize) -> bool
     high(b, n, i) != high(b, n, i + 1)
 }
 
-// The departure of the last timed stop before stop i in its trip, from that of the stop before it; 0 for none, and no arrival is before 0.
-fn last_departure(b: &[u8], n: usize, i: usize, last: u32) -> u32
-    requires { ⌜ (length (now b) ≡ 20 * n) × (i < n) × (last ≡ lastDeparture (stopsIn (recs n (now b))) (i - 1)) ⌝ }
-    ensures { λ r. ⌜ r ≡ lastDeparture (stopsIn (recs n (now (b .entry)))) i ⌝ }
+// The last timed stop before stop i in its trip, counted from 1, from that of the stop before it.
+pub fn last_timed(b: &[u8], n: usize, i: usize, last: usize) -> usize
+    requires { ⌜ (length (now b) ≡ 20 * n) × (i < n) ⌝ }
+    ensures { λ r. ⌜ r ≡ lastFrom (stopsIn (recs n (now (b .entry)))) i last ⌝ }
 {
     if i == 0 {
         return 0;
@@ -119,18 +119,27 @@ fn last_departure(b: &[u8], n: usize, i: usize, last: u32) -> u32
         return 0;
     }
     if timed(b, n, i - 1) {
-        return departure(b, n, i - 1);
+        return i;
     }
     last
 }
 
-fn untimely(b: &[u8], n: usize, i: usize, last: u32) -> bool
-    requires { ⌜ (length (now b) ≡ 20 * n) × (i < n) × Ascending (recs n (now b)) × AllOnce (stopsIn (recs n (now b))) × (last ≡ lastDeparture (stopsIn (recs n (now b))) i) ⌝ }
+fn falls_back(b: &[u8], n: usize, last: usize, i: usize) -> bool
+    requires { ⌜ (length (now b) ≡ 20 * n) × (i < n) × (last ≤ n) ⌝ }
+    ensures { λ r. ⌜ r ≡ fallsBack (stopsIn (recs n (now (b .entry)))) last i ⌝ }
+{
+    if last == 0 {
+        return false;
+    }
+    arrival(b, n, i) < departure(b, n, last - 1)
+}
+
+fn untimely(b: &[u8], n: usize, i: usize, last: usize) -> bool
+    requires { ⌜ (length (now b) ≡ 20 * n) × (i < n) × Ascending (recs n (now b)) × AllOnce (stopsIn (recs n (now b))) × (last ≡ lastTimed (stopsIn (recs n (now b))) i) ⌝ }
     ensures { λ r. ⌜ r ≡ not (inTime (stopsIn (recs n (now (b .entry)))) i) ⌝ }
 {
-    let reached = arrival(b, n, i);
     if timed(b, n, i) {
-        return (departure(b, n, i) < reached) | (reached < last);
+        return (departure(b, n, i) < arrival(b, n, i)) | falls_back(b, n, last, i);
     }
     begins(b, n, i) | ends(b, n, i)
 }
@@ -144,7 +153,7 @@ pub fn late(b: &[u8], n: usize) -> u32
     let mut last = 0;
     let mut i = 0;
     while i < n {
-        last = last_departure(b, n, i, last);
+        last = last_timed(b, n, i, last);
         if untimely(b, n, i, last) {
             least = lesser(least, line(b, n, i));
             i += 1;

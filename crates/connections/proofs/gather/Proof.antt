@@ -10,8 +10,8 @@ use Rattle.sorting.specs.Sorted.{recs}
 use Rattle.feed.specs.Trips.{stop}
 use Rattle.succession.specs.Entries.{stopsIn}
 use Rattle.table_bytes.proofs.Access.{col-length}
-use Rattle.connections.specs.Gathered.{lastTimed}
-use Rattle.connections.proofs.GatherLaws.{Gathering, gathering-start, gathering-few, gathering-last, gathering-ends, gathering-none, gathering-one, gathering-end, last-below, ends-above}
+use Rattle.succession.proofs.TimeLaws.{last-below}
+use Rattle.connections.proofs.GatherLaws.{Gathering, gathering-start, gathering-few, gathering-last, gathering-ends, gathering-none, gathering-one, gathering-end, ends-above}
 use Rattle.connections.proofs.gather.Statement.{statement}
 use Rattle.connections.proofs.gather.Tie as tie
 

@@ -7,16 +7,16 @@ use native.Mathlib.Omega.{arith}
 use lib.Dec.{eqb, ltb}
 use Rattle.sorting.specs.Sorted.{recs}
 use Rattle.feed.specs.Trips.{stop, some, earlier, once, inTime}
-use Rattle.succession.specs.Entries.{stopsIn, lastDeparture}
+use Rattle.succession.specs.Entries.{stopsIn, lastTimed}
 use Rattle.succession.proofs.OrderLaws.{size}
-use Rattle.succession.proofs.TimeLaws.{last-first}
+use Rattle.succession.proofs.TimeLaws.{last-first, last-next}
 use Rattle.succession.proofs.SomeLaws.{Passed, passed-start, passed-bad, passed-good, passed-end, not-is, not-isnt}
 use Rattle.succession.proofs.late.Statement.{statement}
 use Rattle.succession.proofs.late.Tie as tie
 
 abbrev Inv-loop : tie.InvT-loop
 Inv-loop b n least₀ last₀ i₀ least last i =
-    (i ≤ n) × Passed (stopsIn (recs n b)) (inTime (stopsIn (recs n b))) i least × (last ≡ lastDeparture (stopsIn (recs n b)) (i - 1))
+    (i ≤ n) × Passed (stopsIn (recs n b)) (inTime (stopsIn (recs n b))) i least × (last ≡ lastTimed (stopsIn (recs n b)) (i - 1))
 
 abbrev μ-loop : tie.MeasureT-loop
 μ-loop b n least₀ last₀ i₀ least last i = n - i
@@ -24,11 +24,15 @@ abbrev μ-loop : tie.MeasureT-loop
 loop-holds : tie.Need-loop-holds Inv-loop μ-loop
 loop-holds c = let a = c .before .args in let S = stopsIn (recs (a .n) (a .b .now)) in (omega arith, passed-start S (inTime S), sym (last-first S))
 
-last-departure-requires : tie.Need-last-departure-requires Inv-loop μ-loop
-last-departure-requires c κs = (c .before .before .before .pre .0, c .loop-test .taken, c .before .loop .inv .2)
+last-timed-requires : tie.Need-last-timed-requires Inv-loop μ-loop
+last-timed-requires c κs = (c .before .before .before .pre .0, c .loop-test .taken)
 
 untimely-requires : tie.Need-untimely-requires Inv-loop μ-loop
-untimely-requires c κs = let p = c .before .before .before .before .pre in (p .0, c .before .loop-test .taken, p .1, p .2, c .last-departure .ensures)
+untimely-requires c κs =
+    let start = c .before .before .before .before in
+    let a = start .args in
+    let p = start .pre in
+    (p .0, c .before .loop-test .taken, p .1, p .2, last-next (stopsIn (recs (a .n) (a .b .now))) (c .before .before .loop .i) (c .last-timed .ensures) (c .before .before .loop .inv .2))
 
 line-requires : tie.Need-line-requires Inv-loop μ-loop
 line-requires c κs = let turn = c .before .before .before in (turn .before .before .before .pre .0, turn .loop-test .taken)
@@ -44,7 +48,7 @@ loop-again c =
     let e : loop .loop .i + 1 - 1 ≡ loop .loop .i = omega arith in (
       omega (arith, turn .loop-test .taken),
       passed-bad S (inTime S) (loop .loop .inv .1) (not-is (then .before .untimely .ensures) (then .if1 .taken)) (c .before .line .ensures) (c .lesser .ensures),
-      call .last-departure .ensures ∙ ap (lastDeparture S) (sym e),
+      last-next S (loop .loop .i) (call .last-timed .ensures) (loop .loop .inv .2) ∙ ap (lastTimed S) (sym e),
     )
 
 loop-again-2 : tie.Need-loop-again-2 Inv-loop μ-loop
@@ -57,7 +61,7 @@ loop-again-2 c =
     let e : loop .loop .i + 1 - 1 ≡ loop .loop .i = omega arith in (
       omega (arith, turn .loop-test .taken),
       passed-good S (inTime S) (loop .loop .inv .1) (not-isnt (c .before .untimely .ensures) (c .if1 .left)),
-      call .last-departure .ensures ∙ ap (lastDeparture S) (sym e),
+      last-next S (loop .loop .i) (call .last-timed .ensures) (loop .loop .inv .2) ∙ ap (lastTimed S) (sym e),
     )
 
 returns : tie.Need-returns Inv-loop μ-loop
@@ -67,4 +71,4 @@ returns c =
     passed-end S (inTime S) (c .before .loop .inv .1) (omega (arith, size (a .n) (a .b .now)))
 
 pub late-spec : {M : Type 1} → statement M
-late-spec = tie.close (tie.spec Inv-loop μ-loop loop-holds last-departure-requires untimely-requires line-requires (λ c κs. search needs) (λ c. omega arith) (λ c. omega arith) loop-again (λ c. omega arith) (λ c. omega arith) loop-again-2 returns)
+late-spec = tie.close (tie.spec Inv-loop μ-loop loop-holds last-timed-requires untimely-requires line-requires (λ c κs. search needs) (λ c. omega arith) (λ c. omega arith) loop-again (λ c. omega arith) (λ c. omega arith) loop-again-2 returns)

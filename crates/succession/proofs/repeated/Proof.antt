@@ -7,7 +7,7 @@ use native.Mathlib.Omega.{arith}
 use lib.Dec.{eqb, ltb}
 use Rattle.sorting.specs.Sorted.{recs}
 use Rattle.feed.specs.Trips.{stop, some, earlier, once, inTime}
-use Rattle.succession.specs.Entries.{stopsIn, lastDeparture}
+use Rattle.succession.specs.Entries.{stopsIn, lastTimed}
 use Rattle.succession.proofs.OrderLaws.{size}
 use Rattle.succession.proofs.SomeLaws.{Passed, passed-start, passed-bad, passed-good, passed-end, not-is, not-isnt}
 use Rattle.succession.proofs.repeated.Statement.{statement}

@@ -7,7 +7,7 @@ use native.Mathlib.Omega.{arith}
 use lib.Dec.{eqb, ltb}
 use Rattle.sorting.specs.Sorted.{recs}
 use Rattle.feed.specs.Trips.{stop, some, earlier, once, inTime}
-use Rattle.succession.specs.Entries.{stopsIn, lastDeparture}
+use Rattle.succession.specs.Entries.{stopsIn, lastTimed}
 use Rattle.succession.proofs.OrderLaws.{ordered, once-first, once-later, size, trip-is, sequence-is, one-test}
 use Rattle.succession.proofs.repeats.Statement.{statement}
 use Rattle.succession.proofs.repeats.Tie as tie

@@ -8,11 +8,11 @@ use lib.Dec.{eqb, ltb}
 use lib.ListN.{length, set}
 use Rattle.sorting.specs.Sorted.{recs}
 use Rattle.feed.specs.Trips.{stop}
 use Rattle.succession.specs.Entries.{stopsIn}
 use Rattle.succession.proofs.OrderLaws.{trip-is}
-use Rattle.connections.proofs.GatherLaws.{from-first, from-new, from-timed, from-same}
-use Rattle.connections.proofs.last_timed.Statement.{statement}
-use Rattle.connections.proofs.last_timed.Tie as tie
+use Rattle.succession.proofs.TimeLaws.{from-first, from-new, from-timed, from-same}
+use Rattle.succession.proofs.last_timed.Statement.{statement}
+use Rattle.succession.proofs.last_timed.Tie as tie
 
 returns : tie.Need-returns
 returns c = let a = c .before .before .args in sym (from-first (stopsIn (recs (a .n) (a .b .now))) (a .i) (a .last) (c .if1 .taken))
