@@ -104,7 +104,7 @@ module _ {S : List Stop} (o : Ordered S) where
       on e q (left p l t u f) = left p (omega arith) (t ∙ e) u (λ k a b. ⊎-elim (λ (z : k ≡ i). rw z q) (λ (z : k < i). f k a z) (last-or-below b))
 
   module _ (u : AllOnce S) where
-    next-is : (p i : ℕ) → p < i → i < length S → stop S p .trip ≡ stop S i .trip → stop S p .timed ≡ true → stop S i .timed ≡ true
+    pub next-is : (p i : ℕ) → p < i → i < length S → stop S p .trip ≡ stop S i .trip → stop S p .timed ≡ true → stop S i .timed ≡ true
         → ((k : ℕ) → p < k → k < i → stop S k .timed ≡ false) → next S p i ≡ true
     unfolding next between
     next-is p i a b t q r f =
@@ -114,7 +114,7 @@ module _ {S : List Stop} (o : Ordered S) where
         let two = and-both _ _ (one .0) in
         never (two .0) (f k (earlier-below o u p k (omega arith) (two .1) .0) (earlier-below o u k i l (one .1) .0)))))
 
-    next-known : (p i : ℕ) → p < length S → next S p i ≡ true
+    pub next-known : (p i : ℕ) → p < length S → next S p i ≡ true
         → (p < i) × (stop S p .trip ≡ stop S i .trip) × (stop S p .timed ≡ true) × (some (between S p i) (length S) ≡ false)
     unfolding next
     next-known p i h e =
@@ -124,7 +124,14 @@ module _ {S : List Stop} (o : Ordered S) where
         let q = earlier-below o u p i h (two .1) in
         (q .0, q .1, three .0, sym (not-not _) ∙ ap not (one .1))
 
-    among : (p k i : ℕ) → p < k → k < i → i < length S → stop S p .trip ≡ stop S i .trip → stop S k .timed ≡ true → between S p i k ≡ true
+    pub next-arrives : (p i : ℕ) → next S p i ≡ true → stop S i .timed ≡ true
+    unfolding next
+    next-arrives p i e =
+        let one = and-both (stop S p .timed && stop S i .timed && earlier S p i) (not (some (between S p i) (length S))) e in
+        let two = and-both (stop S p .timed && stop S i .timed) (earlier S p i) (one .0) in
+        and-both (stop S p .timed) (stop S i .timed) (two .0) .1
+
+    pub among : (p k i : ℕ) → p < k → k < i → i < length S → stop S p .trip ≡ stop S i .trip → stop S k .timed ≡ true → between S p i k ≡ true
     unfolding between
     among p k i a b h e q =
         let t = one-trip p k i (omega arith) b h e in
