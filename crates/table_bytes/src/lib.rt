@@ -1,4 +1,4 @@
-// A lent buffer of r slots of 16 bytes as four columns of numbers, little-endian: words of 8 bytes (r), tree nodes of 2 (2 r), heads of 2 (r), nexts of 2 (r).
+// Numbers of 4 and of 8 bytes in a lent slice, little-endian; and a buffer of r slots of 16 bytes as four columns of numbers: words of 8 bytes (r), tree nodes of 2 (2 r), heads of 2 (r), nexts of 2 (r).
 // Promises: a read gives the number at its place, a write changes that number and nothing else.
 // Rests on: nothing.
 ghost use mathlib.Core.Path.{_≡_};
