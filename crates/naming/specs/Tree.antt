@@ -1,0 +1,66 @@
+-- A search tree of ids in numbered nodes: at each depth an id turns to one of two children. Assumes nothing.
+use mathlib.Core.Path.{_≡_}
+use mathlib.Core.Bool.{Bool, true, false, cond}
+use mathlib.Core.List.{List, [], _∷_}
+use Prim.Native.Nat.{ℕ, suc, _+_, _-_, _*_, _/_, _%_, _<_, _≤_, _^_}
+use lib.Dec.{eqb, ltb}
+use lib.ListN.{length, getD}
+use Rattle.table_bytes.specs.Columns.{at}
+use Rattle.feed.specs.Fields.{same}
+use Rattle.naming.specs.Named.{lineAt, firstBytes, foundFrom}
+
+-- ---- which way an id turns: by the bits of a mixed number first, then by its own
+unfoldable pub mixed : ℕ → List ℕ → ℕ
+mixed h [] = h
+mixed h (b ∷ r) = mixed ((h + b) * 2654435761 % 4294967296) r
+
+unfoldable pub turnOf : List ℕ → ℕ → Bool
+turnOf y d =
+    cond (ltb d 32) (eqb (mixed 1 y / 2 ^ (31 - d) % 2) 1)
+    (eqb (getD y ((d - 32) / 8) 0 / 2 ^ ((d - 32) % 8) % 2) 1)
+
+-- ---- a node as one record: its two children, counted from 1, and the place of its line
+abbrev pub placeIn : ℕ → ℕ
+placeIn x = x / 2 ^ 64 % 2 ^ 64
+
+abbrev pub childIn : Bool → ℕ → ℕ
+childIn false x = x % 2 ^ 64 % 2 ^ 32
+childIn true x = x % 2 ^ 64 / 2 ^ 32
+
+-- the node with one more child
+abbrev pub childAdded : Bool → ℕ → ℕ → ℕ
+childAdded false c x = x % 2 ^ 64 + c + 2 ^ 64 * (placeIn x + 2 ^ 64 * 0)
+childAdded true c x = x % 2 ^ 64 + 2 ^ 32 * c + 2 ^ 64 * (placeIn x + 2 ^ 64 * 0)
+
+module _ (text : List ℕ) (l : List ℕ) (y : List ℕ) where
+  -- node k has the id
+  unfoldable pub hasId : ℕ → Bool
+  hasId k = same y (firstBytes (lineAt text (placeIn (at l k))))
+
+  -- the search for an id from a node, counted from 1, at a depth ends with a place, counted from 1
+  pub data Finds : ℕ → ℕ → ℕ → Type 0 where
+    nothing : {d : ℕ} → Finds 0 d 0
+    here : {k d : ℕ} → hasId k ≡ true → Finds (suc k) d (suc (placeIn (at l k)))
+    onward : {k d c r : ℕ} → hasId k ≡ false → childIn (turnOf y d) (at l k) ≡ c → Finds c (suc d) r → Finds (suc k) d r
+
+  -- it passes a node at a depth
+  pub data Path : ℕ → ℕ → Type 0 where
+    root : Path 0 0
+    step : {k d j : ℕ} → Path k d → hasId k ≡ false → childIn (turnOf y d) (at l k) ≡ suc j → Path j (suc d)
+
+  -- it ends at a node that it passes: that has the id, or has no child where it turns
+  pub record Ended (m k d : ℕ) (hit : Bool) : Type 0 where
+    pub within : k < m
+    pub path : Path k d
+    pub has : hasId k ≡ hit
+    pub over : hit ≡ false → childIn (turnOf y d) (at l k) ≡ 0
+
+-- m nodes, each of a line of the text, and each with its children behind it
+pub record Rooted (text : List ℕ) (m : ℕ) (l : List ℕ) : Type 0 where
+  pub lies : (k : ℕ) → k < m → placeIn (at l k) ≤ length text
+  pub behind : (k : ℕ) (s : Bool) → k < m → (childIn s (at l k) ≡ 0 → ⊥) → (k + 1 < childIn s (at l k)) × (childIn s (at l k) ≤ m)
+
+-- they find the lines before a place: what they do not find, the lines from there on decide
+pub record Holds (text : List ℕ) (place m : ℕ) (l : List ℕ) : Type 0 where
+  pub rooted : Rooted text m l
+  pub found : (y : List ℕ) → (r : ℕ) × Finds text l y 1 0 r × (foundFrom text 0 y ≡ cond (eqb r 0) (foundFrom text place y) r)
