@@ -1,3 +1,4 @@
 pub mod Turns
 pub mod Places
 pub mod TreeLaws
+pub mod HoldLaws

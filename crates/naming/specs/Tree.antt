@@ -1,8 +1,9 @@
 -- A search tree of ids in numbered nodes: at each depth an id turns to one of two children. Assumes nothing.
 use mathlib.Core.Path.{_≡_}
+use mathlib.Core.Logic.{_⊎_}
 use mathlib.Core.Bool.{Bool, true, false, cond}
 use mathlib.Core.List.{List, [], _∷_}
-use Prim.Native.Nat.{ℕ, suc, _+_, _-_, _*_, _/_, _%_, _<_, _≤_, _^_}
+use Prim.Native.Nat.{ℕ, suc, _+_, _-_, _*_, _/_, _%_, _<_, _≤_, _^_, min}
 use lib.Dec.{eqb, ltb}
 use lib.ListN.{length, getD}
 use Rattle.table_bytes.specs.Columns.{at}
@@ -26,11 +27,6 @@ placeIn x = x / 2 ^ 64 % 2 ^ 64
 abbrev pub childIn : Bool → ℕ → ℕ
 childIn false x = x % 2 ^ 64 % 2 ^ 32
 childIn true x = x % 2 ^ 64 / 2 ^ 32
-
--- the node with one more child
-abbrev pub childAdded : Bool → ℕ → ℕ → ℕ
-childAdded false c x = x % 2 ^ 64 + c + 2 ^ 64 * (placeIn x + 2 ^ 64 * 0)
-childAdded true c x = x % 2 ^ 64 + 2 ^ 32 * c + 2 ^ 64 * (placeIn x + 2 ^ 64 * 0)
 
 module _ (text : List ℕ) (l : List ℕ) (y : List ℕ) where
   -- node k has the id
@@ -57,10 +53,18 @@ module _ (text : List ℕ) (l : List ℕ) (y : List ℕ) where
 
 -- m nodes, each of a line of the text, and each with its children behind it
 pub record Rooted (text : List ℕ) (m : ℕ) (l : List ℕ) : Type 0 where
-  pub lies : (k : ℕ) → k < m → placeIn (at l k) ≤ length text
+  pub lies : (k : ℕ) → k < m → placeIn (at l k) < length text
   pub behind : (k : ℕ) (s : Bool) → k < m → (childIn s (at l k) ≡ 0 → ⊥) → (k + 1 < childIn s (at l k)) × (childIn s (at l k) ≤ m)
 
 -- they find the lines before a place: what they do not find, the lines from there on decide
 pub record Holds (text : List ℕ) (place m : ℕ) (l : List ℕ) : Type 0 where
   pub rooted : Rooted text m l
-  pub found : (y : List ℕ) → (r : ℕ) × Finds text l y 1 0 r × (foundFrom text 0 y ≡ cond (eqb r 0) (foundFrom text place y) r)
+  pub found : (y : List ℕ) → (r : ℕ) × Finds text l y (min m 1) 0 r × (foundFrom text 0 y ≡ cond (eqb r 0) (foundFrom text place y) r)
+
+-- node m of a line at a place hangs below node k on one side; nothing else has changed
+pub record Hung (m k place : ℕ) (s : Bool) (l l′ : List ℕ) : Type 0 where
+  pub places : (j : ℕ) → j < m → placeIn (at l′ j) ≡ placeIn (at l j)
+  pub children : (j : ℕ) (t : Bool) → j < m → (childIn t (at l′ j) ≡ childIn t (at l j)) ⊎ ((childIn t (at l j) ≡ 0) × (childIn t (at l′ j) ≡ suc m))
+  pub child : childIn s (at l′ k) ≡ suc m
+  pub place-new : placeIn (at l′ m) ≡ place
+  pub childless : (t : Bool) → childIn t (at l′ m) ≡ 0
