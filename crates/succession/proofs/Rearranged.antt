@@ -70,7 +70,7 @@ some-same : {S T : List Stop} → Each S T → Each T S → (f g : ℕ → Bool)
 some-same to back f g h = same-test _ _ (carry to f g h) (carry back g f (λ x y e. sym (h y x (sym e))))
 
 module _ {S T : List Stop} (to : Each S T) (back : Each T S) where
-  next-same : (p i q k : ℕ) → stop S p ≡ stop T q → stop S i ≡ stop T k → next S p i ≡ next T q k
+  pub next-same : (p i q k : ℕ) → stop S p ≡ stop T q → stop S i ≡ stop T k → next S p i ≡ next T q k
   unfolding next
   next-same p i q k e f =
       both (both (both (timed-same S T p q e) (timed-same S T i k f)) (earlier-same S T p i q k e f))
@@ -157,10 +157,10 @@ module _ (l : List ℕ) where
         (r .0, rw (stops-length n) (r .1), stop-at m i ∙ ap stopIn (r .2) ∙ sym (stop-at n (r .0)));
   }
 
-  to : Each (stopsIn l) (stopsIn (sorted l))
+  pub to : Each (stopsIn l) (stopsIn (sorted l))
   to = each l (sorted l) (sorted-into l)
 
-  back : Each (stopsIn (sorted l)) (stopsIn l)
+  pub back : Each (stopsIn (sorted l)) (stopsIn l)
   back = each (sorted l) l (sorted-from l)
 
   -- 16
