@@ -1,0 +1,4 @@
+pub mod Judged
+pub mod Lowest
+pub mod Trips
+pub mod Stops
