@@ -2,3 +2,4 @@ pub mod Judged
 pub mod Lowest
 pub mod Trips
 pub mod Stops
+pub mod Hops
