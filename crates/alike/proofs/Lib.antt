@@ -3,3 +3,4 @@ pub mod Lowest
 pub mod Trips
 pub mod Stops
 pub mod Hops
+pub mod Unpacked
