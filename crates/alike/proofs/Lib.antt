@@ -4,3 +4,4 @@ pub mod Trips
 pub mod Stops
 pub mod Hops
 pub mod Unpacked
+pub mod Passed
