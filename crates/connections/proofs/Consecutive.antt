@@ -38,30 +38,35 @@ module _ {S : List Stop} (o : Ordered S) (u : AllOnce S) where
   differ : (p i : ℕ) → not (eqb (stop S p .vertex) (stop S i .vertex)) ≡ true → stop S p .vertex ≡ stop S i .vertex → ⊥
   differ p i e = eqb-false _ _ (sym (not-not _) ∙ ap not e)
 
-  pub hop-from : (n x : ℕ) → n ≤ length S → In x (hopEntries S n)
-      → (p : ℕ) × (i : ℕ) × (i < n) × (p < length S) × (next S p i ≡ true) × (stop S p .vertex ≡ stop S i .vertex → ⊥) × (x ≡ hopEntry S p i)
-  unfolding hopEntries
-  hop-from n x h j =
-      let r = joined-in (hopAt S) n x j in
-      ⊎-elim (λ (e : ends S (lastTimed S (r .0)) (r .0) ≡ true). go (r .0) (r .1) e (subst (λ (l : List ℕ). In x l) (hop-one S (r .0) e) (r .2)))
-      (λ (e : ends S (lastTimed S (r .0)) (r .0) ≡ false). absurd (subst (λ (l : List ℕ). In x l) (hop-none S (r .0) e) (r .2)))
-      (split (ends S (lastTimed S (r .0)) (r .0)))
+  -- from one stop, and from some
+  pub hop-at-from : (i x : ℕ) → i < length S → In x (hopAt S i)
+      → (p : ℕ) × (p < length S) × (next S p i ≡ true) × (stop S p .vertex ≡ stop S i .vertex → ⊥) × (x ≡ hopEntry S p i)
+  hop-at-from i x l j =
+      ⊎-elim (λ (e : ends S (lastTimed S i) i ≡ true). go e (subst (λ (l : List ℕ). In x l) (hop-one S i e) j))
+      (λ (e : ends S (lastTimed S i) i ≡ false). absurd (subst (λ (l : List ℕ). In x l) (hop-none S i e) j))
+      (split (ends S (lastTimed S i) i))
     where
-      go : (i : ℕ) → i < n → ends S (lastTimed S i) i ≡ true → In x (hopEntry S (lastTimed S i - 1) i ∷ [])
-          → (p : ℕ) × (i : ℕ) × (i < n) × (p < length S) × (next S p i ≡ true) × (stop S p .vertex ≡ stop S i .vertex → ⊥) × (x ≡ hopEntry S p i)
-      go i l e m =
+      go : ends S (lastTimed S i) i ≡ true → In x (hopEntry S (lastTimed S i - 1) i ∷ [])
+          → (p : ℕ) × (p < length S) × (next S p i ≡ true) × (stop S p .vertex ≡ stop S i .vertex → ⊥) × (x ≡ hopEntry S p i)
+      go e m =
           let above = ends-above S (lastTimed S i) i e in
           let tests = and-both (stop S i .timed) (not (eqb (stop S (lastTimed S i - 1) .vertex) (stop S i .vertex))) (sym (ends-some S (lastTimed S i) i above) ∙ e) in
-          let q = latest-next i (lastTimed S i) (omega arith) (tests .0) (latest o i (omega arith)) above in
+          let q = latest-next i (lastTimed S i) l (tests .0) (latest o i l) above in
           let z : lastTimed S i - 1 ≡ q .0 = omega (arith, q .1) in (
             q .0,
-            i,
-            l,
             q .2,
             q .3,
             differ (q .0) i (subst (λ (p : ℕ). not (eqb (stop S p .vertex) (stop S i .vertex)) ≡ true) z (tests .1)),
             ⊎-elim (λ (w : x ≡ hopEntry S (lastTimed S i - 1) i). w ∙ ap (λ (p : ℕ). hopEntry S p i) z) (λ w. absurd w) m,
           )
+
+  pub hop-from : (n x : ℕ) → n ≤ length S → In x (hopEntries S n)
+      → (p : ℕ) × (i : ℕ) × (i < n) × (p < length S) × (next S p i ≡ true) × (stop S p .vertex ≡ stop S i .vertex → ⊥) × (x ≡ hopEntry S p i)
+  unfolding hopEntries
+  hop-from n x h j =
+      let r = joined-in (hopAt S) n x j in
+      let q = hop-at-from (r .0) x (omega (arith, r .1)) (r .2) in
+      (q .0, r .0, r .1, q .1, q .2, q .3, q .4)
 
   pub hop-into : (n p i : ℕ) → n ≤ length S → i < n → p < length S → next S p i ≡ true → (stop S p .vertex ≡ stop S i .vertex → ⊥) → In (hopEntry S p i) (hopEntries S n)
   unfolding hopEntries
