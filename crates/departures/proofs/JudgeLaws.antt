@@ -55,10 +55,10 @@ module _ (S : List Stop) (b c : List ℕ) (len : length c ≡ length b) where
   refused-bytes f e = e ∙ cleared-same c b len ∙ sym (cond-false (filled b (flatMap (λ h. h) (hopsOf S))) (cleared b) (ne-eqb (tripsRefusal S .number) 0 f))
 
   pub refusal-told : {a : Refusal} {x h : ℕ} {d : List ℕ} (k : ℕ) → 0 < k → a ≡ record { number = k; place = x } → record { number = k; place = x } ≡ tripsRefusal S → h ≡ 0 → d ≡ cleared c
-      → (a ≡ tripsRefusal S) × (h ≡ tripsHops S) × (d ≡ tripsBytes S b)
+      → {n : ℕ} → (a ≡ tripsRefusal S) × (h ≡ tripsHops S) × (d ≡ tripsBytes S b) × (h ≤ n)
   refusal-told k p q t e z =
       let f : tripsRefusal S .number ≡ 0 → ⊥ = λ y. absurd (omega (arith, ap (λ (r : Refusal). r .number) t)) in
-      (q ∙ t, e ∙ refused-hops f, refused-bytes f z)
+      (q ∙ t, e ∙ refused-hops f, refused-bytes f z, omega arith)
 
   module _ (f : tripsRefusal S .number ≡ 0) where
     pub accepted-hops : tripsHops S ≡ length (hopsOf S)
@@ -183,11 +183,12 @@ module _ (text trips W : List ℕ) (l : Listed text trips W) where
       finish-fits len = (omega (arith, few-hops), subst (OnTrips trips) (sym front-is) on-trips)
 
       pub gathered-told : (b₀ : List ℕ) {a : Refusal} {d : List ℕ} → a ≡ fine → tripsRefusal S ≡ fine → length b ≡ length b₀ → d ≡ filled b (joined (λ i. hopOut trips (at (sorted (recs k b)) i)) k)
-          → (a ≡ tripsRefusal S) × (k ≡ tripsHops S) × (d ≡ tripsBytes S b₀)
+          → (a ≡ tripsRefusal S) × (k ≡ tripsHops S) × (d ≡ tripsBytes S b₀) × (k ≤ n)
       gathered-told b₀ {a} {d} q t len z =
           let f : tripsRefusal S .number ≡ 0 = ap (λ (r : Refusal). r .number) t in
           let counted : k ≡ length (hopEntries E′ (length E′)) = e ∙ ap length same-hops in (
             q ∙ sym t,
             counted ∙ sym hops-count ∙ sym (accepted-hops S b₀ b len f),
             z ∙ ap (filled b) (ap (λ (x : List ℕ). joined (λ i. hopOut trips (at (sorted x) i)) k) front-is ∙ hops-flat k counted) ∙ accepted-bytes S b₀ b len f,
+            few-hops,
           )

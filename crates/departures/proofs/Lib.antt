@@ -1,3 +1,4 @@
 pub mod SliceLaws
 pub mod JudgeLaws
+pub mod FeedLaws
 pub mod Determined

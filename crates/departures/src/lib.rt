@@ -58,7 +58,8 @@ fn judge(b: &mut [u8], n: usize, text: &[u8], trips: &[u8]) -> Answer
     requires { ⌜ (length (now b) ≡ 20 * n) × Listed (now text) (now trips) (recs n (now b)) ⌝ }
     ensures { λ r. ⌜ (told r ≡ tripsRefusal (stopsNamed (now (text .entry)) (now (trips .entry)) (recs n (now (b .entry)))))
         × (r .hops ≡ tripsHops (stopsNamed (now (text .entry)) (now (trips .entry)) (recs n (now (b .entry)))))
-        × (now (b .exit) ≡ tripsBytes (stopsNamed (now (text .entry)) (now (trips .entry)) (recs n (now (b .entry)))) (now (b .entry))) ⌝ }
+        × (now (b .exit) ≡ tripsBytes (stopsNamed (now (text .entry)) (now (trips .entry)) (recs n (now (b .entry)))) (now (b .entry)))
+        × (r .hops ≤ n) ⌝ }
 {
     sort(b, n);
     let fifteen = succession::repeated(b, n);
@@ -85,7 +86,8 @@ pub fn hops_of(b: &mut [u8], n: usize, text: &[u8], trips: &[u8]) -> Answer
     requires { ⌜ (20 * n ≤ length (now b)) × Listed (now text) (now trips) (recs n (now b)) ⌝ }
     ensures { λ r. ⌜ (told r ≡ tripsRefusal (stopsNamed (now (text .entry)) (now (trips .entry)) (recs n (now (b .entry)))))
         × (r .hops ≡ tripsHops (stopsNamed (now (text .entry)) (now (trips .entry)) (recs n (now (b .entry)))))
-        × (now (b .exit) ≡ tripsBytes (stopsNamed (now (text .entry)) (now (trips .entry)) (recs n (now (b .entry)))) (now (b .entry))) ⌝ }
+        × (now (b .exit) ≡ tripsBytes (stopsNamed (now (text .entry)) (now (trips .entry)) (recs n (now (b .entry)))) (now (b .entry)))
+        × (r .hops ≤ n) ⌝ }
 {
     let end = 20 * n;
     words::zero(&mut b[end..]);

@@ -78,9 +78,10 @@ returns c =
       judge .judge .ensures .0 ∙ ap (λ (W : List ℕ). tripsRefusal (stopsNamed (now (a .text)) (now (a .trips)) W)) w,
       judge .judge .ensures .1 ∙ ap (λ (W : List ℕ). tripsHops (stopsNamed (now (a .text)) (now (a .trips)) W)) w,
       ap (λ (x : List ℕ). judge .judge .last .0 ++ x) (behind-zero b _ (20 * a .n) (s .pre .0) (zero .zero .ensures))
-      ∙ bytes-more (stopsNamed (now (a .text)) (now (a .trips)) (recs (a .n) b)) b (judge .judge .last .0) (20 * a .n) (s .pre .0)
-      (judge .judge .kept .0 ∙ lent-long b _ (a .n) (s .pre .0) (zero .zero .ensures))
-      (judge .judge .ensures .2 ∙ ap (λ (W : List ℕ). tripsBytes (stopsNamed (now (a .text)) (now (a .trips)) W) (take (20 * a .n) (putMid (20 * a .n) (length b - 20 * a .n) b (zero .zero .last .0)))) w ∙ ap (tripsBytes (stopsNamed (now (a .text)) (now (a .trips)) (recs (a .n) b))) front),
+          ∙ bytes-more (stopsNamed (now (a .text)) (now (a .trips)) (recs (a .n) b)) b (judge .judge .last .0) (20 * a .n) (s .pre .0)
+          (judge .judge .kept .0 ∙ lent-long b _ (a .n) (s .pre .0) (zero .zero .ensures))
+          (judge .judge .ensures .2 ∙ ap (λ (W : List ℕ). tripsBytes (stopsNamed (now (a .text)) (now (a .trips)) W) (take (20 * a .n) (putMid (20 * a .n) (length b - 20 * a .n) b (zero .zero .last .0)))) w ∙ ap (tripsBytes (stopsNamed (now (a .text)) (now (a .trips)) (recs (a .n) b))) front),
+      judge .judge .ensures .3,
     )
 
 pub hops-of-spec : {M : Type 1} → statement M
