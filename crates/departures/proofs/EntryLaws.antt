@@ -13,23 +13,24 @@ use Rattle.feed.specs.Trips.{stop, hopsOf}
 use Rattle.feed.specs.Answers.{Feed, stopsIn, feedRefusal, hopCount, targetAfter}
 use Rattle.relabelled.specs.Alike.{Alike, Told}
 use Rattle.relabelled.proofs.AlikeLaws.{hops-alike}
-use Rattle.hoporder.specs.Named.{stopNamed, stopsNamed}
+use Rattle.hoporder.specs.Named.{stopNamed}
 use Rattle.hoporder.proofs.HopFields.{named-at, named-length}
+use Rattle.hopbytes.specs.Listing.{tripAt}
 use Rattle.departures.specs.Answered.{tripsRefusal, tripsHops, tripsBytes}
-use Rattle.departures.specs.Entries.{EntriesOf}
+use Rattle.departures.specs.Entries.{stopsAt, EntriesOf}
 use Rattle.departures.proofs.JudgeLaws.{accepted-hops}
 use Rattle.departures.proofs.FeedLaws.{Passed, refusal-alike, count-alike, bytes-alike, feed-refusal, feed-count, feed-target}
 
-module _ (text trips : List ℕ) (S : List Stop) (W : List ℕ) (e : EntriesOf text trips S W) where
-  there : {A : Type 0} (g : Stop → A) (i : ℕ) → i < length S → {x : A} → x ≡ g (stopNamed text trips (getD W i 0)) → x ≡ g (stop (stopsNamed text trips W) i)
-  there g i h q = q ∙ ap g (sym (named-at text trips W i (rw (← e .size) h)))
+module _ (trips : List ℕ) (S : List Stop) (W : List ℕ) (e : EntriesOf trips S W) where
+  there : {A : Type 0} (g : Stop → A) (i : ℕ) → i < length S → {x : A} → x ≡ g (stopNamed (λ x. x) (tripAt trips) (getD W i 0)) → x ≡ g (stop (stopsAt trips W) i)
+  there g i h q = q ∙ ap g (sym (named-at (λ x. x) (tripAt trips) W i (rw (← e .size) h)))
 
-  named : (i : ℕ) → i < length S → stop (stopsNamed text trips W) i ≡ stopNamed text trips (getD W i 0)
-  named i h = named-at text trips W i (rw (← e .size) h)
+  named : (i : ℕ) → i < length S → stop (stopsAt trips W) i ≡ stopNamed (λ x. x) (tripAt trips) (getD W i 0)
+  named i h = named-at (λ x. x) (tripAt trips) W i (rw (← e .size) h)
 
-  pub entries-alike : Alike S (stopsNamed text trips W)
+  pub entries-alike : Alike S (stopsAt trips W)
   entries-alike = record {
-    size = e .size ∙ sym (named-length text trips W);
+    size = e .size ∙ sym (named-length (λ x. x) (tripAt trips) W);
     trip = λ i j h k. same-test _ _
         (λ t. eq-eqb _ _ (ap (λ (s : Stop). s .trip) (named i h) ∙ e .together i j h k (eqb-true _ _ t) ∙ sym (ap (λ (s : Stop). s .trip) (named j k))))
         (λ t. eq-eqb _ _ (e .apart i j h k (sym (ap (λ (s : Stop). s .trip) (named i h)) ∙ eqb-true _ _ t ∙ ap (λ (s : Stop). s .trip) (named j k))));
@@ -40,19 +41,19 @@ module _ (text trips : List ℕ) (S : List Stop) (W : List ℕ) (e : EntriesOf t
     departure = λ i h. there (λ s. s .departure) i h (e .departure i h);
   }
 
-  pub entries-told : Told S (stopsNamed text trips W)
+  pub entries-told : Told S (stopsAt trips W)
   entries-told = record { line = λ i h. there (λ s. s .line) i h (e .line i h); tripNumber = λ i h. there (λ s. s .tripNumber) i h (e .tripNumber i h) }
 
 -- the records of a feed's stops, in a target with room for them
-module _ (F : Feed) (W : List ℕ) (p : Passed F) (e : EntriesOf (F .stopTimes) (F .trips) (stopsIn F) W) where
+module _ (F : Feed) (W : List ℕ) (p : Passed F) (e : EntriesOf (F .trips) (stopsIn F) W) where
   abbrev T : List Stop
-  T = stopsNamed (F .stopTimes) (F .trips) W
+  T = stopsAt (F .trips) W
 
   a : Alike (stopsIn F) T
-  a = entries-alike (F .stopTimes) (F .trips) (stopsIn F) W e
+  a = entries-alike (F .trips) (stopsIn F) W e
 
   t : Told (stopsIn F) T
-  t = entries-told (F .stopTimes) (F .trips) (stopsIn F) W e
+  t = entries-told (F .trips) (stopsIn F) W e
 
   module _ (room : tripsHops T ≤ length (F .target) / 20) where
     fits : tripsRefusal (stopsIn F) .number ≡ 0 → length (hopsOf (stopsIn F)) ≤ length (F .target) / 20

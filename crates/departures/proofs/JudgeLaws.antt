@@ -18,6 +18,7 @@ use Rattle.table_bytes.specs.Columns.{at}
 use Rattle.sorting.specs.Sorted.{recs, sorted}
 use Rattle.sorting.proofs.Arranged.{sorted-from, sorted-ascends, sorted-length}
 use Rattle.feed.specs.Lines.{place}
+use Rattle.lines.proofs.Passes.{place-is}
 use Rattle.feed.specs.Stops.{Stop}
 use Rattle.feed.specs.Trips.{stop, next, once, inTime, firstBadStop, hopsOf}
 use Rattle.succession.specs.Entries.{stopIn, stopsIn, lowestBad, AllOnce}
@@ -26,20 +27,17 @@ use Rattle.succession.proofs.Rearranged.{from-sorted, times-sorted, repeats-sor
 use Rattle.connections.specs.Gathered.{hopEntry, hopEntries, gatheredIn}
 use Rattle.connections.proofs.GatherLaws.{few}
 use Rattle.connections.proofs.Consecutive.{hop-from}
-use Rattle.linecount.specs.Numbered.{lineNumber}
 use Rattle.relabelled.proofs.AlikeLaws.{once-alike, time-alike}
-use Rattle.hoporder.specs.Named.{stopsNamed, Listed}
+use Rattle.hoporder.specs.Named.{stopsNamed}
 use Rattle.hoporder.specs.Hops.{Placed, entriesOf, hopOut}
 use Rattle.hoporder.proofs.PairwiseLaws.{at-in}
 use Rattle.hoporder.proofs.HopFields.{small, placed-sorted, entry-trip}
 use Rattle.hoporder.proofs.LineLaws.{all-good, named-alike, below-none, none-bad, lowest-bad}
 use Rattle.hoporder.proofs.HopOrder.{in-order, hops-named}
-use Rattle.hopbytes.specs.Listing.{OnTrip, OnTrips}
+use Rattle.hopbytes.specs.Listing.{tripAt, Good, OnTrip, OnTrips}
+use Rattle.departures.specs.Entries.{stopsAt, Listed}
 use Rattle.departures.specs.Answered.{tripsRefusal, tripsHops, tripsBytes}
 use Rattle.departures.proofs.SliceLaws.{recs-are, flat-joined, filled-same, cleared-same}
-
-on-up : {r m c x t : ℕ} → r ≡ m → m ≤ c → c ≡ x → x ≤ t → r ≤ t
-on-up a b c d = omega arith
 
 pub on-sorted : (trips W : List ℕ) → OnTrips trips W → OnTrips trips (sorted W)
 on-sorted trips W f i h = let r = sorted-from W .found i h in subst (OnTrip trips) (sym (r .2)) (f (r .0) (r .1))
@@ -69,9 +67,9 @@ module _ (S : List Stop) (b c : List ℕ) (len : length c ≡ length b) where
     unfolding tripsBytes
     accepted-bytes = filled-same c b (flatMap (λ h. h) (hopsOf S)) len ∙ sym (cond-true (filled b (flatMap (λ h. h) (hopsOf S))) (cleared b) (eq-eqb (tripsRefusal S .number) 0 f))
 
-module _ (text trips W : List ℕ) (l : Listed text trips W) where
+module _ (trips W : List ℕ) (l : Listed trips W) where
   abbrev S : List Stop
-  S = stopsNamed text trips W
+  S = stopsAt trips W
 
   abbrev E : List Stop
   E = stopsIn W
@@ -79,76 +77,63 @@ module _ (text trips W : List ℕ) (l : Listed text trips W) where
   abbrev E′ : List Stop
   E′ = stopsIn (sorted W)
 
-  line-within : (i : ℕ) → i < length E → stop E i .line ≤ length text
-  line-within i h = rw (stop-at W i) (l .within i (rw (stops-length W) at h) .1)
-
-  -- the place that is told is one of the text
-  pub lowest-within : (good : ℕ → Bool) {r : ℕ} → r ≡ lowestBad E good → (r ≡ none → ⊥) → r ≤ length text
+  told-whole : (good : ℕ → Bool) {r : ℕ} → r ≡ lowestBad E good → place r ≡ r
   unfolding lowestBad
-  lowest-within good {r} q n =
-      let mark : ℕ → ℕ = λ i. cond (good i) none (stop E i .line) in
-      let m = least-none mark (length E) in
-      let k = least-is mark (length E) r (omega (arith, q, n, m)) (omega (arith, q)) in
-      go (k .0) (k .1) (k .2) (least-le mark (length E) (k .0) (k .1)) m (split (good (k .0)))
-    where
-      go : (i : ℕ) → i < length E → cond (good i) none (stop E i .line) ≤ r → least (λ i. cond (good i) none (stop E i .line)) (length E) ≤ cond (good i) none (stop E i .line)
-          → least (λ i. cond (good i) none (stop E i .line)) (length E) ≤ none → (good i ≡ true) ⊎ (good i ≡ false) → r ≤ length text
-      go i h a b m (inl t) = absurd (omega (arith, q, n, m, cond-true none (stop E i .line) t, a))
-      go i h a b m (inr t) = on-up q b (cond-false none (stop E i .line) t) (line-within i h)
+  told-whole good {r} q = place-is r (subst (λ (x : ℕ). x ≤ none) (sym q) (least-none (λ i. cond (good i) none (stop E i .line)) (length E)))
 
   -- 15
   module _ {r : ℕ} (e : r ≡ lowestBad E′ (once E′)) where
     pub fifteen : r ≡ lowestBad E (once E)
-    fifteen = e ∙ repeats-sorted W (l .rises)
+    fifteen = e ∙ repeats-sorted W (l .rising .rises)
 
-    pub fifteen-told : (r ≡ none → ⊥) → {x : ℕ} → x ≡ place (lineNumber text r) → record { number = 15; place = x } ≡ tripsRefusal S
+    pub fifteen-told : (r ≡ none → ⊥) → record { number = 15; place = r } ≡ tripsRefusal S
     unfolding tripsRefusal
-    fifteen-told n {x} p =
-        let first = lowest-bad text trips W l 15 (omega arith) (once E) (once S) (once-alike (named-alike text trips W)) fifteen n in
-        ap (λ (y : ℕ). record { number = 15; place = y }) p ∙ sym (or-first (firstBadStop S 15 (once S)) (firstBadStop S 16 (inTime S)) (λ z. omega (arith, ap (λ (y : Refusal). y .number) first)) ∙ first)
+    fifteen-told n =
+        let first = lowest-bad (λ x. x) (tripAt trips) W (l .rising) 15 (omega arith) (once E) (once S) (once-alike (named-alike (λ x. x) (tripAt trips) W)) fifteen n in
+        ap (λ (y : ℕ). record { number = 15; place = y }) (sym (told-whole (once E) fifteen)) ∙ sym (or-first (firstBadStop S 15 (once S)) (firstBadStop S 16 (inTime S)) (λ z. omega (arith, ap (λ (y : Refusal). y .number) first)) ∙ first)
 
     module _ (n : r ≡ none) where
       pub all-once : AllOnce E
-      all-once = all-good E (once E) (below-none text trips W l) (sym fifteen ∙ n)
+      all-once = all-good E (once E) (below-none (λ x. x) (tripAt trips) W (l .rising)) (sym fifteen ∙ n)
 
       below-none′ : (i : ℕ) → i < length E′ → stop E′ i .line < none
-      below-none′ i h = let k = from-sorted W .found i h in rw (k .2) (below-none text trips W l (k .0) (k .1))
+      below-none′ i h = let k = from-sorted W .found i h in rw (k .2) (below-none (λ x. x) (tripAt trips) W (l .rising) (k .0) (k .1))
 
       pub all-once′ : AllOnce E′
       all-once′ = all-good E′ (once E′) below-none′ (sym e ∙ n)
 
       no-fifteen : firstBadStop S 15 (once S) ≡ fine
-      no-fifteen = none-bad text trips W l 15 (omega arith) (once E) (once S) (once-alike (named-alike text trips W)) (sym fifteen ∙ n)
+      no-fifteen = none-bad (λ x. x) (tripAt trips) W (l .rising) 15 (omega arith) (once E) (once S) (once-alike (named-alike (λ x. x) (tripAt trips) W)) (sym fifteen ∙ n)
 
       -- 16
       module _ {s : ℕ} (f : s ≡ lowestBad E′ (inTime E′)) where
         pub sixteen : s ≡ lowestBad E (inTime E)
         sixteen = f ∙ times-sorted W
 
-        pub sixteen-told : (s ≡ none → ⊥) → {x : ℕ} → x ≡ place (lineNumber text s) → record { number = 16; place = x } ≡ tripsRefusal S
+        pub sixteen-told : (s ≡ none → ⊥) → record { number = 16; place = s } ≡ tripsRefusal S
         unfolding tripsRefusal
-        sixteen-told m {x} p =
-            let second = lowest-bad text trips W l 16 (omega arith) (inTime E) (inTime S) (time-alike (named-alike text trips W)) sixteen m in
-            ap (λ (y : ℕ). record { number = 16; place = y }) p ∙ sym (or-next (firstBadStop S 15 (once S)) (firstBadStop S 16 (inTime S)) (ap (λ (y : Refusal). y .number) no-fifteen) ∙ second)
+        sixteen-told m =
+            let second = lowest-bad (λ x. x) (tripAt trips) W (l .rising) 16 (omega arith) (inTime E) (inTime S) (time-alike (named-alike (λ x. x) (tripAt trips) W)) sixteen m in
+            ap (λ (y : ℕ). record { number = 16; place = y }) (sym (told-whole (inTime E) sixteen)) ∙ sym (or-next (firstBadStop S 15 (once S)) (firstBadStop S 16 (inTime S)) (ap (λ (y : Refusal). y .number) no-fifteen) ∙ second)
 
         pub nothing-told : s ≡ none → tripsRefusal S ≡ fine
         unfolding tripsRefusal
         nothing-told m =
             or-next (firstBadStop S 15 (once S)) (firstBadStop S 16 (inTime S)) (ap (λ (y : Refusal). y .number) no-fifteen)
-            ∙ none-bad text trips W l 16 (omega arith) (inTime E) (inTime S) (time-alike (named-alike text trips W)) (sym sixteen ∙ m)
+            ∙ none-bad (λ x. x) (tripAt trips) W (l .rising) 16 (omega arith) (inTime E) (inTime S) (time-alike (named-alike (λ x. x) (tripAt trips) W)) (sym sixteen ∙ m)
 
   -- ---- the hops
   module _ (f : Placed W) (u : AllOnce E) (u′ : AllOnce E′) where
-    pub hops-are : hopsOf S ≡ map (hopOut trips) (sorted (hopEntries E′ (length E′)))
-    hops-are = sym (hops-named text trips W f) ∙ ap (map (hopOut trips)) (sym (in-order W f (l .rises) u u′))
+    pub hops-are : hopsOf S ≡ map (hopOut (tripAt trips)) (sorted (hopEntries E′ (length E′)))
+    hops-are = sym (hops-named (λ x. x) (tripAt trips) W f) ∙ ap (map (hopOut (tripAt trips))) (sym (in-order W f (l .rising .rises) u u′))
 
     pub hops-count : length (hopsOf S) ≡ length (hopEntries E′ (length E′))
-    hops-count = ap length hops-are ∙ length-map (sorted (hopEntries E′ (length E′))) (hopOut trips) ∙ sorted-length (hopEntries E′ (length E′))
+    hops-count = ap length hops-are ∙ length-map (sorted (hopEntries E′ (length E′))) (hopOut (tripAt trips)) ∙ sorted-length (hopEntries E′ (length E′))
 
-    pub hops-flat : (k : ℕ) → k ≡ length (hopEntries E′ (length E′)) → joined (λ i. hopOut trips (at (sorted (hopEntries E′ (length E′))) i)) k ≡ flatMap (λ h. h) (hopsOf S)
+    pub hops-flat : (k : ℕ) → k ≡ length (hopEntries E′ (length E′)) → joined (λ i. hopOut (tripAt trips) (at (sorted (hopEntries E′ (length E′))) i)) k ≡ flatMap (λ h. h) (hopsOf S)
     hops-flat k e =
-        ap (joined (λ i. hopOut trips (at (sorted (hopEntries E′ (length E′))) i))) (e ∙ sym (sorted-length (hopEntries E′ (length E′))))
-        ∙ sym (flat-joined (hopOut trips) (sorted (hopEntries E′ (length E′))))
+        ap (joined (λ i. hopOut (tripAt trips) (at (sorted (hopEntries E′ (length E′))) i))) (e ∙ sym (sorted-length (hopEntries E′ (length E′))))
+        ∙ sym (flat-joined (hopOut (tripAt trips)) (sorted (hopEntries E′ (length E′))))
         ∙ ap (flatMap (λ h. h)) (sym hops-are)
 
     shorter : {i : ℕ} → i < length E′ → i < length (sorted W)
@@ -164,8 +149,7 @@ module _ (text trips W : List ℕ) (l : Listed text trips W) where
         let a = small (sorted W) (placed-sorted W f) (r .0) (shorter (r .3)) in
         let b = small (sorted W) (placed-sorted W f) (r .1) (shorter (r .2)) in
         let t = ap (λ (x : ℕ). x / 2 ^ 64 % 2 ^ 64 % 2 ^ 32) (r .6) ∙ entry-trip E′ (r .0) (r .1) a b ∙ ap (λ (s : Stop). s .trip) (p .2 ∙ stop-at W (p .0)) in
-        let g = l .listed (p .0) (shortest (p .1)) in
-        record { within = rw t (g .0); good = rw t (g .1) }
+        subst (Good trips) (sym t) (l .listed (p .0) (shortest (p .1)))
 
     -- what `gather` leaves: k hops in front
     module _ (b : List ℕ) {Y : List ℕ} {n k : ℕ} (y : Y ≡ sorted W) (m : n ≡ length W) (e : k ≡ length (hopEntries (stopsIn Y) n)) (g : recs n b ≡ gatheredIn Y n) where
@@ -182,13 +166,13 @@ module _ (text trips W : List ℕ) (l : Listed text trips W) where
       pub finish-fits : length b ≡ 20 * n → (20 * k ≤ length b) × OnTrips trips (recs k b)
       finish-fits len = (omega (arith, few-hops), subst (OnTrips trips) (sym front-is) on-trips)
 
-      pub gathered-told : (b₀ : List ℕ) {a : Refusal} {d : List ℕ} → a ≡ fine → tripsRefusal S ≡ fine → length b ≡ length b₀ → d ≡ filled b (joined (λ i. hopOut trips (at (sorted (recs k b)) i)) k)
+      pub gathered-told : (b₀ : List ℕ) {a : Refusal} {d : List ℕ} → a ≡ fine → tripsRefusal S ≡ fine → length b ≡ length b₀ → d ≡ filled b (joined (λ i. hopOut (tripAt trips) (at (sorted (recs k b)) i)) k)
           → (a ≡ tripsRefusal S) × (k ≡ tripsHops S) × (d ≡ tripsBytes S b₀) × (k ≤ n)
       gathered-told b₀ {a} {d} q t len z =
           let f : tripsRefusal S .number ≡ 0 = ap (λ (r : Refusal). r .number) t in
           let counted : k ≡ length (hopEntries E′ (length E′)) = e ∙ ap length same-hops in (
             q ∙ sym t,
             counted ∙ sym hops-count ∙ sym (accepted-hops S b₀ b len f),
-            z ∙ ap (filled b) (ap (λ (x : List ℕ). joined (λ i. hopOut trips (at (sorted x) i)) k) front-is ∙ hops-flat k counted) ∙ accepted-bytes S b₀ b len f,
+            z ∙ ap (filled b) (ap (λ (x : List ℕ). joined (λ i. hopOut (tripAt trips) (at (sorted x) i)) k) front-is ∙ hops-flat k counted) ∙ accepted-bytes S b₀ b len f,
             few-hops,
           )

@@ -30,7 +30,7 @@ use Rattle.words.proofs.Written.{length-word, length-written, written-next, beh
 use Rattle.moves.proofs.Rows.{rows-long, rows-none, rows-next, rows-all}
 use Rattle.hoporder.specs.Named.{lineFrom, numberAt}
 use Rattle.hoporder.specs.Hops.{hopOut}
-use Rattle.hopbytes.specs.Listing.{tripPlace, OnTrip, OnTrips}
+use Rattle.hopbytes.specs.Listing.{tripAt, tripPlace, OnTrip, OnTrips}
 
 -- ---- a line of the list
 module _ (line : List ℕ) (g : listLine none line ≡ true) where
@@ -76,9 +76,12 @@ number-from trips place stop h s e = e ∙ ap (λ (l : List ℕ). valueOf (field
 pub from-fits : (x : ℕ) → x < 2 ^ 64 → x / 2 ^ 36 < 2 ^ 32
 from-fits x h = omega arith
 
-pub trip-there : (trips : List ℕ) (x : ℕ) {second : ℕ} → OnTrip trips x → second ≡ x / 2 ^ 64 % 2 ^ 64
-    → (second % 2 ^ 32 ≤ length trips) × (listLine none (lineFrom trips (second % 2 ^ 32)) ≡ true)
-trip-there trips x o e = rw e (o .within, o .good)
+module _ (trips : List ℕ) (x : ℕ) {second : ℕ} (o : OnTrip trips x) (e : second ≡ x / 2 ^ 64 % 2 ^ 64) where
+  pub trip-above : 1 ≤ second % 2 ^ 32
+  trip-above = rw e (o .above)
+
+  pub trip-there : (second % 2 ^ 32 - 1 ≤ length trips) × (listLine none (lineFrom trips (second % 2 ^ 32 - 1)) ≡ true)
+  trip-there = rw e (o .within, o .good)
 
 module _ (d : List ℕ) (p f t l r m : ℕ) (h : p + 20 ≤ length d) where
   pub five-words : written (written (written (written (written d p (word f)) (p + 4) (word t)) (p + 8) (word l)) (p + 12) (word r)) (p + 16) (word m)
@@ -91,22 +94,22 @@ module _ (d : List ℕ) (p f t l r m : ℕ) (h : p + 20 ≤ length d) where
       ∙ written-next d p (word f ++ word t ++ word l ++ word r) (omega arith) (word m)
 
 module _ (trips d : List ℕ) (p x first second to trip : ℕ) (h : p + 20 ≤ length d) where
-  pub hop-written : first ≡ x % 2 ^ 64 → second ≡ x / 2 ^ 64 % 2 ^ 64 → to ≡ x / 2 ^ 64 / 2 ^ 64 → trip ≡ numberAt trips (second % 2 ^ 32)
+  pub hop-written : first ≡ x % 2 ^ 64 → second ≡ x / 2 ^ 64 % 2 ^ 64 → to ≡ x / 2 ^ 64 / 2 ^ 64 → trip ≡ numberAt trips (second % 2 ^ 32 - 1)
       → written (written (written (written (written d p (word (first / 2 ^ 36))) (p + 4) (word to)) (p + 8) (word (first / 2 ^ 18 % 2 ^ 18))) (p + 12) (word (first % 2 ^ 18))) (p + 16) (word trip)
-      ≡ written d p (hopOut trips x)
-  unfolding hopOut
+      ≡ written d p (hopOut (tripAt trips) x)
+  unfolding hopOut tripAt
   hop-written a b c e =
       five-words d p (first / 2 ^ 36) to (first / 2 ^ 18 % 2 ^ 18) (first % 2 ^ 18) trip h
       ∙ rw (e, c, b, a)
 
 -- ---- one hop after the other
-pub hop-long : (trips : List ℕ) (x : ℕ) → length (hopOut trips x) ≡ 20
+pub hop-long : (trips : List ℕ) (x : ℕ) → length (hopOut (tripAt trips) x) ≡ 20
 unfolding hopOut word
 hop-long trips x = refl
 
 module _ (trips b₀ : List ℕ) (n : ℕ) where
   abbrev pub out : ℕ → List ℕ
-  out i = hopOut trips (at (recs n b₀) i)
+  out i = hopOut (tripAt trips) (at (recs n b₀) i)
 
   out-long : (m : ℕ) → length (joined out m) ≡ 20 * m
   out-long m = rows-long out 20 m (λ i l. hop-long trips (at (recs n b₀) i))
@@ -129,11 +132,11 @@ module _ (trips b₀ : List ℕ) (n : ℕ) (len : length b₀ ≡ 20 * n) where
         ∙ behind-kept b₀ 0 (joined (out trips b₀ n) i) (omega (arith, out-long trips b₀ n i)) (0 + i * 20 + j) (omega (arith, out-long trips b₀ n i)))
         ∙ sym (col-get 20 n b₀ 0 i h)
 
-    pub writing-on : {c : List ℕ} → i < n → length c ≡ length b → c ≡ written b (20 * i) (hopOut trips (at (recs n b) i)) → Writing trips b₀ n c (i + 1)
+    pub writing-on : {c : List ℕ} → i < n → length c ≡ length b → c ≡ written b (20 * i) (hopOut (tripAt trips) (at (recs n b) i)) → Writing trips b₀ n c (i + 1)
     writing-on h s e = record {
       size = s ∙ w .size;
       within = omega arith;
-      front = e ∙ ap₂ (λ (x : List ℕ) (y : ℕ). written x (20 * i) (hopOut trips y)) (w .front) (still h)
+      front = e ∙ ap₂ (λ (x : List ℕ) (y : ℕ). written x (20 * i) (hopOut (tripAt trips) y)) (w .front) (still h)
           ∙ rows-next (out trips b₀ n) 20 b₀ i (λ j l. hop-long trips (at (recs n b₀) j)) (omega arith);
     }
 

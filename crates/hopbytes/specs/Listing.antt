@@ -2,20 +2,28 @@
 use mathlib.Core.Path.{_≡_}
 use mathlib.Core.Bool.{true}
 use mathlib.Core.List.{List}
-use Prim.Native.Nat.{ℕ, _/_, _%_, _<_, _≤_, _^_}
+use Prim.Native.Nat.{ℕ, _-_, _/_, _%_, _<_, _≤_, _^_}
 use lib.ListN.{length}
 use Rattle.journeys.specs.Counting.{none}
 use Rattle.table_bytes.specs.Columns.{at}
 use Rattle.feed.specs.Ids.{listLine}
-use Rattle.hoporder.specs.Named.{lineFrom}
+use Rattle.hoporder.specs.Named.{lineFrom, numberAt}
 
--- where its trip is listed, by a good line
+-- A trip is called by the place of its line in the list, counted from 1; the number on that line is the trip's.
+unfoldable pub tripAt : List ℕ → ℕ → ℕ
+tripAt trips k = numberAt trips (k - 1)
+
 abbrev pub tripPlace : ℕ → ℕ
 tripPlace x = x / 2 ^ 64 % 2 ^ 64 % 2 ^ 32
 
-pub record OnTrip (trips : List ℕ) (x : ℕ) : Type 0 where
-  pub within : tripPlace x ≤ length trips
-  pub good : listLine none (lineFrom trips (tripPlace x)) ≡ true
+-- that is a good line of the list
+pub record Good (trips : List ℕ) (k : ℕ) : Type 0 where
+  pub above : 0 < k
+  pub within : k - 1 ≤ length trips
+  pub good : listLine none (lineFrom trips (k - 1)) ≡ true
+
+abbrev pub OnTrip : List ℕ → ℕ → Type 0
+OnTrip trips x = Good trips (tripPlace x)
 
 abbrev pub OnTrips : List ℕ → List ℕ → Type 0
 OnTrips trips R = (i : ℕ) → i < length R → OnTrip trips (at R i)

@@ -19,7 +19,7 @@ ghost use Rattle.feed.specs.Ids.{listLine};
 ghost use Rattle.words.specs.Written.{written};
 ghost use Rattle.hoporder.specs.Named.{lineFrom, numberAt};
 ghost use Rattle.hoporder.specs.Hops.{hopOut};
-ghost use Rattle.hopbytes.specs.Listing.{OnTrip, OnTrips};
+ghost use Rattle.hopbytes.specs.Listing.{tripAt, OnTrip, OnTrips};
 
 // The number on a line of the list.
 fn number_on(line: &[u8]) -> u32
@@ -45,12 +45,12 @@ fn trip_number(trips: &[u8], place: usize) -> u32
 // Record i of n becomes a hop.
 fn write_out(b: &mut [u8], n: usize, i: usize, trips: &[u8])
     requires { ⌜ (length (now b) ≡ 20 * n) × (i < n) × OnTrip (now trips) (at (recs n (now b)) i) ⌝ }
-    ensures { λ _. ⌜ now (b .exit) ≡ written (now (b .entry)) (20 * i) (hopOut (now (trips .entry)) (at (recs n (now (b .entry))) i)) ⌝ }
+    ensures { λ _. ⌜ now (b .exit) ≡ written (now (b .entry)) (20 * i) (hopOut (tripAt (now (trips .entry))) (at (recs n (now (b .entry))) i)) ⌝ }
 {
     let first = low(b, n, i);
     let second = middle(b, n, i);
     let to = high(b, n, i);
-    let trip = trip_number(trips, (second % 4294967296) as usize);
+    let trip = trip_number(trips, (second % 4294967296) as usize - 1);
     let p = 20 * i;
     put_word(b, p, (first / 68719476736) as u32);
     put_word(b, p + 4, to);
@@ -61,7 +61,7 @@ fn write_out(b: &mut [u8], n: usize, i: usize, trips: &[u8])
 
 pub fn write_hops(b: &mut [u8], n: usize, trips: &[u8])
     requires { ⌜ (length (now b) ≡ 20 * n) × OnTrips (now trips) (recs n (now b)) ⌝ }
-    ensures { λ _. ⌜ now (b .exit) ≡ joined (λ i. hopOut (now (trips .entry)) (at (recs n (now (b .entry))) i)) n ⌝ }
+    ensures { λ _. ⌜ now (b .exit) ≡ joined (λ i. hopOut (tripAt (now (trips .entry))) (at (recs n (now (b .entry))) i)) n ⌝ }
 {
     let mut i = 0;
     while i < n {

@@ -16,7 +16,7 @@ use Rattle.feed.specs.Trips.{stop, noStop, hop}
 use Rattle.succession.specs.Entries.{stopIn, stopsIn}
 use Rattle.succession.proofs.OrderLaws.{stop-at}
 use Rattle.connections.specs.Gathered.{hopEntry}
-use Rattle.hoporder.specs.Named.{stopNamed, stopsNamed, numberAt}
+use Rattle.hoporder.specs.Named.{stopNamed, stopsNamed}
 use Rattle.hoporder.specs.Hops.{Placed, hopOut}
 
 -- ---- records that fit
@@ -158,15 +158,15 @@ getD-map-in f [] i h = absurd (not-suc-le-zero h)
 getD-map-in f (x ∷ l) zero h = refl
 getD-map-in f (x ∷ l) (suc i) h = getD-map-in f l i (omega arith)
 
-module _ (text trips : List ℕ) (W : List ℕ) where
-  pub named-at : (i : ℕ) → i < length W → stop (stopsNamed text trips W) i ≡ stopNamed text trips (at W i)
-  named-at i h = getD-map-in (stopNamed text trips) W i h
+module _ (number tripOf : ℕ → ℕ) (W : List ℕ) where
+  pub named-at : (i : ℕ) → i < length W → stop (stopsNamed number tripOf W) i ≡ stopNamed number tripOf (at W i)
+  named-at i h = getD-map-in (stopNamed number tripOf) W i h
 
-  pub named-length : length (stopsNamed text trips W) ≡ length W
-  named-length = length-map W (stopNamed text trips)
+  pub named-length : length (stopsNamed number tripOf W) ≡ length W
+  named-length = length-map W (stopNamed number tripOf)
 
   module _ (f : Placed W) (p i : ℕ) (h : p < length W) (k : i < length W) where
-    pub hop-out : hopOut trips (hopEntry (stopsIn W) p i) ≡ hop (stopsNamed text trips W) p i
+    pub hop-out : hopOut tripOf (hopEntry (stopsIn W) p i) ≡ hop (stopsNamed number tripOf W) p i
     unfolding hopOut hop
     hop-out =
         let a = small W f p h in

@@ -18,9 +18,8 @@ use Rattle.feed.specs.Stops.{Stop}
 use Rattle.feed.specs.Trips.{stop, firstBadStop}
 use Rattle.succession.specs.Entries.{stopIn, stopsIn, lowestBad}
 use Rattle.succession.proofs.OrderLaws.{stop-at, stops-length}
-use Rattle.linecount.specs.Numbered.{lineNumber}
 use Rattle.relabelled.specs.Alike.{Alike}
-use Rattle.hoporder.specs.Named.{stopNamed, stopsNamed, Listed}
+use Rattle.hoporder.specs.Named.{stopNamed, stopsNamed, Rising}
 use Rattle.hoporder.proofs.HopFields.{named-at, named-length}
 
 -- nothing is bad where no line is told
@@ -32,14 +31,14 @@ all-good S good f e i h = ⊎-elim (λ (q : good i ≡ true). q)
     absurd (omega (arith, e, least-here, cond-false none (stop S i .line) q, f i h)))
     (split (good i))
 
-module _ (text trips : List ℕ) (W : List ℕ) where
-  told : {A : Type 0} (g : Stop → A) → ((x : ℕ) → g (stopIn x) ≡ g (stopNamed text trips x)) → (i : ℕ) → i < length (stopsIn W) → g (stop (stopsIn W) i) ≡ g (stop (stopsNamed text trips W) i)
-  told g e i h = ap g (stop-at W i) ∙ e (at W i) ∙ ap g (sym (named-at text trips W i (rw (stops-length W) at h)))
+module _ (number tripOf : ℕ → ℕ) (W : List ℕ) where
+  told : {A : Type 0} (g : Stop → A) → ((x : ℕ) → g (stopIn x) ≡ g (stopNamed number tripOf x)) → (i : ℕ) → i < length (stopsIn W) → g (stop (stopsIn W) i) ≡ g (stop (stopsNamed number tripOf W) i)
+  told g e i h = ap g (stop-at W i) ∙ e (at W i) ∙ ap g (sym (named-at number tripOf W i (rw (stops-length W) at h)))
 
   -- the same stops, told in two ways
-  pub named-alike : Alike (stopsIn W) (stopsNamed text trips W)
+  pub named-alike : Alike (stopsIn W) (stopsNamed number tripOf W)
   named-alike = record {
-    size = stops-length W ∙ sym (named-length text trips W);
+    size = stops-length W ∙ sym (named-length number tripOf W);
     trip = λ i j h k. ap₂ (λ (x y : ℕ). eqb x y) (told (λ s. s .trip) (λ x. refl) i h) (told (λ s. s .trip) (λ x. refl) j k);
     sequence = told (λ s. s .sequence) (λ x. refl);
     vertex = told (λ s. s .vertex) (λ x. refl);
@@ -48,39 +47,39 @@ module _ (text trips : List ℕ) (W : List ℕ) where
     departure = told (λ s. s .departure) (λ x. refl);
   }
 
-  module _ (l : Listed text trips W) where
+  module _ (l : Rising W) where
     pub below-none : (i : ℕ) → i < length (stopsIn W) → stop (stopsIn W) i .line < none
-    below-none i h = rw (stop-at W i) (l .within i (rw (stops-length W) at h) .0)
+    below-none i h = rw (stop-at W i) (l .within i (rw (stops-length W) at h))
 
-    module _ (number : ℕ) (z : 0 < number) (good same : ℕ → Bool) (e : (i : ℕ) → i < length (stopsIn W) → good i ≡ same i) where
-      told-good : (i : ℕ) → i < length (stopsNamed text trips W) → good i ≡ true → unless (same i) number (place (stop (stopsNamed text trips W) i .line)) .number ≡ 0
-      told-good i h q = ap (λ (r : Refusal). r .number) (unless-good (same i) number _ (sym (e i (rw (named-alike .size) h)) ∙ q))
+    module _ (k : ℕ) (z : 0 < k) (good same : ℕ → Bool) (e : (i : ℕ) → i < length (stopsIn W) → good i ≡ same i) where
+      told-good : (i : ℕ) → i < length (stopsNamed number tripOf W) → good i ≡ true → unless (same i) k (place (stop (stopsNamed number tripOf W) i .line)) .number ≡ 0
+      told-good i h q = ap (λ (r : Refusal). r .number) (unless-good (same i) k _ (sym (e i (rw (named-alike .size) h)) ∙ q))
 
-      pub none-bad : lowestBad (stopsIn W) good ≡ none → firstBadStop (stopsNamed text trips W) number same ≡ fine
+      pub none-bad : lowestBad (stopsIn W) good ≡ none → firstBadStop (stopsNamed number tripOf W) k same ≡ fine
       unfolding firstBadStop
       none-bad q =
-          from-none (λ i. unless (same i) number (place (stop (stopsNamed text trips W) i .line))) (length (stopsNamed text trips W)) 0
-          (λ k a b. let h : k < length (stopsNamed text trips W) = omega arith in told-good k h (all-good (stopsIn W) good below-none q k (rw (named-alike .size) h)))
+          from-none (λ i. unless (same i) k (place (stop (stopsNamed number tripOf W) i .line))) (length (stopsNamed number tripOf W)) 0
+          (λ k a b. let h : k < length (stopsNamed number tripOf W) = omega arith in told-good k h (all-good (stopsIn W) good below-none q k (rw (named-alike .size) h)))
 
       -- the lowest place is that of the first
       first-at : (i : ℕ) → i < length (stopsIn W) → good i ≡ false → ((j : ℕ) → j < i → good j ≡ true)
-          → firstBadStop (stopsNamed text trips W) number same ≡ record { number = number; place = place (lineNumber text (stop (stopsIn W) i .line)) }
+          → firstBadStop (stopsNamed number tripOf W) k same ≡ record { number = k; place = place (number (stop (stopsIn W) i .line)) }
       unfolding firstBadStop
       first-at i h q before =
-          let f : ℕ → Refusal = λ i. unless (same i) number (place (stop (stopsNamed text trips W) i .line)) in
-          let k : i < length (stopsNamed text trips W) = rw (← named-alike .size) h in
-          let bad : f i ≡ record { number = number; place = place (stop (stopsNamed text trips W) i .line) } = unless-bad (same i) number _ (sym (e i h) ∙ q) in
-          from-first f (length (stopsNamed text trips W)) 0 i (omega arith) (omega arith) (λ c. omega (arith, ap (λ (r : Refusal). r .number) bad))
+          let f : ℕ → Refusal = λ i. unless (same i) k (place (stop (stopsNamed number tripOf W) i .line)) in
+          let there : i < length (stopsNamed number tripOf W) = rw (← named-alike .size) h in
+          let bad : f i ≡ record { number = k; place = place (stop (stopsNamed number tripOf W) i .line) } = unless-bad (same i) k _ (sym (e i h) ∙ q) in
+          from-first f (length (stopsNamed number tripOf W)) 0 i (omega arith) (omega arith) (λ c. omega (arith, ap (λ (r : Refusal). r .number) bad))
           (λ j a b. told-good j (omega arith) (before j b))
           ∙ bad
-          ∙ ap (λ (m : ℕ). record { number = number; place = place m })
-          (ap (λ (s : Stop). s .line) (named-at text trips W i (rw (named-length text trips W) at k)) ∙ sym (ap (λ (s : Stop). lineNumber text (s .line)) (stop-at W i)))
+          ∙ ap (λ (m : ℕ). record { number = k; place = place m })
+          (ap (λ (s : Stop). s .line) (named-at number tripOf W i (rw (named-length number tripOf W) at there)) ∙ sym (ap (λ (s : Stop). number (s .line)) (stop-at W i)))
 
       abbrev mark : ℕ → ℕ
       mark i = cond (good i) none (stop (stopsIn W) i .line)
 
       pub lowest-bad : {r : ℕ} → r ≡ lowestBad (stopsIn W) good → (r ≡ none → ⊥)
-          → firstBadStop (stopsNamed text trips W) number same ≡ record { number = number; place = place (lineNumber text r) }
+          → firstBadStop (stopsNamed number tripOf W) k same ≡ record { number = k; place = place (number r) }
       unfolding lowestBad
       lowest-bad {r} q n =
           let m = least-none mark (length (stopsIn W)) in
@@ -91,7 +90,7 @@ module _ (text trips : List ℕ) (W : List ℕ) where
           under j i p h = rw (stop-at W j, stop-at W i) (l .rises j i p (rw (stops-length W) at h))
 
           go : (i : ℕ) → i < length (stopsIn W) → cond (good i) none (stop (stopsIn W) i .line) ≤ r → least mark (length (stopsIn W)) ≤ mark i → (good i ≡ true) ⊎ (good i ≡ false)
-              → firstBadStop (stopsNamed text trips W) number same ≡ record { number = number; place = place (lineNumber text r) }
+              → firstBadStop (stopsNamed number tripOf W) k same ≡ record { number = k; place = place (number r) }
           go i h a b (inl t) = absurd (omega (arith, q, n, least-none mark (length (stopsIn W)), cond-true none (stop (stopsIn W) i .line) t, a))
           go i h a b (inr t) =
               let c = cond-false none (stop (stopsIn W) i .line) t in
@@ -100,4 +99,4 @@ module _ (text trips : List ℕ) (W : List ℕ) where
               (λ (y : good j ≡ false).
               absurd (omega (arith, q, here, least-le mark (length (stopsIn W)) j (omega arith), cond-false none (stop (stopsIn W) j .line) y, under j i p h)))
               (split (good j)))
-              ∙ ap (λ (x : ℕ). record { number = number; place = place (lineNumber text x) }) here
+              ∙ ap (λ (x : ℕ). record { number = k; place = place (number x) }) here

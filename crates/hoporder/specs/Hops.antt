@@ -12,7 +12,6 @@ use Rattle.feed.specs.Stops.{Stop}
 use Rattle.feed.specs.Trips.{stop, next, beyond}
 use Rattle.succession.specs.Entries.{stopIn}
 use Rattle.connections.specs.Gathered.{hopEntry}
-use Rattle.hoporder.specs.Named.{numberAt}
 
 -- each number of a list stands in this relation to those behind it
 abbrev pub Pairwise : (ℕ → ℕ → Type 0) → List ℕ → Type 0
@@ -34,10 +33,10 @@ abbrev pub Placed : List ℕ → Type 0
 Placed W = (i : ℕ) → i < length W → stopIn (at W i) .trip < 2 ^ 32
 
 -- "from", "to", departure, arrival and the number of the trip
-unfoldable pub hopOut : List ℕ → ℕ → List ℕ
-hopOut trips x =
+unfoldable pub hopOut : (ℕ → ℕ) → ℕ → List ℕ
+hopOut tripOf x =
     word (x % 2 ^ 64 / 2 ^ 36)
     ++ word (x / 2 ^ 64 / 2 ^ 64)
     ++ word (x % 2 ^ 64 / 2 ^ 18 % 2 ^ 18)
     ++ word (x % 2 ^ 64 % 2 ^ 18)
-    ++ word (numberAt trips (x / 2 ^ 64 % 2 ^ 64 % 2 ^ 32))
+    ++ word (tripOf (x / 2 ^ 64 % 2 ^ 64 % 2 ^ 32))

@@ -11,7 +11,7 @@ use Rattle.journeys.specs.Bytes.{filled}
 use Rattle.table_bytes.specs.Columns.{at}
 use Rattle.sorting.specs.Sorted.{recs, sorted}
 use Rattle.hoporder.specs.Hops.{hopOut}
-use Rattle.hopbytes.specs.Listing.{OnTrips}
+use Rattle.hopbytes.specs.Listing.{tripAt, OnTrips}
 use Rattle.departures.proofs.SliceLaws.{recs-front, finish-told}
 use borrow.Author.Needs.{needs}
 use Rattle.departures.proofs.finish.Statement.{statement}
@@ -64,7 +64,7 @@ returns c =
     let s = order .before .before .before .before in
     let a = s .args in
     finish-told (now (a .b)) (order .in-order .last .0) _ (20 * a .k) (s .pre .0) (order .in-order .kept .0 ∙ length-take-le (20 * a .k) (now (a .b)) (s .pre .0)) (zero .zero .ensures)
-    ∙ ap (filled (now (a .b))) (order .in-order .ensures ∙ ap (λ (W : List ℕ). joined (λ i. hopOut (now (a .trips)) (at (sorted W) i)) (a .k)) (recs-front (a .k) (a .k) (now (a .b)) (omega arith)))
+    ∙ ap (filled (now (a .b))) (order .in-order .ensures ∙ ap (λ (W : List ℕ). joined (λ i. hopOut (tripAt (now (a .trips))) (at (sorted W) i)) (a .k)) (recs-front (a .k) (a .k) (now (a .b)) (omega arith)))
 
 pub finish-spec : {M : Type 1} → statement M
 finish-spec =

@@ -8,7 +8,7 @@ use lib.Seq.{length-take-le}
 use denote.Ref.{now}
 use borrow.Rule.Slice.PartMut.{midOf, putMid}
 use Rattle.sorting.specs.Sorted.{recs}
-use Rattle.hoporder.specs.Named.{stopsNamed, Listed}
+use Rattle.departures.specs.Entries.{stopsAt, Listed}
 use Rattle.departures.specs.Answered.{tripsRefusal, tripsHops, tripsBytes}
 use Rattle.departures.proofs.SliceLaws.{recs-front, front-kept, behind-zero, bytes-more}
 use borrow.Author.Needs.{needs}
@@ -50,16 +50,16 @@ slice-relend-prefix-judge c = search needs
 slice-aggregate-judge : tie.Need-slice-aggregate-judge
 slice-aggregate-judge c =
     let zero = c .before .before .before in
-    let s = zero .before .before .before .before .before in
+    let s = zero .before .before .before .before in
     sym (lent-long (now (s .args .b)) _ (s .args .n) (s .pre .0) (zero .zero .ensures))
 
 -- src/lib.rt:92:5
 judge-requires : tie.Need-judge-requires
 judge-requires c κs =
     let zero = c .before .before .before in
-    let s = zero .before .before .before .before .before in
+    let s = zero .before .before .before .before in
     let a = s .args in
-    (lent-long (now (a .b)) _ (a .n) (s .pre .0) (zero .zero .ensures), subst (λ (W : List ℕ). Listed (now (a .text)) (now (a .trips)) W) (sym (lent-records (now (a .b)) _ (a .n) (s .pre .0) (zero .zero .ensures))) (s .pre .1))
+    (lent-long (now (a .b)) _ (a .n) (s .pre .0) (zero .zero .ensures), subst (λ (W : List ℕ). Listed (now (a .trips)) W) (sym (lent-records (now (a .b)) _ (a .n) (s .pre .0) (zero .zero .ensures))) (s .pre .1))
 
 -- src/lib.rt:84:1
 same-length : tie.Need-same-length
@@ -70,17 +70,17 @@ returns : tie.Need-returns
 returns c =
     let judge = c .before .before in
     let zero = judge .before .before .before .before in
-    let s = zero .before .before .before .before .before in
+    let s = zero .before .before .before .before in
     let a = s .args in
     let b = now (a .b) in
     let w = lent-records b _ (a .n) (s .pre .0) (zero .zero .ensures) in
     let front = front-kept b _ (20 * a .n) (s .pre .0) (zero .zero .ensures) in (
-      judge .judge .ensures .0 ∙ ap (λ (W : List ℕ). tripsRefusal (stopsNamed (now (a .text)) (now (a .trips)) W)) w,
-      judge .judge .ensures .1 ∙ ap (λ (W : List ℕ). tripsHops (stopsNamed (now (a .text)) (now (a .trips)) W)) w,
+      judge .judge .ensures .0 ∙ ap (λ (W : List ℕ). tripsRefusal (stopsAt (now (a .trips)) W)) w,
+      judge .judge .ensures .1 ∙ ap (λ (W : List ℕ). tripsHops (stopsAt (now (a .trips)) W)) w,
       ap (λ (x : List ℕ). judge .judge .last .0 ++ x) (behind-zero b _ (20 * a .n) (s .pre .0) (zero .zero .ensures))
-          ∙ bytes-more (stopsNamed (now (a .text)) (now (a .trips)) (recs (a .n) b)) b (judge .judge .last .0) (20 * a .n) (s .pre .0)
+          ∙ bytes-more (stopsAt (now (a .trips)) (recs (a .n) b)) b (judge .judge .last .0) (20 * a .n) (s .pre .0)
           (judge .judge .kept .0 ∙ lent-long b _ (a .n) (s .pre .0) (zero .zero .ensures))
-          (judge .judge .ensures .2 ∙ ap (λ (W : List ℕ). tripsBytes (stopsNamed (now (a .text)) (now (a .trips)) W) (take (20 * a .n) (putMid (20 * a .n) (length b - 20 * a .n) b (zero .zero .last .0)))) w ∙ ap (tripsBytes (stopsNamed (now (a .text)) (now (a .trips)) (recs (a .n) b))) front),
+          (judge .judge .ensures .2 ∙ ap (λ (W : List ℕ). tripsBytes (stopsAt (now (a .trips)) W) (take (20 * a .n) (putMid (20 * a .n) (length b - 20 * a .n) b (zero .zero .last .0)))) w ∙ ap (tripsBytes (stopsAt (now (a .trips)) (recs (a .n) b))) front),
       judge .judge .ensures .3,
     )
 

@@ -5,7 +5,7 @@ use Prim.Native.Nat.{ℕ}
 use Rattle.journeys.specs.Counting.{joined}
 use Rattle.table_bytes.specs.Columns.{at}
 use Rattle.hoporder.specs.Hops.{hopOut}
-use Rattle.hopbytes.specs.Listing.{OnTrips}
+use Rattle.hopbytes.specs.Listing.{tripAt, OnTrips}
 use Rattle.departures.proofs.JudgeLaws.{on-sorted}
 use borrow.Author.Needs.{needs}
 use Rattle.departures.proofs.in_order.Statement.{statement}
@@ -32,7 +32,7 @@ returns c =
     let write = c .before .before in
     let sort = write .before .before .before .before in
     let s = sort .before .before .before .before in
-    write .write-hops .ensures ∙ ap (λ (W : List ℕ). joined (λ i. hopOut (s .args .trips .now) (at W i)) (s .args .k)) (sort .sort .ensures)
+    write .write-hops .ensures ∙ ap (λ (W : List ℕ). joined (λ i. hopOut (tripAt (s .args .trips .now)) (at W i)) (s .args .k)) (sort .sort .ensures)
 
 pub in-order-spec : {M : Type 1} → statement M
 in-order-spec = tie.close (tie.spec sort-requires write-hops-requires same-length returns)

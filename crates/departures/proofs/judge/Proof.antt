@@ -11,9 +11,8 @@ use Rattle.sorting.proofs.Arranged.{sorted-ascends}
 use Rattle.sorting.proofs.Digits.{Bytes}
 use Rattle.feed.specs.Trips.{once, inTime}
 use Rattle.succession.specs.Entries.{stopsIn, lowestBad, AllOnce}
-use Rattle.hoporder.specs.Named.{stopsNamed, Listed}
 use Rattle.hoporder.proofs.HopFields.{placed}
-use Rattle.departures.proofs.JudgeLaws.{refusal-told, lowest-within, fifteen, fifteen-told, all-once, all-once′, sixteen, sixteen-told, nothing-told, finish-fits, gathered-told}
+use Rattle.departures.proofs.JudgeLaws.{refusal-told, fifteen-told, all-once, all-once′, sixteen-told, nothing-told, finish-fits, gathered-told}
 use borrow.Author.Needs.{needs}
 use Rattle.departures.proofs.judge.Statement.{statement}
 use Rattle.departures.proofs.judge.Tie as tie
@@ -32,20 +31,8 @@ lowest-late y e = e ∙ ap (λ (l : List ℕ). lowestBad (stopsIn l) (inTime (st
 repeated-requires : tie.Need-repeated-requires
 repeated-requires c κs =
     let sort = c .before .before .before in
-    let s = sort .before .before .before .before .before in
+    let s = sort .before .before .before .before in
     (sort .sort .kept .0 ∙ s .pre .0, subst (λ (l : List ℕ). Ascending l) (sym (sort .sort .ensures)) (sorted-ascends _))
-
--- src/lib.rt:66:49
-cast-line-number : tie.Need-cast-line-number
-cast-line-number c = search needs
-
--- src/lib.rt:66:13
-line-number-requires : tie.Need-line-number-requires
-line-number-requires c κs =
-    let call = c .before in
-    let sort = call .before .before .before .before in
-    let s = sort .before .before .before .before .before in
-    lowest-within _ _ _ (s .pre .1) (once (stopsIn (recs (s .args .n) (now (s .args .b))))) (fifteen _ _ _ (s .pre .1) (lowest-repeat (sort .sort .ensures) (call .repeated .ensures))) (c .if1 .taken)
 
 -- src/lib.rt:67:9
 refuse-requires : tie.Need-refuse-requires
@@ -59,13 +46,12 @@ same-length c = search needs
 returns : tie.Need-returns
 returns c =
     let refuse = c .before .before in
-    let told = refuse .before .before in
-    let then = told .before in
+    let then = refuse .before .before in
     let call = then .before in
     let sort = call .before .before .before .before in
-    let s = sort .before .before .before .before .before in
+    let s = sort .before .before .before .before in
     refusal-told _ _ _ (sort .sort .kept .0) 15 (omega arith) (refuse .refuse .ensures .0)
-    (fifteen-told _ _ _ (s .pre .1) (lowest-repeat (sort .sort .ensures) (call .repeated .ensures)) (then .if1 .taken) (told .line-number .ensures)) (refuse .refuse .ensures .1) (refuse .refuse .ensures .2)
+    (fifteen-told _ _ (s .pre .1) (lowest-repeat (sort .sort .ensures) (call .repeated .ensures)) (then .if1 .taken)) (refuse .refuse .ensures .1) (refuse .refuse .ensures .2)
 
 -- src/lib.rt:69:9
 late-requires : tie.Need-late-requires
@@ -73,26 +59,11 @@ late-requires c κs =
     let else = c .before in
     let call = else .before in
     let sort = call .before .before .before .before in
-    let s = sort .before .before .before .before .before in (
+    let s = sort .before .before .before .before in (
       sort .sort .kept .0 ∙ s .pre .0,
       subst (λ (l : List ℕ). Ascending l) (sym (sort .sort .ensures)) (sorted-ascends _),
-      subst (λ (l : List ℕ). AllOnce (stopsIn l)) (sym (sort .sort .ensures)) (all-once′ _ _ _ (s .pre .1) (lowest-repeat (sort .sort .ensures) (call .repeated .ensures)) (else .if1 .left)),
+      subst (λ (l : List ℕ). AllOnce (stopsIn l)) (sym (sort .sort .ensures)) (all-once′ _ _ (s .pre .1) (lowest-repeat (sort .sort .ensures) (call .repeated .ensures)) (else .if1 .left)),
     )
-
--- src/lib.rt:71:49
-cast-line-number-2 : tie.Need-cast-line-number-2
-cast-line-number-2 c = search needs
-
--- src/lib.rt:71:13
-line-number-requires-2 : tie.Need-line-number-requires-2
-line-number-requires-2 c κs =
-    let late = c .before in
-    let else = late .before .before in
-    let call = else .before in
-    let sort = call .before .before .before .before in
-    let s = sort .before .before .before .before .before in
-    lowest-within _ _ _ (s .pre .1) (inTime (stopsIn (recs (s .args .n) (now (s .args .b)))))
-    (sixteen _ _ _ (s .pre .1) (lowest-repeat (sort .sort .ensures) (call .repeated .ensures)) (else .if1 .left) (lowest-late (sort .sort .ensures) (late .late .ensures))) (c .if2 .taken)
 
 -- src/lib.rt:72:9
 refuse-requires-2 : tie.Need-refuse-requires-2
@@ -106,15 +77,14 @@ same-length-2 c = search needs
 returns-2 : tie.Need-returns-2
 returns-2 c =
     let refuse = c .before .before in
-    let told = refuse .before .before in
-    let then = told .before in
+    let then = refuse .before .before in
     let late = then .before in
     let else = late .before .before in
     let call = else .before in
     let sort = call .before .before .before .before in
-    let s = sort .before .before .before .before .before in
+    let s = sort .before .before .before .before in
     refusal-told _ _ _ (sort .sort .kept .0) 16 (omega arith) (refuse .refuse2 .ensures .0)
-    (sixteen-told _ _ _ (s .pre .1) (lowest-repeat (sort .sort .ensures) (call .repeated .ensures)) (else .if1 .left) (lowest-late (sort .sort .ensures) (late .late .ensures)) (then .if2 .taken) (told .line-number2 .ensures))
+    (sixteen-told _ _ (s .pre .1) (lowest-repeat (sort .sort .ensures) (call .repeated .ensures)) (else .if1 .left) (lowest-late (sort .sort .ensures) (late .late .ensures)) (then .if2 .taken))
     (refuse .refuse2 .ensures .1) (refuse .refuse2 .ensures .2)
 
 -- src/lib.rt:74:9
@@ -130,11 +100,11 @@ finish-requires c κs =
     let else = late .before .before in
     let call = else .before in
     let sort = call .before .before .before .before in
-    let known = sort .before .before .before .before in
+    let known = sort .before .before .before in
     let s = known .before in
     let r = lowest-repeat (sort .sort .ensures) (call .repeated .ensures) in
-    finish-fits (now (s .args .text)) (now (s .args .trips)) (recs (s .args .n) (now (s .args .b))) (s .pre .1) (placed (s .args .n) (now (s .args .b)) (λ i. known .slice-known .given i .fits))
-    (all-once _ _ _ (s .pre .1) r (else .if1 .left)) (all-once′ _ _ _ (s .pre .1) r (else .if1 .left))
+    finish-fits (now (s .args .trips)) (recs (s .args .n) (now (s .args .b))) (s .pre .1) (placed (s .args .n) (now (s .args .b)) (λ i. known .slice-known .given i .fits))
+    (all-once _ _ (s .pre .1) r (else .if1 .left)) (all-once′ _ _ (s .pre .1) r (else .if1 .left))
     (gather .gather .last .0) (sort .sort .ensures) (sym (col-length 20 (s .args .n) (now (s .args .b)) 0)) (gather .gather .ensures .0) (gather .gather .ensures .1) (gather .gather .kept .0 ∙ sort .sort .kept .0 ∙ s .pre .0)
 
 -- src/lib.rt:57:1
@@ -151,13 +121,13 @@ returns-3 c =
     let else = late .before .before in
     let call = else .before in
     let sort = call .before .before .before .before in
-    let known = sort .before .before .before .before in
+    let known = sort .before .before .before in
     let s = known .before in
     let r = lowest-repeat (sort .sort .ensures) (call .repeated .ensures) in
-    gathered-told (now (s .args .text)) (now (s .args .trips)) (recs (s .args .n) (now (s .args .b))) (s .pre .1) (placed (s .args .n) (now (s .args .b)) (λ i. known .slice-known .given i .fits))
-    (all-once _ _ _ (s .pre .1) r (else .if1 .left)) (all-once′ _ _ _ (s .pre .1) r (else .if1 .left))
+    gathered-told (now (s .args .trips)) (recs (s .args .n) (now (s .args .b))) (s .pre .1) (placed (s .args .n) (now (s .args .b)) (λ i. known .slice-known .given i .fits))
+    (all-once _ _ (s .pre .1) r (else .if1 .left)) (all-once′ _ _ (s .pre .1) r (else .if1 .left))
     (gather .gather .last .0) (sort .sort .ensures) (sym (col-length 20 (s .args .n) (now (s .args .b)) 0)) (gather .gather .ensures .0) (gather .gather .ensures .1) (now (s .args .b)) refl
-    (nothing-told _ _ _ (s .pre .1) r (else .if1 .left) (lowest-late (sort .sort .ensures) (late .late .ensures)) (other .if2 .left)) (gather .gather .kept .0 ∙ sort .sort .kept .0) (finish .finish .ensures)
+    (nothing-told _ _ (s .pre .1) r (else .if1 .left) (lowest-late (sort .sort .ensures) (late .late .ensures)) (other .if2 .left)) (gather .gather .kept .0 ∙ sort .sort .kept .0) (finish .finish .ensures)
 
 pub judge-spec : {M : Type 1} → statement M
 judge-spec =
@@ -165,14 +135,10 @@ judge-spec =
     (tie.spec
     sort-requires
     repeated-requires
-    cast-line-number
-    line-number-requires
     refuse-requires
     same-length
     returns
     late-requires
-    cast-line-number-2
-    line-number-requires-2
     refuse-requires-2
     same-length-2
     returns-2

@@ -8,7 +8,7 @@ use denote.Ref.{now}
 use Rattle.table_bytes.specs.Columns.{at}
 use Rattle.sorting.specs.Sorted.{recs}
 use Rattle.hopbytes.specs.Listing.{OnTrip}
-use Rattle.hopbytes.proofs.OutLaws.{from-fits, trip-there, hop-written}
+use Rattle.hopbytes.proofs.OutLaws.{from-fits, trip-above, trip-there, hop-written}
 use borrow.Author.Needs.{needs}
 use Rattle.hopbytes.proofs.write_out.Statement.{statement}
 use Rattle.hopbytes.proofs.write_out.Tie as tie
@@ -30,6 +30,9 @@ trip-number-requires : tie.Need-trip-number-requires
 trip-number-requires c κs = trip-there _ _ (c .before .before .before .before .before .before .before .before .pre .2) (c .before .before .middle .ensures)
 
 -- src/lib.rt:54:13
+sub-trip-number : tie.Need-sub-trip-number
+sub-trip-number c = trip-above _ _ (c .before .before .before .before .before .before .before .before .pre .2) (c .before .before .middle .ensures)
+
 mul-p : tie.Need-mul-p
 mul-p c = search needs
 
@@ -109,6 +112,7 @@ write-out-spec =
     low-requires
     middle-requires
     high-requires
+    sub-trip-number
     trip-number-requires
     mul-p
     cast-put-word
