@@ -38,12 +38,12 @@ module _ {S : List Stop} (o : Ordered S) (u : AllOnce S) where
   differ : (p i : ℕ) → not (eqb (stop S p .vertex) (stop S i .vertex)) ≡ true → stop S p .vertex ≡ stop S i .vertex → ⊥
   differ p i e = eqb-false _ _ (sym (not-not _) ∙ ap not e)
 
-  -- a hop that ends at stop i
-  pub hop-at : (i x : ℕ) → i < length S → In x (hopAt S i)
+  -- from one stop, and from some
+  pub hop-at-from : (i x : ℕ) → i < length S → In x (hopAt S i)
       → (p : ℕ) × (p < length S) × (next S p i ≡ true) × (stop S p .vertex ≡ stop S i .vertex → ⊥) × (x ≡ hopEntry S p i)
-  hop-at i x l m =
-      ⊎-elim (λ (e : ends S (lastTimed S i) i ≡ true). go e (subst (λ (r : List ℕ). In x r) (hop-one S i e) m))
-      (λ (e : ends S (lastTimed S i) i ≡ false). absurd (subst (λ (r : List ℕ). In x r) (hop-none S i e) m))
+  hop-at-from i x l j =
+      ⊎-elim (λ (e : ends S (lastTimed S i) i ≡ true). go e (subst (λ (l : List ℕ). In x l) (hop-one S i e) j))
+      (λ (e : ends S (lastTimed S i) i ≡ false). absurd (subst (λ (l : List ℕ). In x l) (hop-none S i e) j))
       (split (ends S (lastTimed S i) i))
     where
       go : ends S (lastTimed S i) i ≡ true → In x (hopEntry S (lastTimed S i - 1) i ∷ [])
@@ -65,7 +65,7 @@ module _ {S : List Stop} (o : Ordered S) (u : AllOnce S) where
   unfolding hopEntries
   hop-from n x h j =
       let r = joined-in (hopAt S) n x j in
-      let q = hop-at (r .0) x (omega (arith, r .1)) (r .2) in
+      let q = hop-at-from (r .0) x (omega (arith, r .1)) (r .2) in
       (q .0, r .0, r .1, q .1, q .2, q .3, q .4)
 
   pub hop-into : (n p i : ℕ) → n ≤ length S → i < n → p < length S → next S p i ≡ true → (stop S p .vertex ≡ stop S i .vertex → ⊥) → In (hopEntry S p i) (hopEntries S n)

@@ -157,23 +157,31 @@ module _ (l : List ℕ) where
         (r .0, rw (stops-length n) (r .1), stop-at m i ∙ ap stopIn (r .2) ∙ sym (stop-at n (r .0)));
   }
 
-  pub to : Each (stopsIn l) (stopsIn (sorted l))
-  to = each l (sorted l) (sorted-into l)
+  pub into-sorted : Each (stopsIn l) (stopsIn (sorted l))
+  into-sorted = each l (sorted l) (sorted-into l)
 
-  pub back : Each (stopsIn (sorted l)) (stopsIn l)
-  back = each (sorted l) l (sorted-from l)
+  pub from-sorted : Each (stopsIn (sorted l)) (stopsIn l)
+  from-sorted = each (sorted l) l (sorted-from l)
 
   -- 16
   pub times-sorted : lowestBad (stopsIn (sorted l)) (inTime (stopsIn (sorted l))) ≡ lowestBad (stopsIn l) (inTime (stopsIn l))
-  times-sorted = times-rearranged back to
+  times-sorted = times-rearranged from-sorted into-sorted
 
   -- 15, where each line is below the next
   module _ (up : (i j : ℕ) → i < j → j < length l → stopIn (at l i) .line < stopIn (at l j) .line) where
-    one-place : (i j : ℕ) → i < length l → j < length l → stopIn (at l i) .line ≡ stopIn (at l j) .line → i ≡ j
+    pub one-place : (i j : ℕ) → i < length l → j < length l → stopIn (at l i) .line ≡ stopIn (at l j) .line → i ≡ j
     one-place i j a b e = level i j (λ p. clash (up i j p b) e) (λ p. clash (up j i p a) (sym e))
 
-    rises : (i j : ℕ) → i < j → j < length (sorted l) → at (sorted l) i < at (sorted l) j
+    pub rises : (i j : ℕ) → i < j → j < length (sorted l) → at (sorted l) i < at (sorted l) j
     rises = sorted-rises l (λ i j a b e. let z : stopIn (at l i) .line ≡ stopIn (at l j) .line = ap (λ (x : ℕ). stopIn x .line) e in clash (up i j a b) z)
+
+    pub apart : (i j : ℕ) → i < j → j < length (sorted l) → stopIn (at (sorted l) i) .line ≡ stopIn (at (sorted l) j) .line → ⊥
+    apart i j a h e =
+        let x = sorted-from l .found i (omega arith) in
+        let y = sorted-from l .found j h in
+        let q = one-place (x .0) (y .0) (x .1) (y .1) (ap (λ (z : ℕ). stopIn z .line) (sym (x .2)) ∙ e ∙ ap (λ (z : ℕ). stopIn z .line) (y .2)) in
+        let same : at (sorted l) i ≡ at (sorted l) j = x .2 ∙ ap (at l) q ∙ sym (y .2) in
+        clash (rises i j a h) same
 
     lined : Lined (stopsIn l)
     lined i j a b t s = rw (stop-at l i, stop-at l j) (up i j a (rw (stops-length l) at b))
@@ -185,14 +193,6 @@ module _ (l : List ℕ) where
         (below (at (sorted l) i) (at (sorted l) j) (rises i j a h)
         (rw (stop-at (sorted l) i, stop-at (sorted l) j) at t) (rw (stop-at (sorted l) i, stop-at (sorted l) j) at s)
         (apart i j a h))
-      where
-        apart : (i j : ℕ) → i < j → j < length (sorted l) → stopIn (at (sorted l) i) .line ≡ stopIn (at (sorted l) j) .line → ⊥
-        apart i j a h e =
-            let x = sorted-from l .found i (omega arith) in
-            let y = sorted-from l .found j h in
-            let q = one-place (x .0) (y .0) (x .1) (y .1) (ap (λ (z : ℕ). stopIn z .line) (sym (x .2)) ∙ e ∙ ap (λ (z : ℕ). stopIn z .line) (y .2)) in
-            let same : at (sorted l) i ≡ at (sorted l) j = x .2 ∙ ap (at l) q ∙ sym (y .2) in
-            clash (rises i j a h) same
 
     pub repeats-sorted : lowestBad (stopsIn (sorted l)) (once (stopsIn (sorted l))) ≡ lowestBad (stopsIn l) (once (stopsIn l))
-    repeats-sorted = repeats-rearranged back to lined-sorted lined
+    repeats-sorted = repeats-rearranged from-sorted into-sorted lined-sorted lined
