@@ -2,6 +2,5 @@ pub mod Judged
 pub mod Lowest
 pub mod Trips
 pub mod Stops
-pub mod Hops
 pub mod Unpacked
 pub mod Passed

@@ -10,7 +10,7 @@ use Rattle.journeys.specs.Refusals.{Refusal}
 use Rattle.journeys.proofs.Tests.{same-test}
 use Rattle.feed.specs.Stops.{Stop}
 use Rattle.feed.specs.Trips.{stop, hopsOf}
-use Rattle.feed.specs.Answers.{Feed, stopsIn, feedRefusal, hopCount, targetAfter}
+use Rattle.feed.specs.Answers.{Feed, Passed, stopsIn, feedRefusal, hopCount, targetAfter}
 use Rattle.relabelled.specs.Alike.{Alike, Told}
 use Rattle.relabelled.proofs.AlikeLaws.{hops-alike}
 use Rattle.hoporder.specs.Named.{stopNamed}
@@ -19,7 +19,7 @@ use Rattle.hopbytes.specs.Listing.{tripAt}
 use Rattle.departures.specs.Answered.{tripsRefusal, tripsHops, tripsBytes}
 use Rattle.departures.specs.Entries.{stopsAt, EntriesOf}
 use Rattle.departures.proofs.JudgeLaws.{accepted-hops}
-use Rattle.departures.proofs.FeedLaws.{Passed, refusal-alike, count-alike, bytes-alike, feed-refusal, feed-count, feed-target}
+use Rattle.departures.proofs.FeedLaws.{refusal-alike, count-alike, bytes-alike, feed-refusal, feed-count, feed-target}
 
 module _ (trips : List ℕ) (S : List Stop) (W : List ℕ) (e : EntriesOf trips S W) where
   there : {A : Type 0} (g : Stop → A) (i : ℕ) → i < length S → {x : A} → x ≡ g (stopNamed (λ x. x) (tripAt trips) (getD W i 0)) → x ≡ g (stop (stopsAt trips W) i)

@@ -18,7 +18,7 @@ use Rattle.feed.specs.Ids.{idsRefusal}
 use Rattle.feed.specs.Stops.{Stop, headerRefusal, linesRefusal, knownRefusal}
 use Rattle.feed.specs.Lines.{place}
 use Rattle.feed.specs.Trips.{stop, once, inTime, firstBadStop, hopsOf}
-use Rattle.feed.specs.Answers.{Feed, stopsIn, feedHops, feedRefusal, hopCount, targetAfter}
+use Rattle.feed.specs.Answers.{Feed, Passed, stopsIn, feedHops, feedRefusal, hopCount, targetAfter}
 use Rattle.relabelled.specs.Alike.{Alike, Told}
 use Rattle.relabelled.proofs.AlikeLaws.{repeats-alike, times-alike, hops-alike}
 use Rattle.departures.specs.Answered.{tripsRefusal, tripsHops, tripsBytes}
@@ -92,17 +92,8 @@ not-one S e = go (bad-number S 15 (once S)) (bad-number S 16 (inTime S))
 
 -- ---- the whole answer
 module _ (F : Feed) where
-  -- nothing is refused before 15
-  pub record Passed : Type 0 where
-    pub target : unless (tableOf 20 0 262144 (F .target)) 1 2 .number ≡ 0
-    pub stops : idsRefusal 65535 (F .stops) .number ≡ 0
-    pub trips : idsRefusal none (F .trips) .number ≡ 0
-    pub header : headerRefusal (F .stopTimes) .number ≡ 0
-    pub lines : linesRefusal (F .stopTimes) .number ≡ 0
-    pub known : knownRefusal (F .stopTimes) (F .stops) (F .trips) .number ≡ 0
-
   -- and the target has room for the hops
-  module _ (p : Passed) (room : tripsRefusal (stopsIn F) .number ≡ 0 → length (hopsOf (stopsIn F)) ≤ length (F .target) / 20) where
+  module _ (p : Passed F) (room : tripsRefusal (stopsIn F) .number ≡ 0 → length (hopsOf (stopsIn F)) ≤ length (F .target) / 20) where
     pub feed-refusal : feedRefusal F ≡ tripsRefusal (stopsIn F)
     unfolding feedRefusal tripsRefusal feedHops
     feed-refusal =

@@ -1,4 +1,5 @@
 -- The timetable's answer: a refusal or the number of hops, and every byte of the target. Assumes nothing.
+use mathlib.Core.Path.{_≡_}
 use mathlib.Core.Bool.{cond}
 use mathlib.Core.List.{List, [], _∷_, flatMap}
 use Prim.Native.Nat.{ℕ, _/_}
@@ -38,6 +39,15 @@ module _ (F : Feed) where
       ∷ firstBadStop stopsIn 16 (inTime stopsIn)
       ∷ unless (leb (length feedHops) (length (F .target) / 20)) 17 0
       ∷ [])
+
+  -- nothing is refused before 15
+  pub record Passed : Type 0 where
+    pub target : unless (tableOf 20 0 262144 (F .target)) 1 2 .number ≡ 0
+    pub stops : idsRefusal 65535 (F .stops) .number ≡ 0
+    pub trips : idsRefusal none (F .trips) .number ≡ 0
+    pub header : headerRefusal (F .stopTimes) .number ≡ 0
+    pub lines : linesRefusal (F .stopTimes) .number ≡ 0
+    pub known : knownRefusal (F .stopTimes) (F .stops) (F .trips) .number ≡ 0
 
   unfoldable pub hopCount : ℕ
   hopCount = cond (eqb (feedRefusal .number) 0) (length feedHops) 0

@@ -14,10 +14,10 @@ ghost use Rattle.lines.specs.Spans.{bytesIn};
 ghost use Rattle.rows.specs.Placed.{fieldSpan};
 ghost use Rattle.naming.specs.Named.{foundFrom};
 ghost use Rattle.words.specs.Told.{told};
-ghost use Rattle.known.specs.Counted.{counted, idKnown, Listed};
+ghost use Rattle.known.specs.Counted.{counted, idKnown, Nodes, Listed};
 
 fn look_up(b: &[u8], n: usize, m: usize, list: &[u8], name: &[u8]) -> usize
-    requires { ⌜ (length (now b) ≡ 20 * n) × Listed (now list) n m (now b) ⌝ }
+    requires { ⌜ Nodes n (now b) × Listed (now list) n m (now b) ⌝ }
     ensures { λ r. ⌜ r ≡ foundFrom (now (list .entry)) 0 (now (name .entry)) ⌝ }
 {
     if m <= n {
@@ -35,7 +35,7 @@ fn look_between(
     start: usize,
     stop: usize,
 ) -> usize
-    requires { ⌜ (length (now b) ≡ 20 * n) × Listed (now list) n m (now b) ⌝ }
+    requires { ⌜ Nodes n (now b) × Listed (now list) n m (now b) ⌝ }
     requires { ⌜ (start ≤ stop) × (stop ≤ length (now line)) ⌝ }
     ensures { λ r. ⌜ r ≡ foundFrom (now (list .entry)) 0 (take (stop - start) (drop start (now (line .entry)))) ⌝ }
 {
@@ -44,7 +44,7 @@ fn look_between(
 
 // The place, counted from 1, of the first line of a list that has the id in field k of a line; 0 where none has it.
 pub fn listed_at(b: &[u8], n: usize, m: usize, list: &[u8], line: &[u8], k: usize) -> usize
-    requires { ⌜ (length (now b) ≡ 20 * n) × Listed (now list) n m (now b) × (k < length (rowOf (now line) .fields)) ⌝ }
+    requires { ⌜ Nodes n (now b) × Listed (now list) n m (now b) × (k < length (rowOf (now line) .fields)) ⌝ }
     ensures { λ r. ⌜ r ≡ foundFrom (now (list .entry)) 0 (bytesIn (now (line .entry)) (fieldSpan (now (line .entry)) k)) ⌝ }
 {
     let span = rows::field_span(line, k);
@@ -62,7 +62,7 @@ fn line_known(
     count: usize,
     k: usize,
 ) -> bool
-    requires { ⌜ (length (now b) ≡ 20 * n) × Listed (now list) n m (now b) × (idsRefusal most (now list) ≡ fine) × (k < count) ⌝ }
+    requires { ⌜ Nodes n (now b) × Listed (now list) n m (now b) × (idsRefusal most (now list) ≡ fine) × (k < count) ⌝ }
     requires { ⌜ (empty (now line) || counted count (now line)) ≡ true ⌝ }
     ensures { λ r. ⌜ r ≡ (empty (now (line .entry)) || idKnown (now (list .entry)) k (now (line .entry))) ⌝ }
 {
@@ -84,7 +84,7 @@ fn part_known(
     count: usize,
     k: usize,
 ) -> bool
-    requires { ⌜ (length (now b) ≡ 20 * n) × Listed (now list) n m (now b) × (idsRefusal most (now list) ≡ fine) × (k < count) ⌝ }
+    requires { ⌜ Nodes n (now b) × Listed (now list) n m (now b) × (idsRefusal most (now list) ≡ fine) × (k < count) ⌝ }
     requires { ⌜ (at ≤ stop) × (stop ≤ length (now text)) ⌝ }
     requires { ⌜ (empty (take (stop - at) (drop at (now text))) || counted count (take (stop - at) (drop at (now text)))) ≡ true ⌝ }
     ensures { λ r. ⌜ r ≡ (empty (take (stop - at) (drop at (now (text .entry)))) || idKnown (now (list .entry)) k (take (stop - at) (drop at (now (text .entry))))) ⌝ }
@@ -105,7 +105,7 @@ pub fn unlisted(
     count: usize,
     k: usize,
 ) -> Refusal
-    requires { ⌜ (length (now b) ≡ 20 * n) × Listed (now list) n m (now b) × (idsRefusal most (now list) ≡ fine) × (k < count) ⌝ }
+    requires { ⌜ Nodes n (now b) × Listed (now list) n m (now b) × (idsRefusal most (now list) ≡ fine) × (k < count) ⌝ }
     requires { ⌜ (from ≤ length (now text)) × (firstBadLine 13 (counted count) first (linesOf (drop from (now text))) ≡ fine) ⌝ }
     ensures { λ r. ⌜ told r ≡ firstBadLine 14 (idKnown (now (list .entry)) k) first (linesOf (drop from (now (text .entry)))) ⌝ }
 {
