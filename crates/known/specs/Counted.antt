@@ -2,13 +2,12 @@
 use mathlib.Core.Path.{_≡_}
 use mathlib.Core.Bool.{Bool, _&&_}
 use mathlib.Core.List.{List}
-use Prim.Native.Nat.{ℕ, _*_, _≤_}
+use Prim.Native.Nat.{ℕ, _*_}
 use lib.Dec.{eqb}
 use lib.ListN.{length}
 use Rattle.feed.specs.Fields.{rowOf, field}
 use Rattle.feed.specs.Ids.{known}
-use Rattle.sorting.specs.Sorted.{recs}
-use Rattle.naming.specs.Tree.{Holds}
+use Rattle.idtree.specs.Tree.{Grown}
 
 -- so many fields, and quotes in order
 unfoldable pub counted : ℕ → List ℕ → Bool
@@ -20,8 +19,8 @@ idKnown list k l = known list (field (rowOf l) k)
 
 -- room for n nodes
 abbrev pub Nodes : ℕ → List ℕ → Type 0
-Nodes n b = length b ≡ 20 * n
+Nodes n b = length b ≡ 8 * n
 
--- m nodes hold the list, if n nodes do
+-- m of n nodes are the tree of the list, as far as they reach
 abbrev pub Listed : List ℕ → ℕ → ℕ → List ℕ → Type 0
-Listed list n m b = m ≤ n → Holds list (length list) m (recs n b)
+Listed list n m b = Grown list n m b

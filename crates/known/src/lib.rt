@@ -1,6 +1,6 @@
 // The ids of a timetable, looked up in its lists: refusal 14.
 // Promises: at which place of a list the first line with an id stands, and the first line whose id is not listed, as the definitions of `feed` say.
-// Rests on: lists by their ids (`naming`), lines and fields (`lines`, `rows`), refusals (`words`).
+// Rests on: lists by their ids (`idtree`), lines and fields (`lines`, `rows`), refusals (`words`).
 use words::Refusal;
 ghost use mathlib.Core.Path.{_≡_};
 ghost use mathlib.Core.Bool.{true, _||_};
@@ -16,16 +16,6 @@ ghost use Rattle.naming.specs.Named.{foundFrom};
 ghost use Rattle.words.specs.Told.{told};
 ghost use Rattle.known.specs.Counted.{counted, idKnown, Nodes, Listed};
 
-fn look_up(b: &[u8], n: usize, m: usize, list: &[u8], name: &[u8]) -> usize
-    requires { ⌜ Nodes n (now b) × Listed (now list) n m (now b) ⌝ }
-    ensures { λ r. ⌜ r ≡ foundFrom (now (list .entry)) 0 (now (name .entry)) ⌝ }
-{
-    if m <= n {
-        return naming::find(b, n, m, list, name);
-    }
-    naming::seek(list, name)
-}
-
 fn look_between(
     b: &[u8],
     n: usize,
@@ -39,7 +29,7 @@ fn look_between(
     requires { ⌜ (start ≤ stop) × (stop ≤ length (now line)) ⌝ }
     ensures { λ r. ⌜ r ≡ foundFrom (now (list .entry)) 0 (take (stop - start) (drop start (now (line .entry)))) ⌝ }
 {
-    look_up(b, n, m, list, &line[start..stop])
+    idtree::find(b, n, m, list, &line[start..stop])
 }
 
 // The place, counted from 1, of the first line of a list that has the id in field k of a line; 0 where none has it.

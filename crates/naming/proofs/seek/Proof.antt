@@ -12,13 +12,13 @@ use Rattle.naming.proofs.seek.Statement.{statement}
 use Rattle.naming.proofs.seek.Tie as tie
 
 abbrev Inv-loop : tie.InvT-loop
-Inv-loop text name at₀ at = (at ≤ length text) × (foundFrom text 0 name ≡ foundFrom text at name)
+Inv-loop text from name at₀ at = (at ≤ length text) × (foundFrom text from name ≡ foundFrom text at name)
 
 abbrev μ-loop : tie.MeasureT-loop
-μ-loop text name at₀ at = length text - at
+μ-loop text from name at₀ at = length text - at
 
 loop-holds : tie.Need-loop-holds Inv-loop μ-loop
-loop-holds c = (omega arith, refl)
+loop-holds c = (c .before .before .pre, refl)
 
 line-stop-requires : tie.Need-line-stop-requires Inv-loop μ-loop
 line-stop-requires c κs = c .before .loop .inv .0

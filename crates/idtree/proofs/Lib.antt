@@ -1,0 +1,4 @@
+pub mod Turns
+pub mod TreeLaws
+pub mod Nodes
+pub mod HoldLaws
