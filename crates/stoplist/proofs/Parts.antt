@@ -78,9 +78,9 @@ unfolding empty secondsOf valueOf valueFrom
 blank-none [] e = refl
 blank-none (b ∷ r) e = never e refl
 
-time-small : (f : List ℕ) → time f ≡ true → secondsOf f < 262144
+time-most : (f : List ℕ) → time f ≡ true → secondsOf f ≤ 172799
 unfolding time secondsOf
-time-small f e =
+time-most f e =
     let h = length f - 6 in
     let p5 = and-both ((eqb (length f) 7 || eqb (length f) 8) && number 47 (take h f) && eqb (getD f h 0) 58 && number 59 (take 2 (drop (h + 1) f)) && eqb (getD f (h + 3) 0) 58) (number 59 (take 2 (drop (h + 4) f))) e in
     let p4 = and-both ((eqb (length f) 7 || eqb (length f) 8) && number 47 (take h f) && eqb (getD f h 0) 58 && number 59 (take 2 (drop (h + 1) f))) (eqb (getD f (h + 3) 0) 58) (p5 .0) in
@@ -92,13 +92,16 @@ time-small f e =
     let c = number-most 59 (take 2 (drop (h + 4) f)) (p5 .1) in
     omega (arith, a, b, c)
 
-seconds-small : (f : List ℕ) → timeOrBlank f ≡ true → secondsOf f < 262144
+seconds-most : (f : List ℕ) → timeOrBlank f ≡ true → secondsOf f ≤ 172799
 unfolding timeOrBlank
-seconds-small f e = ⊎-elim (λ q. rw (blank-none f q) (omega arith)) (time-small f) (or-cases (empty f) (time f) e)
+seconds-most f e = ⊎-elim (λ q. rw (blank-none f q) (omega arith)) (time-most f) (or-cases (empty f) (time f) e)
+
+pub other-most : (f g : List ℕ) → timeOrBlank f ≡ true → timeOrBlank g ≡ true → orOther f g ≤ 172799
+unfolding orOther
+other-most f g a b = ⊎-elim (λ (q : empty f ≡ true). rw q (seconds-most g b)) (λ (q : empty f ≡ false). rw q (seconds-most f a)) (split (empty f))
 
 pub other-small : (f g : List ℕ) → timeOrBlank f ≡ true → timeOrBlank g ≡ true → orOther f g < 262144
-unfolding orOther
-other-small f g a b = ⊎-elim (λ (q : empty f ≡ true). rw q (seconds-small g b)) (λ (q : empty f ≡ false). rw q (seconds-small f a)) (split (empty f))
+other-small f g a b = omega (arith, other-most f g a b)
 
 -- ---- the tests of a good line
 module _ (C : Columns) (stops trips l : List ℕ) (g : entryGood C stops trips l ≡ true) where
