@@ -1,16 +1,16 @@
 -- A timetable that is refused before its trips are judged, and one that is not. Assumes nothing.
-use mathlib.Core.Path.{_≡_, refl, sym, ap, subst, _∙_}
+use mathlib.Core.Path.{_≡_, refl, sym, ap, ap₂, subst, _∙_}
 use mathlib.Core.Logic.{_⊎_, inl, inr, ⊎-elim, _≢_}
 use mathlib.Core.Bool.{Bool, true, false, cond}
-use mathlib.Core.List.{List, [], _∷_, flatMap}
-use Prim.Native.Nat.{ℕ, _/_}
+use mathlib.Core.List.{List, [], _∷_, _++_, flatMap}
+use Prim.Native.Nat.{ℕ, _/_, _≤_}
 use native.Mathlib.Omega.{arith}
 use native.Mathlib.Decide.{ℕ-discrete}
 use lib.Dec.{eqb, leb}
 use lib.ListN.{length}
 use borrow.Author.Tests.{eq-eqb, ne-eqb}
 use Rattle.journeys.specs.Counting.{none}
-use Rattle.journeys.specs.Bytes.{filled, cleared}
+use Rattle.journeys.specs.Bytes.{word, filled, cleared}
 use Rattle.journeys.specs.Refusals.{Refusal, fine, unless, orElse, tableOf}
 use Rattle.journeys.proofs.Tests.{split, cond-true, cond-false}
 use Rattle.journeys.proofs.Refusals.{or-fine, or-first, or-next, unless-good, unless-bad, unless-fine}
@@ -21,9 +21,10 @@ use Rattle.feed.specs.Answers.{Feed, Passed, feedHops, feedRefusal, hopCount, t
 use Rattle.vetting.specs.Vetted.{textRefusal}
 use Rattle.vetting.proofs.LineLaws.{line-number, line-fine}
 use Rattle.vetting.proofs.VettedLaws.{ids-fine}
+use Rattle.timetable_laws.proofs.Demands.{count-most}
 use Rattle.departures.specs.Answered.{told}
 use Rattle.departures.specs.declared.Answer.{Answer}
-use Rattle.timetable.specs.Lent.{Answers}
+use Rattle.timetable.specs.Lent.{Answers, answerBytes}
 
 or-assoc : (a b c : Refusal) → orElse (orElse a b) c ≡ orElse a (orElse b c)
 or-assoc a b c = go (ℕ-discrete (a .number) 0)
@@ -170,3 +171,12 @@ module _ (F : Feed) where
 
       pub passed : knownRefusal (F .stopTimes) (F .stops) (F .trips) .number ≡ 0 → Passed F
       passed k = record { target = whole; stops = number-0 (v .stops-fine); trips = number-0 (v .trips-fine); header = v .header-fine; lines = number-0 (v .lines-fine); known = k }
+
+-- ---- the answer in 12 bytes
+module _ {F : Feed} {a : Answer} {after : List ℕ} (x : Answers F a after) where
+  pub hops-few : a .hops ≤ 262144
+  hops-few = let n = count-most F in omega (arith, x .hops, n)
+
+  pub answer-bytes : word (a .number) ++ word (a .place) ++ word (a .hops) ≡ answerBytes F
+  unfolding answerBytes
+  answer-bytes = ap₂ (λ (r : Refusal) (n : ℕ). word (r .number) ++ word (r .place) ++ word n) (x .refusal) (x .hops)

@@ -8,7 +8,7 @@ use native.Mathlib.Omega.{arith}
 use lib.Dec.{eqb, leb, ltb}
 use lib.ListN.{length, getD, take, drop}
 use lib.Seq.{take-at, length-take-le}
-use borrow.Author.Tests.{eq-eqb, ne-eqb, leb-true, le-leb, lt-ltb, ltb-false, not-true}
+use borrow.Author.Tests.{eqb-true, eq-eqb, ne-eqb, leb-true, le-leb, lt-ltb, ltb-false, not-true}
 use Rattle.journeys.specs.Counting.{none, In}
 use Rattle.journeys.specs.Bytes.{be32, midnight, filled, cleared}
 use Rattle.journeys.specs.Tables as tables
@@ -150,11 +150,23 @@ module _ (F : Feed) (ok : Accepted F) where
           let is = hop-at 20 v w (hopTable F) j (omega (arith, l, table-count)) ∙ ap (λ (b : List ℕ). hopAt 20 b j) table-is ∙ pair-stands [] j (k .0) (k .1) l (k .3) (k .2) .hop in
           hop-good (k .0) (k .1) (k .2) (tables.hop N j) is)
 
+  accepted-most : length (hopsOf S) ≤ 262144
+  unfolding tableOf
+  accepted-most =
+      let t = unless-fine (tableOf 20 0 262144 (F .target)) 1 2 (omega arith) (parts .target) in
+      let most = leb-true (length (F .target) / 20) 262144 (and-both (wholeOf 20 (F .target) && leb 0 (length (F .target) / 20)) (leb (length (F .target) / 20) 262144) t .1) in
+      let room = leb-true (length (hopsOf S)) (length (F .target) / 20) (unless-fine (leb (length (hopsOf S)) (length (F .target) / 20)) 17 0 (omega arith) (parts .room)) in
+      omega (arith, room, most)
+
   -- Its length is one of a hop table: refusal 1 never comes from it.
   pub never-1 : tableOf 20 0 262144 (hopTable F) ≡ true
   unfolding tableOf wholeOf
   never-1 =
-      let t = unless-fine (tableOf 20 0 262144 (F .target)) 1 2 (omega arith) (parts .target) in
-      let most = leb-true (length (F .target) / 20) 262144 (and-both (wholeOf 20 (F .target) && leb 0 (length (F .target) / 20)) (leb (length (F .target) / 20) 262144) t .1) in
-      let room = leb-true (length (hopsOf S)) (length (F .target) / 20) (unless-fine (leb (length (hopsOf S)) (length (F .target) / 20)) 17 0 (omega arith) (parts .room)) in
-      and-true (and-true (eq-eqb (length (hopTable F) % 20) 0 (omega (arith, table-long))) (le-leb 0 (length (hopTable F) / 20) (omega arith))) (le-leb (length (hopTable F) / 20) 262144 (omega (arith, table-count, room, most)))
+      and-true (and-true (eq-eqb (length (hopTable F) % 20) 0 (omega (arith, table-long))) (le-leb 0 (length (hopTable F) / 20) (omega arith))) (le-leb (length (hopTable F) / 20) 262144 (omega (arith, table-count, accepted-most)))
+
+pub count-most : (F : Feed) → hopCount F ≤ 262144
+unfolding hopCount feedHops
+count-most F =
+    ⊎-elim (λ (t : eqb (feedRefusal F .number) 0 ≡ true). rw t (accepted-most F (eqb-true _ 0 t)))
+    (λ (t : eqb (feedRefusal F .number) 0 ≡ false). rw t (omega arith))
+    (split (eqb (feedRefusal F .number) 0))

@@ -1,7 +1,7 @@
-use Rattle.siltbrow.proofs.PartsWords.{three-numbers}
+use Rattle.calls.proofs.ThreeWords.{three-numbers}
 use borrow.Author.Needs.{needs}
-use Rattle.siltbrow.proofs.streets.put_three.Statement.{statement}
-use Rattle.siltbrow.proofs.streets.put_three.Tie as tie
+use Rattle.calls.proofs.put_three.Statement.{statement}
+use Rattle.calls.proofs.put_three.Tie as tie
 
 returns : tie.Need-returns
 returns c =
