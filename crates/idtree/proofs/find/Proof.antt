@@ -1,7 +1,4 @@
-use borrow.Author.Needs.{needs}
-use borrow.Author.Tests.{not-true, not-false}
-use native.Mathlib.Omega.{arith}
-use mathlib.Core.Path.{_≡_, refl, sym, ap, _∙_}
+use mathlib.Core.Path.{ap, _∙_}
 use Rattle.naming.specs.Named.{foundFrom}
 use Rattle.idtree.proofs.HoldLaws.{told-here, told-later}
 use Rattle.idtree.proofs.find.Statement.{statement}

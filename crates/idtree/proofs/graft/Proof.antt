@@ -1,8 +1,8 @@
 use borrow.Author.Needs.{needs}
 use native.Mathlib.Omega.{arith}
-use Prim.Native.Nat.{_+_, _<_}
+use Prim.Native.Nat.{_<_}
 use lib.ListN.{length}
-use mathlib.Core.Path.{_≡_, refl, sym, ap, subst, _∙_}
+use mathlib.Core.Path.{refl, ap, _∙_}
 use Rattle.table_bytes.proofs.Access.{col-length}
 use Rattle.idtree.specs.Tree.{nodes, turnOf}
 use Rattle.idtree.proofs.Nodes.{node-set-place}
