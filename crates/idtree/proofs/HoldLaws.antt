@@ -1,25 +1,24 @@
 -- The search tree holds the lines of a list that were read. Assumes nothing.
-use Prim.Native.Nat.{ℕ, zero, suc, _+_, _-_, _*_, _/_, _%_, _≤_, _<_, _^_, min}
+use Prim.Native.Nat.{ℕ, suc, _+_, _-_, _*_, _≤_, _<_, _^_, min}
 use native.Mathlib.Omega.{arith}
 use native.Mathlib.Numerals.{add-one}
-use native.Mathlib.Decide.{ℕ-discrete}
 use mathlib.Core.Path.{_≡_, refl, sym, ap, subst, _∙_}
-use mathlib.Core.Logic.{_⊎_, inl, inr, ⊎-elim, _≢_}
+use mathlib.Core.Logic.{inl, inr, ⊎-elim}
 use mathlib.Core.Bool.{Bool, true, false, cond}
-use mathlib.Core.List.{List, [], _∷_}
-use lib.Dec.{eqb, ltb, eqb·suc-zero}
-use lib.ListN.{length, set, length-set}
-use lib.Seq.{getD-set-same, getD-set-other}
-use borrow.Author.Tests.{eqb-true, eqb-false, eq-eqb, ne-eqb}
-use Rattle.journeys.proofs.Tests.{never, split, cond-true, cond-false, last-or-below}
+use mathlib.Core.List.{List}
+use lib.Dec.{eqb, eqb·suc-zero}
+use lib.ListN.{length, set}
+use lib.Seq.{getD-set-same}
+use borrow.Author.Tests.{eq-eqb, ne-eqb}
+use Rattle.journeys.proofs.Tests.{split, cond-true, cond-false}
 use Rattle.table_bytes.specs.Columns.{at}
 use Rattle.feed.specs.Lines.{empty}
 use Rattle.feed.specs.Fields.{same}
 use Rattle.naming.specs.Named.{lineAt, nextAt, firstBytes, namesAt, foundFrom}
-use Rattle.idtree.specs.Tree.{turnOf, placeIn, childIn, hasId, Finds, nothing, here, onward, Path, root, step, Ended, Rooted, Hung, Holds, nodes, reached, Grown}
-use Rattle.naming.proofs.Places.{same-is, found-over, found-step, names-is, names-none}
+use Rattle.idtree.specs.Tree.{turnOf, placeIn, childIn, hasId, Finds, nothing, here, onward, Ended, Hung, Holds, nodes, reached, Reaching, Grown}
+use Rattle.naming.proofs.Places.{same-is, found-step, names-is, names-none}
 use Rattle.idtree.proofs.Nodes.{node-place, node-childless}
-use Rattle.idtree.proofs.TreeLaws.{same-refl, ended-none, ended-here, one-end, keeps, own-found, rooted-more}
+use Rattle.idtree.proofs.TreeLaws.{ended-none, ended-here, one-end, keeps, own-found, rooted-more}
 
 not-both : {a b : ℕ} → a ≡ suc b → a ≡ 0 → ⊥
 not-both p q = omega (arith, p, q)
@@ -170,13 +169,21 @@ module _ {text : List ℕ} {m : ℕ} {l y : List ℕ} where
 
 -- ---- how far the nodes reach
 module _ {text : List ℕ} {n : ℕ} {b : List ℕ} where
-  pub grown-none : Grown text n 0 b
+  pub reaching-none : Reaching text n 0 b
   unfolding reached
-  grown-none = record { fits = omega arith; holds = holds-none }
+  reaching-none = record { fits = omega arith; holds = holds-none }
 
-  pub grown-more : {m place : ℕ} → m < n → placeIn (at (nodes n b) m) ≡ place → Holds text (nextAt text place) (m + 1) (nodes n b) → Grown text n (m + 1) b
+  pub reaching-more : {m place : ℕ} → m < n → placeIn (at (nodes n b) m) ≡ place → Holds text (nextAt text place) (m + 1) (nodes n b) → Reaching text n (m + 1) b
   unfolding reached
-  grown-more {m} {place} h e o = rw (add-one m) (record { fits = h; holds = rw (e, sym (add-one m)) o })
+  reaching-more {m} {place} h e o = rw (add-one m) (record { fits = h; holds = rw (e, sym (add-one m)) o })
+
+-- where no node is left, or no line that a node can name
+module _ {text : List ℕ} {n m : ℕ} {b : List ℕ} (o : Reaching text n m b) where
+  pub grown-full : m ≡ n → Grown text n m b
+  grown-full e = record { reaching = o; far = inl e }
+
+  pub grown-whole : {place : ℕ} → min (length text) (2 ^ 32) ≤ place → Holds text place m (nodes n b) → Grown text n m b
+  grown-whole {place} f h = record { reaching = o; far = inr (record { place = place; far = f; holds = h }) }
 
 module _ (text l : List ℕ) where
   pub reached-none : {m : ℕ} → m ≡ 0 → 0 ≡ reached text l m

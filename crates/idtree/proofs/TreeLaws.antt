@@ -1,21 +1,19 @@
 -- The search tree of ids: what a search passes, and how a node is hung below another. Assumes nothing.
-use Prim.Native.Nat.{ℕ, zero, suc, _+_, _-_, _*_, _/_, _%_, _≤_, _<_, _^_}
+use Prim.Native.Nat.{ℕ, suc, _+_, _-_, _/_, _%_, _≤_, _<_}
 use native.Mathlib.Omega.{arith}
 use native.Mathlib.Numerals.{add-one}
 use native.Mathlib.Decide.{ℕ-discrete}
 use mathlib.Core.Path.{_≡_, refl, sym, ap, subst, _∙_}
-use mathlib.Core.Logic.{_⊎_, inl, inr, ⊎-elim}
-use mathlib.Core.Bool.{Bool, true, false, cond}
+use mathlib.Core.Logic.{⊎-elim}
+use mathlib.Core.Bool.{Bool, true, false}
 use mathlib.Core.List.{List, [], _∷_}
-use lib.Dec.{eqb, ltb}
-use lib.ListN.{length, set}
-use lib.Seq.{getD-set-same, getD-set-other}
-use borrow.Author.Tests.{eqb-true, eqb-false, eq-eqb, ne-eqb}
-use Rattle.journeys.proofs.Tests.{never, split, cond-true, cond-false, last-or-below}
+use lib.ListN.{length}
+use borrow.Author.Tests.{eq-eqb}
+use Rattle.journeys.proofs.Tests.{never, last-or-below}
 use Rattle.table_bytes.specs.Columns.{at}
 use Rattle.feed.specs.Fields.{same}
-use Rattle.naming.specs.Named.{lineAt, firstBytes, foundFrom}
-use Rattle.idtree.specs.Tree.{turnOf, placeIn, childIn, hasId, Finds, nothing, here, onward, Path, root, step, Ended, Rooted, Hung, Holds}
+use Rattle.naming.specs.Named.{lineAt, firstBytes}
+use Rattle.idtree.specs.Tree.{turnOf, placeIn, childIn, hasId, Finds, nothing, here, onward, Path, root, step, Ended, Rooted, Hung}
 
 pub same-refl : (f : List ℕ) → same f f ≡ true
 unfolding same

@@ -77,7 +77,18 @@ unfoldable pub reached : List ℕ → List ℕ → ℕ → ℕ
 reached text l zero = 0
 reached text l (suc k) = nextAt text (placeIn (at l k))
 
--- of room for n nodes m are the tree of a list, as far as they reach: from there on the lines decide
-pub record Grown (text : List ℕ) (n m : ℕ) (b : List ℕ) : Type 0 where
+-- of room for n nodes m are a tree of the lines of a list, as far as they reach: from there on the lines decide
+pub record Reaching (text : List ℕ) (n m : ℕ) (b : List ℕ) : Type 0 where
   pub fits : m ≤ n
   pub holds : Holds text (reached text (nodes n b) m) m (nodes n b)
+
+-- they hold every line that begins below byte 2 ^ 32
+pub record Whole (text : List ℕ) (m : ℕ) (l : List ℕ) : Type 0 where
+  pub place : ℕ
+  pub far : min (length text) (2 ^ 32) ≤ place
+  pub holds : Holds text place m l
+
+-- they reach as far as they can: no node is left, or they hold every line that a node can name
+pub record Grown (text : List ℕ) (n m : ℕ) (b : List ℕ) : Type 0 where
+  pub reaching : Reaching text n m b
+  pub far : (m ≡ n) ⊎ Whole text m (nodes n b)

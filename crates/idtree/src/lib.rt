@@ -9,7 +9,7 @@ ghost use Rattle.table_bytes.specs.Columns.{at};
 ghost use Rattle.feed.specs.Lines.{empty};
 ghost use Rattle.naming.specs.Named.{stopAt, lineAt, nextAt, firstBytes, foundFrom};
 ghost use Rattle.idtree.specs.Tree as tree;
-ghost use Rattle.idtree.specs.Tree.{mixed, turnOf, nodes, placeIn, childIn, Finds, Rooted, Ended, Hung, Holds, Grown};
+ghost use Rattle.idtree.specs.Tree.{mixed, turnOf, nodes, placeIn, childIn, Finds, Rooted, Ended, Hung, Holds, Reaching, Grown};
 use table_bytes::read8;
 use table_bytes::write8;
 
@@ -144,8 +144,8 @@ fn hang(b: &mut [u8], n: usize, m: usize, k: usize, side: bool, place: usize)
 // The line at a place, whose id is named, becomes a node unless one has its id; how many nodes there are then.
 fn graft(b: &mut [u8], n: usize, m: usize, text: &[u8], place: usize, name: &[u8]) -> usize
     requires { ⌜ (length (now b) ≡ 8 * n) × (m < n) × (n < 65536) × (place < length (now text)) × (place < 4294967296) ⌝ }
-    requires { ⌜ (empty (lineAt (now text) place) ≡ false) × (now name ≡ firstBytes (lineAt (now text) place)) × Holds (now text) place m (nodes n (now b)) × Grown (now text) n m (now b) ⌝ }
-    ensures { λ r. ⌜ Holds (now (text .entry)) (nextAt (now (text .entry)) place) r (nodes n (now (b .exit))) × Grown (now (text .entry)) n r (now (b .exit)) ⌝ }
+    requires { ⌜ (empty (lineAt (now text) place) ≡ false) × (now name ≡ firstBytes (lineAt (now text) place)) × Holds (now text) place m (nodes n (now b)) × Reaching (now text) n m (now b) ⌝ }
+    ensures { λ r. ⌜ Holds (now (text .entry)) (nextAt (now (text .entry)) place) r (nodes n (now (b .exit))) × Reaching (now (text .entry)) n r (now (b .exit)) ⌝ }
 {
     if m == 0 {
         set_node(b, n, 0, place as u64);
@@ -173,16 +173,16 @@ fn graft_between(
 ) -> usize
     requires { ⌜ (length (now b) ≡ 8 * n) × (m < n) × (n < 65536) × (place < length (now text)) × (place < 4294967296) ⌝ }
     requires { ⌜ (start ≤ stop) × (stop ≤ length (now line)) ⌝ }
-    requires { ⌜ (empty (lineAt (now text) place) ≡ false) × (take (stop - start) (drop start (now line)) ≡ firstBytes (lineAt (now text) place)) × Holds (now text) place m (nodes n (now b)) × Grown (now text) n m (now b) ⌝ }
-    ensures { λ r. ⌜ Holds (now (text .entry)) (nextAt (now (text .entry)) place) r (nodes n (now (b .exit))) × Grown (now (text .entry)) n r (now (b .exit)) ⌝ }
+    requires { ⌜ (empty (lineAt (now text) place) ≡ false) × (take (stop - start) (drop start (now line)) ≡ firstBytes (lineAt (now text) place)) × Holds (now text) place m (nodes n (now b)) × Reaching (now text) n m (now b) ⌝ }
+    ensures { λ r. ⌜ Holds (now (text .entry)) (nextAt (now (text .entry)) place) r (nodes n (now (b .exit))) × Reaching (now (text .entry)) n r (now (b .exit)) ⌝ }
 {
     graft(b, n, m, text, place, &line[start..stop])
 }
 
 fn graft_line(b: &mut [u8], n: usize, m: usize, text: &[u8], place: usize, line: &[u8]) -> usize
     requires { ⌜ (length (now b) ≡ 8 * n) × (m < n) × (n < 65536) × (place < length (now text)) × (place < 4294967296) ⌝ }
-    requires { ⌜ (empty (lineAt (now text) place) ≡ false) × (now line ≡ lineAt (now text) place) × Holds (now text) place m (nodes n (now b)) × Grown (now text) n m (now b) ⌝ }
-    ensures { λ r. ⌜ Holds (now (text .entry)) (nextAt (now (text .entry)) place) r (nodes n (now (b .exit))) × Grown (now (text .entry)) n r (now (b .exit)) ⌝ }
+    requires { ⌜ (empty (lineAt (now text) place) ≡ false) × (now line ≡ lineAt (now text) place) × Holds (now text) place m (nodes n (now b)) × Reaching (now text) n m (now b) ⌝ }
+    ensures { λ r. ⌜ Holds (now (text .entry)) (nextAt (now (text .entry)) place) r (nodes n (now (b .exit))) × Reaching (now (text .entry)) n r (now (b .exit)) ⌝ }
 {
     let span = lines::span_at(line, 0);
     graft_between(b, n, m, text, place, line, span.start, span.stop)
@@ -190,8 +190,8 @@ fn graft_line(b: &mut [u8], n: usize, m: usize, text: &[u8], place: usize, line:
 
 fn graft_part(b: &mut [u8], n: usize, m: usize, text: &[u8], place: usize, stop: usize) -> usize
     requires { ⌜ (length (now b) ≡ 8 * n) × (m < n) × (n < 65536) × (place < stop) × (stop ≤ length (now text)) × (place < 4294967296) ⌝ }
-    requires { ⌜ (stop ≡ stopAt (now text) place) × Holds (now text) place m (nodes n (now b)) × Grown (now text) n m (now b) ⌝ }
-    ensures { λ r. ⌜ Holds (now (text .entry)) (nextAt (now (text .entry)) place) r (nodes n (now (b .exit))) × Grown (now (text .entry)) n r (now (b .exit)) ⌝ }
+    requires { ⌜ (stop ≡ stopAt (now text) place) × Holds (now text) place m (nodes n (now b)) × Reaching (now text) n m (now b) ⌝ }
+    ensures { λ r. ⌜ Holds (now (text .entry)) (nextAt (now (text .entry)) place) r (nodes n (now (b .exit))) × Reaching (now (text .entry)) n r (now (b .exit)) ⌝ }
 {
     graft_line(b, n, m, text, place, &text[place..stop])
 }

@@ -3,13 +3,13 @@ use Prim.Native.Nat.{ℕ, zero, suc, _+_, _-_, _≤_, _<_}
 use native.Mathlib.Omega.{arith}
 use mathlib.Core.Path.{_≡_, refl, sym, ap, subst, _∙_}
 use mathlib.Core.Logic.{⊎-elim}
-use mathlib.Core.Bool.{Bool, true, false, not, cond, _&&_, _||_}
-use mathlib.Core.List.{List, [], _∷_}
+use mathlib.Core.Bool.{Bool, true, false, not, _&&_, _||_}
+use mathlib.Core.List.{List, _∷_}
 use lib.Dec.{eqb, eqb·suc-zero}
-use lib.ListN.{length, take, drop, drop-of-length-le}
-use borrow.Author.Tests.{eqb-true, eqb-false, eq-eqb, ne-eqb}
+use lib.ListN.{length, drop, drop-of-length-le}
+use borrow.Author.Tests.{eqb-true, eqb-false, ne-eqb}
 use Rattle.journeys.specs.Refusals.{Refusal, fine}
-use Rattle.journeys.proofs.Tests.{split, never, and-both, and-left, or-cases, cond-true, cond-false, le-or-lt}
+use Rattle.journeys.proofs.Tests.{split, never, and-both, cond-true, cond-false, le-or-lt}
 use Rattle.feed.specs.Lines.{empty, linesOf, firstBadLine}
 use Rattle.feed.specs.Fields.{rowOf, field, same}
 use Rattle.feed.specs.Values.{valueOf}

@@ -7,8 +7,8 @@ use mathlib.Core.Bool.{Bool, true, false, not, cond, _&&_}
 use mathlib.Core.List.{List, [], _∷_}
 use lib.Dec.{eqb, ltb}
 use lib.ListN.{length, take, drop}
-use borrow.Author.Tests.{lt-ltb, le-ltb, eqb-true, eq-eqb, ne-eqb, ltb-true}
-use Rattle.journeys.proofs.Tests.{split, never, and-both, and-left, cond-true, cond-false, le-or-lt}
+use borrow.Author.Tests.{lt-ltb, le-ltb, eqb-true, eq-eqb, ne-eqb}
+use Rattle.journeys.proofs.Tests.{never, and-both, cond-true, cond-false, le-or-lt}
 use Rattle.feed.specs.Lines.{empty}
 use Rattle.rows.proofs.Quoteless.{empty-part}
 use Rattle.lines.proofs.Passes.{stop-within, next-within, next-later}

@@ -1,8 +1,8 @@
 -- The lines of a list by their places: which is the first that has an id. Assumes nothing.
-use mathlib.Core.Bool.{Bool, not, cond, _&&_}
-use mathlib.Core.List.{List}
+use mathlib.Core.Bool.{Bool, true, false, not, cond, _&&_}
+use mathlib.Core.List.{List, [], _∷_}
 use Prim.Native.Nat.{ℕ, zero, suc, _+_, _-_}
-use lib.Dec.{ltb}
+use lib.Dec.{eqb, ltb}
 use lib.ListN.{length, take, drop}
 use Rattle.feed.specs.Lines.{empty}
 use Rattle.feed.specs.Fields.{same}
@@ -33,3 +33,9 @@ firstAt (suc f) text at y = cond (ltb at (length text)) (cond (namesAt text at y
 
 unfoldable pub foundFrom : List ℕ → ℕ → List ℕ → ℕ
 foundFrom text at y = firstAt (length text - at) text at y
+
+-- a text begins with these bytes
+unfoldable pub leads : List ℕ → List ℕ → Bool
+leads [] t = true
+leads (a ∷ y) [] = false
+leads (a ∷ y) (b ∷ t) = eqb a b && leads y t

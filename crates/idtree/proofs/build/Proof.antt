@@ -1,23 +1,22 @@
-use borrow.Author.Needs.{needs}
-use Prim.Native.Nat.{_≤_, _-_, _+_, _*_}
+use Prim.Native.Nat.{_≤_, _-_, _*_}
 use native.Mathlib.Omega.{arith}
-use mathlib.Core.Path.{_≡_, refl, sym, ap, subst, _∙_}
+use mathlib.Core.Path.{_≡_, sym, _∙_}
 use lib.ListN.{length}
 use Rattle.lines.proofs.Passes.{stop-within, next-within, next-later}
-use Rattle.idtree.specs.Tree.{nodes, Holds, Grown}
+use Rattle.idtree.specs.Tree.{nodes, Holds, Reaching}
 use Rattle.naming.proofs.Places.{next-as, stop-is, no-line}
-use Rattle.idtree.proofs.HoldLaws.{holds-none, holds-past, holds-as, grown-none}
+use Rattle.idtree.proofs.HoldLaws.{holds-none, holds-past, holds-as, reaching-none, grown-full, grown-whole}
 use Rattle.idtree.proofs.build.Statement.{statement}
 use Rattle.idtree.proofs.build.Tie as tie
 
 abbrev Inv-loop : tie.InvT-loop
-Inv-loop b₀ n text at₀ m₀ b at m = (length b ≡ 8 * n) × (at ≤ length text) × Holds text at m (nodes n b) × Grown text n m b
+Inv-loop b₀ n text at₀ m₀ b at m = (length b ≡ 8 * n) × (at ≤ length text) × Holds text at m (nodes n b) × Reaching text n m b
 
 abbrev μ-loop : tie.MeasureT-loop
 μ-loop b₀ n text at₀ m₀ b at m = length text - at
 
 loop-holds : tie.Need-loop-holds Inv-loop μ-loop
-loop-holds c = (c .before .before .pre .0, omega arith, holds-none, grown-none)
+loop-holds c = (c .before .before .pre .0, omega arith, holds-none, reaching-none)
 
 line-stop-requires : tie.Need-line-stop-requires Inv-loop μ-loop
 line-stop-requires c κs = c .before .loop .inv .1
@@ -29,13 +28,13 @@ same-length : tie.Need-same-length Inv-loop μ-loop
 same-length c = let loop = c .before .before .before .before .before in loop .loop .inv .0 ∙ sym (loop .before .before .before .pre .0)
 
 returns : tie.Need-returns Inv-loop μ-loop
-returns c = c .before .before .before .before .before .loop .inv .3
+returns c = grown-full (c .before .before .before .before .before .loop .inv .3) (c .if2 .taken)
 
 same-length-2 : tie.Need-same-length-2 Inv-loop μ-loop
 same-length-2 c = let loop = c .before .before .before .before .before .before in loop .loop .inv .0 ∙ sym (loop .before .before .before .pre .0)
 
 returns-2 : tie.Need-returns-2 Inv-loop μ-loop
-returns-2 c = c .before .before .before .before .before .before .loop .inv .3
+returns-2 c = let i = c .before .before .before .before .before .before .loop .inv in grown-whole (i .3) (omega (arith, c .if3 .taken)) (i .2)
 
 graft-part-requires : tie.Need-graft-part-requires Inv-loop μ-loop
 graft-part-requires c κs =
@@ -100,5 +99,8 @@ loop-again-2 c =
 same-length-3 : tie.Need-same-length-3 Inv-loop μ-loop
 same-length-3 c = c .before .loop .inv .0 ∙ sym (c .before .before .before .before .pre .0)
 
+returns-3 : tie.Need-returns-3 Inv-loop μ-loop
+returns-3 c = let i = c .before .loop .inv in grown-whole (i .3) (omega (arith, c .loop-test .left)) (i .2)
+
 pub build-spec : {M : Type 1} → statement M
-build-spec = tie.close (tie.spec Inv-loop μ-loop loop-holds line-stop-requires line-next-requires same-length returns same-length-2 returns-2 graft-part-requires loop-less loop-again loop-less-2 loop-again-2 same-length-3 (λ c. c .before .loop .inv .3))
+build-spec = tie.close (tie.spec Inv-loop μ-loop loop-holds line-stop-requires line-next-requires same-length returns same-length-2 returns-2 graft-part-requires loop-less loop-again loop-less-2 loop-again-2 same-length-3 returns-3)

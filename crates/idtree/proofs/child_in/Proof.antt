@@ -1,4 +1,3 @@
-use borrow.Author.Needs.{needs}
 use Rattle.idtree.proofs.TreeLaws.{child-one, child-zero}
 use Rattle.idtree.proofs.child_in.Statement.{statement}
 use Rattle.idtree.proofs.child_in.Tie as tie

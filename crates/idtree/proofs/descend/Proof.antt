@@ -1,7 +1,7 @@
 use borrow.Author.Needs.{needs}
-use Prim.Native.Nat.{_≤_, _<_, _-_, _+_}
+use Prim.Native.Nat.{_≤_, _<_, _-_}
 use native.Mathlib.Omega.{arith}
-use mathlib.Core.Path.{_≡_, refl, sym, ap, _∙_}
+use mathlib.Core.Path.{ap, _∙_}
 use Rattle.idtree.specs.Tree.{nodes, placeIn, childIn, Path, root}
 use Rattle.idtree.proofs.TreeLaws.{has-is, hit-here, none-here, further}
 use Rattle.idtree.proofs.descend.Statement.{statement}

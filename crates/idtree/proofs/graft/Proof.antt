@@ -1,12 +1,12 @@
 use borrow.Author.Needs.{needs}
 use native.Mathlib.Omega.{arith}
-use Prim.Native.Nat.{_+_, _<_}
+use Prim.Native.Nat.{_<_}
 use lib.ListN.{length}
-use mathlib.Core.Path.{_≡_, refl, sym, ap, subst, _∙_}
+use mathlib.Core.Path.{refl, ap, _∙_}
 use Rattle.table_bytes.proofs.Access.{col-length}
 use Rattle.idtree.specs.Tree.{nodes, turnOf}
 use Rattle.idtree.proofs.Nodes.{node-set-place}
-use Rattle.idtree.proofs.HoldLaws.{ended-as, child-turned, holds-first, holds-again, holds-more, grown-more}
+use Rattle.idtree.proofs.HoldLaws.{ended-as, child-turned, holds-first, holds-again, holds-more, reaching-more}
 use Rattle.idtree.proofs.graft.Statement.{statement}
 use Rattle.idtree.proofs.graft.Tie as tie
 
@@ -25,7 +25,7 @@ returns c =
     let p = start .pre in
     let some : 0 < length (nodes (a .n) (a .b .now)) = omega (arith, p .0 .1, col-length 8 (a .n) (a .b .now) 0) in
     let o = holds-first (a .text .now) (a .place) (p .1 .2) (p .0 .3) (p .1 .0) (then .if1 .taken) some (p .0 .4) (set .set-node .ensures) in
-    (o, grown-more (omega (arith, p .0 .1)) (node-set-place (nodes (a .n) (a .b .now)) 0 (a .place) some (p .0 .4) (set .set-node .ensures)) o)
+    (o, reaching-more (omega (arith, p .0 .1)) (node-set-place (nodes (a .n) (a .b .now)) 0 (a .place) some (p .0 .4) (set .set-node .ensures)) o)
 
 descend-requires : tie.Need-descend-requires
 descend-requires c κs =
@@ -73,7 +73,7 @@ returns-3 c =
     let a = start .args in
     let p = start .pre in
     let o = holds-more (a .text .now) (a .place) (p .1 .2) (p .0 .3) (p .1 .0) (omega (arith, else .if1 .left)) (ended-as (descend .descend .ensures) (p .1 .1) (else2 .if2 .left)) (turn .turn .ensures ∙ ap (λ w. turnOf w (descend .descend .result .deep)) (p .1 .1)) (hang .hang .ensures) in
-    (o, grown-more (p .0 .1) (hang .hang .ensures .place-new) o)
+    (o, reaching-more (p .0 .1) (hang .hang .ensures .place-new) o)
 
 pub graft-spec : {M : Type 1} → statement M
 graft-spec = tie.close (tie.spec set-node-requires same-length returns (λ c κs. search needs) descend-requires same-length-2 returns-2 turn-requires hang-requires add-result same-length-3 returns-3)

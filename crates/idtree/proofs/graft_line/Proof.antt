@@ -1,6 +1,6 @@
 use borrow.Author.Needs.{needs}
 use native.Mathlib.Omega.{arith}
-use mathlib.Core.Path.{_≡_, refl, sym, ap, _∙_}
+use mathlib.Core.Path.{ap, _∙_}
 use Rattle.lines.proofs.Spans.{span-within}
 use Rattle.naming.specs.Named.{firstBytes}
 use Rattle.naming.proofs.Places.{bytes-are}

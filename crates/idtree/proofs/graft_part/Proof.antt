@@ -1,6 +1,5 @@
 use borrow.Author.Needs.{needs}
 use native.Mathlib.Omega.{arith}
-use mathlib.Core.Path.{_≡_, refl, sym, ap, _∙_}
 use Rattle.naming.proofs.Places.{line-as, some-line-as}
 use Rattle.idtree.proofs.graft_part.Statement.{statement}
 use Rattle.idtree.proofs.graft_part.Tie as tie

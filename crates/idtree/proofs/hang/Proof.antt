@@ -1,9 +1,8 @@
 use borrow.Author.Needs.{needs}
 use native.Mathlib.Omega.{arith}
 use Prim.Native.Nat.{_+_}
-use mathlib.Core.Path.{_≡_, refl, sym, ap, _∙_}
+use mathlib.Core.Path.{ap, _∙_}
 use Rattle.table_bytes.proofs.Access.{col-length}
-use Rattle.table_bytes.specs.Columns.{at}
 use Rattle.idtree.specs.Tree.{nodes, childIn}
 use Rattle.idtree.proofs.Nodes.{more-fits, hung}
 use Rattle.idtree.proofs.hang.Statement.{statement}

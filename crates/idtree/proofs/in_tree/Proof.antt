@@ -1,7 +1,7 @@
 use borrow.Author.Needs.{needs}
 use borrow.Author.Tests.{not-true, not-false}
 use native.Mathlib.Omega.{arith}
-use mathlib.Core.Path.{_≡_, refl, sym, ap, _∙_}
+use mathlib.Core.Path.{refl, ap, _∙_}
 use Rattle.idtree.specs.Tree.{placeIn}
 use Rattle.idtree.proofs.HoldLaws.{one-more, ended-as, nothing-in, none-in, here-in}
 use Rattle.idtree.proofs.in_tree.Statement.{statement}

@@ -2,7 +2,7 @@ use borrow.Author.Needs.{needs}
 use native.Mathlib.Omega.{arith}
 use Prim.Native.Nat.{_-_, _<_}
 use lib.ListN.{length}
-use mathlib.Core.Path.{_≡_, refl, sym, ap, _∙_}
+use mathlib.Core.Path.{ap, _∙_}
 use Rattle.lines.proofs.Passes.{stop-within, next-within}
 use Rattle.naming.proofs.Places.{next-as}
 use Rattle.idtree.specs.Tree.{placeIn}

@@ -1,5 +1,5 @@
 use borrow.Author.Needs.{needs}
-use mathlib.Core.Path.{_≡_, refl, sym, ap, _∙_}
+use mathlib.Core.Path.{sym}
 use Rattle.journeys.proofs.Tests.{cond-true, cond-false}
 use Rattle.idtree.proofs.shifted.Statement.{statement}
 use Rattle.idtree.proofs.shifted.Tie as tie

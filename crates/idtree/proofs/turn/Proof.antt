@@ -1,5 +1,5 @@
 use borrow.Author.Needs.{needs}
-use mathlib.Core.Path.{_≡_, refl, sym, ap, _∙_}
+use mathlib.Core.Path.{sym}
 use Rattle.idtree.proofs.Turns.{turn-mixed, turn-own, turn-past}
 use Rattle.idtree.proofs.turn.Statement.{statement}
 use Rattle.idtree.proofs.turn.Tie as tie

@@ -1,5 +1,4 @@
-use borrow.Author.Needs.{needs}
-use Prim.Native.Nat.{suc, _≤_, _-_, _+_}
+use Prim.Native.Nat.{_≤_, _-_}
 use native.Mathlib.Omega.{arith}
 use native.Mathlib.Numerals.{add-one}
 use mathlib.Core.Path.{_≡_, refl, sym, ap, _∙_}
