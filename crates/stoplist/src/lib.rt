@@ -115,7 +115,8 @@ fn write_line(
     );
 }
 
-fn write_part(
+// The line that stands between two places of the text.
+pub fn write_part(
     b: &mut [u8],
     n: usize,
     j: usize,
