@@ -42,7 +42,7 @@ fn finish(b: &mut [u8], k: usize, trips: &[u8])
     words::zero(&mut b[end..]);
 }
 
-fn refuse(b: &mut [u8], number: u32, place: u32) -> Answer
+pub fn refuse(b: &mut [u8], number: u32, place: u32) -> Answer
     ensures { λ r. ⌜ (told r ≡ record { number = number; place = place }) × (r .hops ≡ 0) × (now (b .exit) ≡ cleared (now (b .entry))) ⌝ }
 {
     words::zero(b);
