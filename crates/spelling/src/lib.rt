@@ -37,7 +37,7 @@ pub fn number_at(list: &[u8], place: usize) -> u32
     number_between(list, place, stop)
 }
 
-fn put_hop(out: &mut [u8], place: usize, from: u32, to: u32, left: u32, reached: u32, trip: u32)
+pub fn put_hop(out: &mut [u8], place: usize, from: u32, to: u32, left: u32, reached: u32, trip: u32)
     requires { ⌜ place + 20 ≤ length (now out) ⌝ }
     ensures { λ _. ⌜ now (out .exit) ≡ written (now (out .entry)) place (word from ++ word to ++ word left ++ word reached ++ word trip) ⌝ }
 {

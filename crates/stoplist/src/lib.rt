@@ -34,7 +34,7 @@ fn bit(timed: bool) -> u64
 }
 
 // The vertex that a list has for the id in field k of a line.
-fn vertex_of(b: &[u8], n: usize, m: usize, list: &[u8], line: &[u8], k: usize) -> u32
+pub fn vertex_of(b: &[u8], n: usize, m: usize, list: &[u8], line: &[u8], k: usize) -> u32
     requires { ⌜ Nodes n (now b) × Listed (now list) n m (now b) × (k < length (rowOf (now line) .fields)) ⌝ }
     requires { ⌜ (idsRefusal 65535 (now list) ≡ fine) × (idKnown (now list) k (now line) ≡ true) ⌝ }
     ensures { λ r. ⌜ (r ≡ numberOf (now (list .entry)) (field (rowOf (now (line .entry))) k)) × (r ≤ 65535) ⌝ }
