@@ -1,10 +1,26 @@
 // What the map server in C calls for the covered parts of walks, behind a run.
+use covering::PartsAnswer;
 use records::Query;
 use words::Offset;
 use words::Seconds;
+use words::put_word;
+ghost use mathlib.Core.Path.{_≡_};
+ghost use mathlib.Core.List.{_++_};
+ghost use lib.ListN.{length};
+ghost use Rattle.journeys.specs.Bytes.{word};
 ghost use Rattle.records.specs.Asked.{queryBy};
 ghost use Rattle.covering.specs.Lending.{partsLent};
 ghost use Rattle.siltbrow.specs.PartsRan.{PartsRan};
+
+// The three numbers of an answer, 4 bytes each.
+fn put_three(out: &mut [u8], a: PartsAnswer)
+    requires { ⌜ length (now out) ≡ 12 ⌝ }
+    ensures { λ _. ⌜ now (out .exit) ≡ word (a .refusal) ++ word (a .place) ++ word (a .parts) ⌝ }
+{
+    put_word(out, 0, a.refusal);
+    put_word(out, 4, a.place);
+    put_word(out, 8, a.parts);
+}
 
 // The parts of a settled list. The answer slice gets its three numbers; 1 where it is not 12 bytes, and then nothing is written.
 #[no_mangle]
@@ -35,6 +51,6 @@ pub extern "C" fn siltbrow_parts(
         speed: speed,
     };
     let a = covering::parts(vertices, walks, hops, hop_size as usize, list, parts, q);
-    calls::put_three(answer, a.refusal, a.place, a.parts);
+    put_three(answer, a);
     0
 }
