@@ -1,4 +1,4 @@
-// The 24 bytes of a query and the 24 bytes of an answer, as callers in C lend them.
+// The 24 bytes of a query, and the 24 or 12 bytes of an answer, as callers in C lend them.
 // Promises: the query and the step limit that the bytes name, and the bytes that name an answer.
 // Rests on: the numbers of `words`, the query and the answer of `records`; a law of `frame` on six numbers in a row.
 use records::Answer;
@@ -46,4 +46,14 @@ pub fn put_answer(out: &mut [u8], a: Answer)
     put_word(out, 12, a.parts);
     put_word(out, 16, a.held);
     put_word(out, 20, a.finished);
+}
+
+// Three numbers of an answer, 4 bytes each.
+pub fn put_three(out: &mut [u8], first: u32, second: u32, third: u32)
+    requires { ⌜ length (now out) ≡ 12 ⌝ }
+    ensures { λ _. ⌜ now (out .exit) ≡ word first ++ word second ++ word third ⌝ }
+{
+    put_word(out, 0, first);
+    put_word(out, 4, second);
+    put_word(out, 8, third);
 }

@@ -1,13 +1,13 @@
 -- Reads and writes of a column: one law on bytes by position gives every read, every write and what each leaves alone.
 use mathlib.Core.Path.{_≡_, refl, sym, ap, ap₂, subst, _∙_}
 use mathlib.Core.Logic.{_≢_}
-use mathlib.Core.List.{List, [], _∷_, _++_}
-use Prim.Native.Nat.{ℕ, zero, suc, _-_, _+_, _*_, _<_, _≤_, _^_}
+use mathlib.Core.List.{List, _++_, append-nil}
+use Prim.Native.Nat.{ℕ, zero, suc, _-_, _+_, _*_, _/_, _<_, _≤_, _^_}
 use native.Mathlib.Nat.{suc-mul, le-of-suc-le-suc, not-suc-le-zero, zero-mul, add-zero, mul-le-mul-right}
 use native.Mathlib.Omega.{arith}
 use native.Mathlib.Decide.{decLt, ℕ-discrete}
-use lib.ListN.{length, getD, set, take, drop, length-set, List·getD-append}
-use lib.Seq.{sets-eq, drop-length, length-take-le, getD-take, getD-drop, getD-append-add, ext-getD, getD-set-same, getD-set-other}
+use lib.ListN.{length, getD, set, take, drop, length-append, length-take, length-drop, length-set, List·getD-append}
+use lib.Seq.{sets, sets-eq, drop-length, length-take-le, getD-take, getD-drop, getD-append-add, ext-getD, getD-set-same, getD-set-other}
 use borrow.Rule.Slice.PartMut.{putMid}
 use Rattle.table_bytes.specs.Columns.{dec, enc, col, cols, setW, setT, setH, setN, put, Sized}
 
@@ -86,68 +86,57 @@ col-set w n b c o i x l e f = ext-getD 0 _ _ (col-length w n c o ∙ sym (length
     go j k (no q) = f j k q ∙ sym (getD-set-other (col w n b o) i j x 0 q ∙ col-get w n b o j k)
 
 -- stores of a part
-pub stores8 : (p : List ℕ) (x0 x1 x2 x3 x4 x5 x6 x7 : ℕ) → length p ≡ 8
-    → set (set (set (set (set (set (set (set p 0 x0) 1 x1) 2 x2) 3 x3) 4 x4) 5 x5) 6 x6) 7 x7
-    ≡ x0 ∷ x1 ∷ x2 ∷ x3 ∷ x4 ∷ x5 ∷ x6 ∷ x7 ∷ []
-stores8 p x0 x1 x2 x3 x4 x5 x6 x7 e =
-    let vs : List ℕ = x0 ∷ x1 ∷ x2 ∷ x3 ∷ x4 ∷ x5 ∷ x6 ∷ x7 ∷ [] in
-    sets-eq vs p 0 (omega arith) ∙ ap (λ (l : List ℕ). vs ++ l) (ap (λ (n : ℕ). drop n p) (sym e) ∙ drop-length p)
-
-pub stores2 : (p : List ℕ) (x0 x1 : ℕ) → length p ≡ 2 → set (set p 0 x0) 1 x1 ≡ x0 ∷ x1 ∷ []
-stores2 p x0 x1 e =
-    let vs : List ℕ = x0 ∷ x1 ∷ [] in
-    sets-eq vs p 0 (omega arith) ∙ ap (λ (l : List ℕ). vs ++ l) (ap (λ (n : ℕ). drop n p) (sym e) ∙ drop-length p)
+pub stores : (vs p : List ℕ) → length p ≡ length vs → sets p 0 vs ≡ vs
+stores vs p e =
+    let z : 0 + length vs ≡ length p = omega arith in
+    sets-eq vs p 0 (omega arith) ∙ ap (λ (n : ℕ). vs ++ drop n p) z ∙ ap (λ (l : List ℕ). vs ++ l) (drop-length p) ∙ append-nil vs
 
 pub round8 : (x : ℕ) → x < 2 ^ 64 → dec 8 (enc 8 x) 0 ≡ x
 unfolding enc
 round8 x h = omega arith
 
+pub round4 : (x : ℕ) → x < 2 ^ 32 → dec 4 (enc 4 x) 0 ≡ x
+unfolding enc
+round4 x h = omega arith
+
 pub round2 : (x : ℕ) → x < 65536 → dec 2 (enc 2 x) 0 ≡ x
 unfolding enc
 round2 x h = omega arith
 
--- the buffer after a part of it was written
-span8 : (o : ℕ) → o + 8 - o ≡ 8
-span8 o = omega arith
-
-span2 : (o : ℕ) → o + 2 - o ≡ 2
-span2 o = omega arith
-
-pub get8 : (b : List ℕ) (o : ℕ) → dec 8 (take (o + 8 - o) (drop o b)) 0 ≡ dec 8 b o
-get8 b o = rw (span8 o) (dec-part 8 8 b o (omega arith))
-
-pub get2 : (b : List ℕ) (o : ℕ) → dec 2 (take (o + 2 - o) (drop o b)) 0 ≡ dec 2 b o
-get2 b o = rw (span2 o) (dec-part 2 2 b o (omega arith))
-
-pub put8 : (b y : List ℕ) (o x : ℕ) → y ≡ enc 8 x → putMid o (o + 8 - o) b y ≡ put b o (enc 8 x)
+pub enc-length : (w x : ℕ) → length (enc w x) ≡ w
 unfolding enc
-put8 b y o x e = rw (e, span8 o)
+enc-length zero x = refl
+enc-length (suc w) x = ap suc (enc-length w (x / 256))
 
-pub put2 : (b y : List ℕ) (o x : ℕ) → y ≡ enc 2 x → putMid o (o + 2 - o) b y ≡ put b o (enc 2 x)
-unfolding enc
-put2 b y o x e = rw (e, span2 o)
+-- a part that is read, and the buffer after a part of it was written
+span : (o w : ℕ) → o + w - o ≡ w
+span o w = omega arith
+
+pub get : (w : ℕ) (b : List ℕ) (o : ℕ) → dec w (take (o + w - o) (drop o b)) 0 ≡ dec w b o
+get w b o = rw (span o w) (dec-part w w b o (omega arith))
+
+pub put-between : (w : ℕ) (b y : List ℕ) (o e x : ℕ) → e ≡ o + w → y ≡ enc w x → putMid o (e - o) b y ≡ put b o (enc w x)
+put-between w b y o e x q f = let z : e - o ≡ w = omega arith in rw (f, z, enc-length w x)
+
+pub put-back : (w : ℕ) (b y : List ℕ) (o x : ℕ) → y ≡ enc w x → putMid o (o + w - o) b y ≡ put b o (enc w x)
+put-back w b y o x e = put-between w b y o (o + w) x refl e
+
+pub put-length : (b : List ℕ) (o : ℕ) (l : List ℕ) → o + length l ≤ length b → length (put b o l) ≡ length b
+put-length b o l h = simp (length-append, length-take, length-drop) (omega arith)
 
 -- a read of the words
 pub word-at : (r : ℕ) (b : List ℕ) (i : ℕ) → i < r → dec 8 b (i * 8) ≡ getD (cols r b .w) i 0
 word-at r b i h = let e : 0 + i * 8 ≡ i * 8 = omega arith in sym (rw e at (col-get 8 r b 0 i h))
 
-enc8-length : (x : ℕ) → length (enc 8 x) ≡ 8
-unfolding enc
-enc8-length x = refl
-
-enc2-length : (x : ℕ) → length (enc 2 x) ≡ 2
-unfolding enc
-enc2-length x = refl
-
 -- stores to a column
 module _ (r : ℕ) (b : List ℕ) (i x : ℕ) (len : length b ≡ 16 * r) where
   pub word-set : i < r → x < 2 ^ 64 → cols r (put b (i * 8) (enc 8 x)) ≡ setW (cols r b) i x
   word-set h f k = record {
-    w = col-set 8 r b c 0 i x h (rw z (dec-same 8 b (i * 8) (enc 8 x) lb (enc8-length x) ∙ round8 x f))
+    w = col-set 8 r b c 0 i x h (rw z (dec-same 8 b (i * 8) (enc 8 x) lb (enc-length 8 x) ∙ round8 x f))
         (λ j l ne. away j l ne (decLt j i)) k;
-    t = col-same 2 (2 * r) b c (8 * r) (λ j l. dec-high 2 b (i * 8) (enc 8 x) _ lb (rw (enc8-length x) (omega arith))) k;
-    h = col-same 2 r b c (12 * r) (λ j l. dec-high 2 b (i * 8) (enc 8 x) _ lb (rw (enc8-length x) (omega arith))) k;
-    n = col-same 2 r b c (14 * r) (λ j l. dec-high 2 b (i * 8) (enc 8 x) _ lb (rw (enc8-length x) (omega arith))) k;
+    t = col-same 2 (2 * r) b c (8 * r) (λ j l. dec-high 2 b (i * 8) (enc 8 x) _ lb (rw (enc-length 8 x) (omega arith))) k;
+    h = col-same 2 r b c (12 * r) (λ j l. dec-high 2 b (i * 8) (enc 8 x) _ lb (rw (enc-length 8 x) (omega arith))) k;
+    n = col-same 2 r b c (14 * r) (λ j l. dec-high 2 b (i * 8) (enc 8 x) _ lb (rw (enc-length 8 x) (omega arith))) k;
   }
     where
       c : List ℕ
@@ -161,7 +150,7 @@ module _ (r : ℕ) (b : List ℕ) (i x : ℕ) (len : length b ≡ 16 * r) where
 
       away : (j : ℕ) → j < r → j ≢ i → Dec (j < i) → dec 8 c (0 + j * 8) ≡ dec 8 b (0 + j * 8)
       away j l ne (yes q) = dec-low 8 b (i * 8) (enc 8 x) _ lb (omega arith)
-      away j l ne (no q) = dec-high 8 b (i * 8) (enc 8 x) _ lb (rw (enc8-length x) (omega arith))
+      away j l ne (no q) = dec-high 8 b (i * 8) (enc 8 x) _ lb (rw (enc-length 8 x) (omega arith))
 
   -- a 2-byte store in the column of n numbers at o; the columns before and behind it
   same-low : (v n p o : ℕ) → p + n * v ≤ o → o ≤ length b → col v n (put b o (enc 2 x)) p ≡ col v n b p
@@ -171,17 +160,17 @@ module _ (r : ℕ) (b : List ℕ) (i x : ℕ) (len : length b ≡ 16 * r) where
       fit j q = subst (λ (z : ℕ). z ≤ n * v) (suc-mul j v) (mul-le-mul-right v q)
 
   same-high : (v n p o : ℕ) → o + 2 ≤ p → o ≤ length b → col v n (put b o (enc 2 x)) p ≡ col v n b p
-  same-high v n p o h l = col-same v n b (put b o (enc 2 x)) p (λ j q. dec-high v b o (enc 2 x) (p + j * v) l (rw (enc2-length x) (omega arith)))
+  same-high v n p o h l = col-same v n b (put b o (enc 2 x)) p (λ j q. dec-high v b o (enc 2 x) (p + j * v) l (rw (enc-length 2 x) (omega arith)))
 
   set-two : (n p : ℕ) → i < n → x < 65536 → p + n * 2 ≤ length b → col 2 n (put b (p + i * 2) (enc 2 x)) p ≡ set (col 2 n b p) i x
-  set-two n p h f l = col-set 2 n b (put b (p + i * 2) (enc 2 x)) p i x h (dec-same 2 b (p + i * 2) (enc 2 x) lb (enc2-length x) ∙ round2 x f) (λ j q ne. away j q ne (decLt j i))
+  set-two n p h f l = col-set 2 n b (put b (p + i * 2) (enc 2 x)) p i x h (dec-same 2 b (p + i * 2) (enc 2 x) lb (enc-length 2 x) ∙ round2 x f) (λ j q ne. away j q ne (decLt j i))
     where
       lb : p + i * 2 ≤ length b
       lb = omega arith
 
       away : (j : ℕ) → j < n → j ≢ i → Dec (j < i) → dec 2 (put b (p + i * 2) (enc 2 x)) (p + j * 2) ≡ dec 2 b (p + j * 2)
       away j l ne (yes q) = dec-low 2 b (p + i * 2) (enc 2 x) _ lb (omega arith)
-      away j l ne (no q) = dec-high 2 b (p + i * 2) (enc 2 x) _ lb (rw (enc2-length x) (omega arith))
+      away j l ne (no q) = dec-high 2 b (p + i * 2) (enc 2 x) _ lb (rw (enc-length 2 x) (omega arith))
 
   pub tree-set : i < 2 * r → x < 65536 → cols r (put b (8 * r + i * 2) (enc 2 x)) ≡ setT (cols r b) i x
   tree-set h f k = record {

@@ -1,4 +1,4 @@
-// A lent buffer of r slots of 16 bytes as four columns of numbers, little-endian: words of 8 bytes (r), tree nodes of 2 (2 r), heads of 2 (r), nexts of 2 (r).
+// Numbers of 4 and of 8 bytes in a lent slice, little-endian; and a buffer of r slots of 16 bytes as four columns of numbers: words of 8 bytes (r), tree nodes of 2 (2 r), heads of 2 (r), nexts of 2 (r).
 // Promises: a read gives the number at its place, a write changes that number and nothing else.
 // Rests on: nothing.
 ghost use mathlib.Core.Path.{_≡_};
@@ -13,7 +13,7 @@ fn wide(x: u8) -> u64
 }
 
 // A flat sum over the part: it becomes one load.
-fn read8(p: &[u8]) -> u64
+pub fn read8(p: &[u8]) -> u64
     requires { ⌜ length (now p) ≡ 8 ⌝ }
     ensures { λ r. ⌜ r ≡ dec 8 (now (p .entry)) 0 ⌝ }
 {
@@ -27,6 +27,13 @@ fn read8(p: &[u8]) -> u64
         + 72057594037927936 * wide(p[7])
 }
 
+pub fn read4(p: &[u8]) -> u32
+    requires { ⌜ length (now p) ≡ 4 ⌝ }
+    ensures { λ r. ⌜ r ≡ dec 4 (now (p .entry)) 0 ⌝ }
+{
+    (wide(p[0]) + 256 * wide(p[1]) + 65536 * wide(p[2]) + 16777216 * wide(p[3])) as u32
+}
+
 fn read2(p: &[u8]) -> usize
     requires { ⌜ length (now p) ≡ 2 ⌝ }
     ensures { λ r. ⌜ r ≡ dec 2 (now (p .entry)) 0 ⌝ }
@@ -35,7 +42,7 @@ fn read2(p: &[u8]) -> usize
 }
 
 // Byte by byte, one a line: they become one store.
-fn write8(p: &mut [u8], x: u64)
+pub fn write8(p: &mut [u8], x: u64)
     requires { ⌜ length (now p) ≡ 8 ⌝ }
     ensures { λ _. ⌜ now (p .exit) ≡ enc 8 x ⌝ }
 {
@@ -47,6 +54,16 @@ fn write8(p: &mut [u8], x: u64)
     p[5] = (x / 256 / 256 / 256 / 256 / 256 % 256) as u8;
     p[6] = (x / 256 / 256 / 256 / 256 / 256 / 256 % 256) as u8;
     p[7] = (x / 256 / 256 / 256 / 256 / 256 / 256 / 256 % 256) as u8;
+}
+
+pub fn write4(p: &mut [u8], x: u32)
+    requires { ⌜ length (now p) ≡ 4 ⌝ }
+    ensures { λ _. ⌜ now (p .exit) ≡ enc 4 x ⌝ }
+{
+    p[0] = (x % 256) as u8;
+    p[1] = (x / 256 % 256) as u8;
+    p[2] = (x / 256 / 256 % 256) as u8;
+    p[3] = (x / 256 / 256 / 256 % 256) as u8;
 }
 
 fn write2(p: &mut [u8], x: usize)

@@ -2,7 +2,7 @@ use borrow.Author.Needs.{needs}
 use native.Mathlib.Omega.{arith}
 use lib.ListN.{length-set}
 use Rattle.table_bytes.specs.Columns.{enc}
-use Rattle.table_bytes.proofs.Access.{stores8}
+use Rattle.table_bytes.proofs.Access.{stores}
 use Rattle.table_bytes.proofs.write8.Statement.{statement}
 use Rattle.table_bytes.proofs.write8.Tie as tie
 
@@ -23,7 +23,7 @@ same-length c = simp length-set
 
 returns : tie.Need-returns
 unfolding enc
-returns c = stores8 (c .args .p .now) _ _ _ _ _ _ _ _ (c .pre)
+returns c = stores (enc 8 (c .args .x)) (c .args .p .now) (c .pre)
 
 pub write8-spec : {M : Type 1} → statement M
 write8-spec =

@@ -1,0 +1,4 @@
+pub mod Folds
+pub mod Runs
+pub mod Times
+pub mod Determined

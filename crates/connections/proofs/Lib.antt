@@ -1,0 +1,3 @@
+pub mod GatherLaws
+pub mod Consecutive
+pub mod Determined

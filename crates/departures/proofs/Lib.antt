@@ -1,0 +1,5 @@
+pub mod SliceLaws
+pub mod JudgeLaws
+pub mod FeedLaws
+pub mod EntryLaws
+pub mod Determined

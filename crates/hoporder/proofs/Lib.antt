@@ -1,0 +1,4 @@
+pub mod PairwiseLaws
+pub mod HopFields
+pub mod LineLaws
+pub mod HopOrder

@@ -1,0 +1,26 @@
+-- Lines with as many fields as line 1, and an id in one of them. Assumes nothing.
+use mathlib.Core.Path.{_≡_}
+use mathlib.Core.Bool.{Bool, _&&_}
+use mathlib.Core.List.{List}
+use Prim.Native.Nat.{ℕ, _*_}
+use lib.Dec.{eqb}
+use lib.ListN.{length}
+use Rattle.feed.specs.Fields.{rowOf, field}
+use Rattle.feed.specs.Ids.{known}
+use Rattle.idtree.specs.Tree.{Grown}
+
+-- so many fields, and quotes in order
+unfoldable pub counted : ℕ → List ℕ → Bool
+counted count l = rowOf l .sound && eqb (length (rowOf l .fields)) count
+
+-- the id in field k is listed
+unfoldable pub idKnown : List ℕ → ℕ → List ℕ → Bool
+idKnown list k l = known list (field (rowOf l) k)
+
+-- room for n nodes
+abbrev pub Nodes : ℕ → List ℕ → Type 0
+Nodes n b = length b ≡ 8 * n
+
+-- m of n nodes are the tree of the list, as far as they reach
+abbrev pub Listed : List ℕ → ℕ → ℕ → List ℕ → Type 0
+Listed list n m b = Grown list n m b

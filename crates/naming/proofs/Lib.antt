@@ -1,0 +1,4 @@
+pub mod Places
+pub mod Leading
+pub mod Meaning
+pub mod Determined

@@ -1,0 +1,33 @@
+use native.Mathlib.Omega.{arith}
+use mathlib.Core.Path.{sym, _∙_}
+use borrow.Author.Tests.{not-true}
+use borrow.Author.Needs.{needs}
+use Rattle.journeys.proofs.Tests.{and-both}
+use Rattle.lines.proofs.Passes.{stop-within}
+use Rattle.naming.proofs.Places.{line-named}
+use Rattle.naming.proofs.Leading.{other-id}
+use Rattle.naming.proofs.names_at.Statement.{statement}
+use Rattle.naming.proofs.names_at.Tie as tie
+
+goes-on-requires : tie.Need-goes-on-requires
+goes-on-requires c κs = omega (arith, c .before .before .pre)
+
+returns : tie.Need-returns
+returns c =
+    let led = c .before .before in
+    let start = led .before .before .before in
+    let a = start .args in
+    let both = and-both _ _ (c .if1 .taken) in
+    sym (other-id (a .text .now) (a .name .now) (a .at) (start .pre) (not-true _ (both .0)) (sym (led .goes-on .ensures) ∙ not-true _ (both .1)))
+
+line-stop-requires : tie.Need-line-stop-requires
+line-stop-requires c κs = omega (arith, c .before .before .before .before .before .pre)
+
+begins-between-requires : tie.Need-begins-between-requires
+begins-between-requires c κs = let h = c .before .before .before .before .before .before .pre in stop-within _ _ (c .line-stop .result) 0 (omega (arith, h)) (c .line-stop .ensures)
+
+returns-2 : tie.Need-returns-2
+returns-2 c = c .begins-between .ensures ∙ line-named _ _ _ _ (c .before .line-stop .ensures)
+
+pub names-at-spec : {M : Type 1} → statement M
+names-at-spec = tie.close (tie.spec goes-on-requires (λ c. search needs) returns line-stop-requires begins-between-requires returns-2)

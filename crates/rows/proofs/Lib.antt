@@ -1,0 +1,3 @@
+pub mod Quoteless
+pub mod Fields
+pub mod Determined

@@ -1,0 +1,2 @@
+pub mod StopLines
+pub mod Determined

@@ -1,0 +1,5 @@
+pub mod SomeLaws
+pub mod OrderLaws
+pub mod TimeLaws
+pub mod Rearranged
+pub mod Determined

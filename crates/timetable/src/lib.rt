@@ -1,0 +1,125 @@
+// The operators' timetable: stop_times.txt and two lists of ids become hops of 20 bytes.
+// Promises: the refusal, the number of hops and every byte of the target, as the definitions of `feed` say, for texts of every length.
+// Rests on: the texts judged (`vetting`), trees of ids (`idtree`), and for the trips records in the target (`windows`) or, for want of them, `unaided`.
+use departures::Answer;
+use departures::refuse;
+use stoplist::Columns;
+ghost use mathlib.Core.Path.{_≡_};
+ghost use mathlib.Core.Bool.{true};
+ghost use Rattle.journeys.specs.Refusals.{tableOf};
+ghost use Rattle.feed.specs.Answers.{Passed};
+ghost use Rattle.known.specs.Counted.{Nodes, Listed};
+ghost use Rattle.headings.specs.Opened.{Opened};
+ghost use Rattle.vetting.specs.Vetted.{textRefusal};
+ghost use Rattle.timetable.specs.Lent.{feedOf, Answers, Called};
+
+// What 14 lets pass. Records in the target serve where it has room for one of each line and 32 bits for its number and its trip's place; without
+// them each stop is read again from its line.
+fn passed(
+    target: &mut [u8],
+    text: &[u8],
+    from: usize,
+    c: Columns,
+    bs: &[u8],
+    ns: usize,
+    ms: usize,
+    stops: &[u8],
+    bt: &[u8],
+    nt: usize,
+    mt: usize,
+    trips: &[u8],
+) -> Answer
+    requires { ⌜ (tableOf 20 0 262144 (now target) ≡ true) × Passed (feedOf (now text) (now stops) (now trips) (now target)) × Opened (now text) from c ⌝ }
+    requires { ⌜ Nodes ns (now bs) × Listed (now stops) ns ms (now bs) × Nodes nt (now bt) × Listed (now trips) nt mt (now bt) ⌝ }
+    ensures { λ r. ⌜ Answers (feedOf (now (text .entry)) (now (stops .entry)) (now (trips .entry)) (now (target .entry))) r (now (target .exit)) ⌝ }
+{
+    let room = target.len() / 20;
+    let lines = reread::count_stops(text, from);
+    if (lines <= room) & (text.len() < 4294967294) & (trips.len() < 4294967296) {
+        return windows::held_hops(
+            target,
+            room,
+            text,
+            from,
+            c,
+            bs,
+            ns,
+            ms,
+            stops,
+            bt,
+            nt,
+            mt,
+            trips,
+        );
+    }
+    unaided::all_hops(target, text, from, c, bs, ns, ms, stops, bt, nt, mt, trips)
+}
+
+// A text and lists that 29, 12 and 13 let pass, with the trees of both lists.
+fn judged(
+    target: &mut [u8],
+    text: &[u8],
+    bs: &[u8],
+    ns: usize,
+    ms: usize,
+    stops: &[u8],
+    bt: &[u8],
+    nt: usize,
+    mt: usize,
+    trips: &[u8],
+) -> Answer
+    requires { ⌜ (tableOf 20 0 262144 (now target) ≡ true) × (textRefusal (now text) (now stops) (now trips) .number ≡ 0) ⌝ }
+    requires { ⌜ Nodes ns (now bs) × Listed (now stops) ns ms (now bs) × Nodes nt (now bt) × Listed (now trips) nt mt (now bt) ⌝ }
+    ensures { λ r. ⌜ Answers (feedOf (now (text .entry)) (now (stops .entry)) (now (trips .entry)) (now (target .entry))) r (now (target .exit)) ⌝ }
+{
+    let stop = lines::line_stop(text, 0);
+    let from = lines::line_next(text, stop);
+    let c = headings::columns_of(&text[..stop]);
+    let r = vetting::unknown(text, from, c, bs, ns, ms, stops, bt, nt, mt, trips);
+    if r.number != 0 {
+        return refuse(target, r.number, r.place);
+    }
+    passed(target, text, from, c, bs, ns, ms, stops, bt, nt, mt, trips)
+}
+
+// The same with room for the trees.
+fn named(target: &mut [u8], text: &[u8], stops: &[u8], trips: &[u8]) -> Answer
+    requires { ⌜ (tableOf 20 0 262144 (now target) ≡ true) × (textRefusal (now text) (now stops) (now trips) .number ≡ 0) ⌝ }
+    ensures { λ r. ⌜ Answers (feedOf (now (text .entry)) (now (stops .entry)) (now (trips .entry)) (now (target .entry))) r (now (target .exit)) ⌝ }
+{
+    let mut bs = [0u8; 40960];
+    let mut bt = [0u8; 88064];
+    let ms = idtree::build(&mut bs, 5120, stops);
+    let mt = idtree::build(&mut bt, 11008, trips);
+    judged(target, text, &bs, 5120, ms, stops, &bt, 11008, mt, trips)
+}
+
+// The hops of a timetable, or the first refusal in the order of the definitions.
+pub fn read(text: &[u8], stops: &[u8], trips: &[u8], target: &mut [u8]) -> Answer
+    ensures { λ r. ⌜ Answers (feedOf (now (text .entry)) (now (stops .entry)) (now (trips .entry)) (now (target .entry))) r (now (target .exit)) ⌝ }
+{
+    if !audit::table_ok(target, 20, 0, 262144) {
+        return Answer {
+            number: 1,
+            place: 2,
+            hops: 0,
+        };
+    }
+    let r = vetting::text_fault(text, stops, trips);
+    if r.number != 0 {
+        return refuse(target, r.number, r.place);
+    }
+    named(target, text, stops, trips)
+}
+
+// The same for a caller in C, who lends 12 bytes for refusal, place and number of hops; 1 where they are not 12, and then nothing is written.
+pub fn call(text: &[u8], stops: &[u8], trips: &[u8], target: &mut [u8], out: &mut [u8]) -> u32
+    ensures { λ r. ⌜ Called (feedOf (now (text .entry)) (now (stops .entry)) (now (trips .entry)) (now (target .entry))) (now (out .entry)) (now (target .exit)) (now (out .exit)) r ⌝ }
+{
+    if out.len() != 12 {
+        return 1;
+    }
+    let a = read(text, stops, trips, target);
+    calls::put_three(out, a.number, a.place, a.hops as u32);
+    0
+}

@@ -1,0 +1,3 @@
+pub mod HopLists
+pub mod StopLimits
+pub mod Demands

@@ -1,0 +1,4 @@
+pub mod Writing
+pub mod Tops
+pub mod Whole
+pub mod Given
