@@ -9,7 +9,7 @@ ghost use lib.ListN.{length, getD, replicate};
 ghost use Rattle.journeys.specs.Counting.{one};
 ghost use Rattle.journeys.specs.Tables.{vertexAt};
 ghost use Rattle.worktable.specs.Map as map;
-ghost use Rattle.worktable.specs.Map.{absent, swept, Figure, put, size};
+ghost use Rattle.worktable.specs.Map.{absent, swept, distanceLimit, Figure, put, size};
 ghost use Rattle.worktable.specs.Table.{mapOf, InOrder};
 ghost use Rattle.passing.specs.Row.{passes, offerOf, Counted, Sound};
 ghost use Rattle.meeting.specs.Passing.{missing, met, left};
@@ -138,7 +138,7 @@ fn note_new(
 }
 
 fn sweep_one(held: &mut [u8], t: Table, u: usize, allowed: Ticks, block: usize) -> Table
-    requires { ⌜ InOrder t (now held) × (allowed .0 < 2147483647) ⌝ }
+    requires { ⌜ InOrder t (now held) × (allowed .0 < distanceLimit) ⌝ }
     ensures { λ r. ⌜ Leads t r (now (held .exit)) (put (mapOf t (now (held .entry))) u (cond (inBlock block u) (swept (allowed .0) (mapOf t (now (held .entry)) u)) (mapOf t (now (held .entry)) u))) ⌝ }
 {
     if u / 2048 == block {
@@ -160,7 +160,7 @@ fn sweep(
     arriving: Arriving,
     block: usize,
 ) -> Table
-    requires { ⌜ InOrder t (now held) × Counted (now walks) (now hops) arriving × (arriving .allowed .0 < 2147483647) ⌝ }
+    requires { ⌜ InOrder t (now held) × Counted (now walks) (now hops) arriving × (arriving .allowed .0 < distanceLimit) ⌝ }
     ensures { λ r. ⌜ Leads t r (now (held .exit)) (sweptBlock (now (walks .entry)) (now (hops .entry)) arriving block (mapOf t (now (held .entry)))) ⌝ }
 {
     let n = arriving.walks + arriving.hops;
@@ -195,7 +195,7 @@ pub fn meet_in_room(
     offer: Ticks,
     allowed: Ticks,
 ) -> Arrived
-    requires { ⌜ InOrder t (now held) × (u < length (now vertices) / 12) × (length (now vertices) / 12 ≤ 65536) × Figure (offer .0) × (allowed .0 < 2147483647) ⌝ }
+    requires { ⌜ InOrder t (now held) × (u < length (now vertices) / 12) × (length (now vertices) / 12 ≤ 65536) × Figure (offer .0) × (allowed .0 < distanceLimit) ⌝ }
     requires { ⌜ (0 < left (vertexAt (now vertices) u .departing) (mapOf t (now held) u)) × (map.one (met (allowed .0) (offer .0) (vertexAt (now vertices) u .departing) (mapOf t (now held) u)) ≡ 1) ⌝ }
     ensures { λ r. ⌜ ArrivedIs t (now (held .exit)) (put (mapOf t (now (held .entry))) u (met (allowed .0) (offer .0) (vertexAt (now (vertices .entry)) u .departing) (mapOf t (now (held .entry)) u))) r ⌝ }
 {
@@ -216,7 +216,7 @@ fn add_one(
     block: usize,
     counters: &[u16],
 ) -> Arrived
-    requires { ⌜ InOrder t (now held) × (u < length (now vertices) / 12) × (length (now vertices) / 12 ≤ 65536) × Figure (offer .0) × (length (now counters) ≡ 2048) × (allowed .0 < 2147483647) ⌝ }
+    requires { ⌜ InOrder t (now held) × (u < length (now vertices) / 12) × (length (now vertices) / 12 ≤ 65536) × Figure (offer .0) × (length (now counters) ≡ 2048) × (allowed .0 < distanceLimit) ⌝ }
     requires { ⌜ (u / 2048 ≡ block → staysIn (now counters) (u % 2048) ≡ true → (0 < left (vertexAt (now vertices) u .departing) (mapOf t (now held) u)) × (map.one (met (allowed .0) (offer .0) (vertexAt (now vertices) u .departing) (mapOf t (now held) u)) ≡ 1)) ⌝ }
     ensures { λ r. ⌜ ArrivedIs t (now (held .exit)) (put (mapOf t (now (held .entry))) u (cond (inBlock block u && staysIn (now (counters .entry)) (u % 2048)) (met (allowed .0) (offer .0) (vertexAt (now (vertices .entry)) u .departing) (mapOf t (now (held .entry)) u)) (mapOf t (now (held .entry)) u))) r ⌝ }
 {

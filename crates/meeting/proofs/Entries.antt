@@ -11,7 +11,7 @@ use borrow.Author.Tests.{le-ltb, ne-eqb}
 use Rattle.journeys.specs.Counting as counting
 use Rattle.journeys.proofs.Tests.{never, le-or-lt}
 use Rattle.journeys.specs.Bytes.{be16}
-use Rattle.worktable.specs.Map.{Entry, absent, known, one, touched, spent, swept, remainingOf}
+use Rattle.worktable.specs.Map.{Entry, absent, known, remainingLimit, one, touched, spent, swept, remainingOf}
 use Rattle.worktable.proofs.MapLaws.{absent-known, spent-some, swept-spent, swept-kept}
 use Rattle.meeting.specs.Passing.{missing, entered, met, futile, left}
 
@@ -99,7 +99,7 @@ met-left D b d (known x zero n) = swept-left D d (min b x) 0 n
 met-left D b d (known x (suc s) n) = swept-left D d x (suc s) n
 
 -- a number of two bytes
-pub half-low : (b : List ℕ) (at n : ℕ) → n ≡ be16 b at → ((i : ℕ) → getD b i 0 < 256) → n - 1 < 65536
+pub half-low : (b : List ℕ) (at n : ℕ) → n ≡ be16 b at → ((i : ℕ) → getD b i 0 < 256) → n - 1 < remainingLimit
 unfolding be16
 half-low b at n h l = omega (arith, h, l at, l (at + 1))
 

@@ -7,7 +7,7 @@ ghost use Prim.Native.Nat.{_+_, _-_, _/_, _<_, _≤_};
 ghost use lib.ListN.{length};
 ghost use Rattle.journeys.specs.Counting.{one};
 ghost use Rattle.journeys.specs.Tables.{vertexAt};
-ghost use Rattle.worktable.specs.Map.{absent, known, Figure, put, swept, size};
+ghost use Rattle.worktable.specs.Map.{absent, known, distanceLimit, Figure, put, swept, size};
 ghost use Rattle.worktable.specs.Table.{mapOf, InOrder, PassedIs};
 ghost use Rattle.passing.specs.Row.{passes, rowOf, Sound, Leaves};
 ghost use Rattle.meeting.specs.Passing.{entered, met, futile, comers, left, Spacious, Ready};
@@ -79,7 +79,7 @@ pub fn enter_or_drop(
 
 // One record from u: u is newly met, or one record less remains to it. A vertex to which nothing remains is dropped where it is settled or known above D.
 fn meet(held: &mut [u8], t: Table, vertices: &[u8], u: usize, offer: Ticks, allowed: Ticks) -> Table
-    requires { ⌜ InOrder t (now held) × (u < length (now vertices) / 12) × (length (now vertices) / 12 ≤ 65536) × Figure (offer .0) × (allowed .0 < 2147483647) ⌝ }
+    requires { ⌜ InOrder t (now held) × (u < length (now vertices) / 12) × (length (now vertices) / 12 ≤ 65536) × Figure (offer .0) × (allowed .0 < distanceLimit) ⌝ }
     requires { ⌜ (0 < left (vertexAt (now vertices) u .departing) (mapOf t (now held) u)) × (mapOf t (now held) u ≡ absent → futile (allowed .0) (offer .0) (vertexAt (now vertices) u .departing) ≡ false → size (mapOf t (now held)) < t .room) ⌝ }
     ensures { λ r. ⌜ Leads t r (now (held .exit)) (put (mapOf t (now (held .entry))) u (met (allowed .0) (offer .0) (vertexAt (now (vertices .entry)) u .departing) (mapOf t (now (held .entry)) u))) ⌝ }
 {

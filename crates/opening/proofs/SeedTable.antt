@@ -10,7 +10,7 @@ use mir.Syntax.{w8}
 use mir.Val.{Fits}
 use Rattle.journeys.specs.Bytes.{be16}
 use Rattle.journeys.specs.Tables.{vertexAt}
-use Rattle.worktable.specs.Map.{Entry, absent, known, Map, empty, put, Figure, one, sizeTo, size}
+use Rattle.worktable.specs.Map.{Entry, absent, known, Map, empty, put, remainingLimit, Figure, one, sizeTo, size}
 use Rattle.worktable.specs.Table.{mapOf, InOrder, Holds, Gives}
 use Rattle.worktable.specs.declared.Table.{Table}
 use Rattle.worktable.proofs.MapLaws.{put-other, size-put}
@@ -39,8 +39,8 @@ one-known d s n = refl
 near-distance : (d : ℕ) → d ≤ 112000 → Figure d
 near-distance d h = inl (omega arith)
 
-pub first-seed : (t : Table) (b : List ℕ) (c u d n : ℕ) → Holds t b empty → t .room ≡ c → 1 ≤ c → u < 65536 → d ≤ 112000 → n < 65536
-    → InOrder t b × (u < 65536) × Figure d × (n < 65536) × (mapOf t b u ≡ absent) × (size (mapOf t b) < t .room)
+pub first-seed : (t : Table) (b : List ℕ) (c u d n : ℕ) → Holds t b empty → t .room ≡ c → 1 ≤ c → u < 65536 → d ≤ 112000 → n < remainingLimit
+    → InOrder t b × (u < 65536) × Figure d × (n < remainingLimit) × (mapOf t b u ≡ absent) × (size (mapOf t b) < t .room)
 unfolding empty size
 first-seed t b c u d n h e l ul dl nl =
     (h .order, ul, near-distance d dl, nl, ap (λ (m : Map). m u) (h .map), rw (h .map) (omega (arith, size-empty 65536)))
@@ -50,8 +50,8 @@ pub after-first : (t r : Table) (b b1 : List ℕ) (u d n n′ : ℕ) → n ≡ n
 after-first t r b b1 u d n n′ q h g =
     record { order = g .holds .order; map = g .holds .map ∙ ap (λ (m : Map). put m u (known d 0 n)) (h .map) ∙ ap (λ (k : ℕ). put empty u (known d 0 k)) q }
 
-pub second-seed : (r : Table) (b : List ℕ) (from x s k u d n : ℕ) → Holds r b (put empty from (known x s k)) → from < 65536 → from ≢ u → 2 ≤ r .room → u < 65536 → d ≤ 112000 → n < 65536
-    → InOrder r b × (u < 65536) × Figure d × (n < 65536) × (mapOf r b u ≡ absent) × (size (mapOf r b) < r .room)
+pub second-seed : (r : Table) (b : List ℕ) (from x s k u d n : ℕ) → Holds r b (put empty from (known x s k)) → from < 65536 → from ≢ u → 2 ≤ r .room → u < 65536 → d ≤ 112000 → n < remainingLimit
+    → InOrder r b × (u < 65536) × Figure d × (n < remainingLimit) × (mapOf r b u ≡ absent) × (size (mapOf r b) < r .room)
 unfolding empty
 second-seed r b from x s k u d n h fl ne cap ul dl nl = (
   h .order,

@@ -9,7 +9,7 @@ ghost use lib.Dec.{eqb, ltb};
 ghost use lib.ListN.{length, getD, set, replicate};
 ghost use Rattle.journeys.specs.Counting.{one};
 ghost use Rattle.worktable.specs.Map as map;
-ghost use Rattle.worktable.specs.Map.{absent, touched, swept, remainingOf, Figure, put};
+ghost use Rattle.worktable.specs.Map.{absent, touched, swept, remainingOf, distanceLimit, Figure, put};
 ghost use Rattle.worktable.specs.Table.{mapOf, InOrder, PassedIs};
 ghost use Rattle.passing.specs.Row.{passes, fromOf, offerOf, rowOf, Sound, Leaves};
 ghost use Rattle.meeting.specs.Passing.{missing, meets, leaving, left, Ready};
@@ -64,7 +64,7 @@ fn touch_one(
     j: usize,
     marks: &mut [u16],
 ) -> Table
-    requires { ⌜ InOrder t (now held) × Figure (offer .0) × (mapOf t (now held) u ≢ absent → 0 < remainingOf (mapOf t (now held) u)) × (allowed .0 < 2147483647) × (length (now marks) ≡ 2048) × (j < 2048) ⌝ }
+    requires { ⌜ InOrder t (now held) × Figure (offer .0) × (mapOf t (now held) u ≢ absent → 0 < remainingOf (mapOf t (now held) u)) × (allowed .0 < distanceLimit) × (length (now marks) ≡ 2048) × (j < 2048) ⌝ }
     ensures { λ r. ⌜ Leads t r (now (held .exit)) (put (mapOf t (now (held .entry))) u (swept (allowed .0) (touched (offer .0) (mapOf t (now (held .entry)) u)))) ⌝ }
     ensures { λ _. ⌜ now (marks .exit) ≡ set (now (marks .entry)) j (one (missing (mapOf t (now (held .entry)) u))) ⌝ }
 {

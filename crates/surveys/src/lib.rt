@@ -9,7 +9,7 @@ ghost use lib.Dec.{eqb, ltb};
 ghost use lib.ListN.{length, getD, replicate};
 ghost use Rattle.journeys.specs.Counting.{one};
 ghost use Rattle.journeys.specs.Tables.{vertexAt};
-ghost use Rattle.worktable.specs.Map.{absent, touched, remainingOf, Figure, put};
+ghost use Rattle.worktable.specs.Map.{absent, touched, remainingOf, distanceLimit, Figure, put};
 ghost use Rattle.worktable.specs.Table.{mapOf, InOrder};
 ghost use Rattle.passing.specs.Row.{Counted};
 ghost use Rattle.meeting.specs.Passing.{missing, Ready};
@@ -74,7 +74,7 @@ fn survey_one(
     tally: usize,
     counters: &mut [u16],
 ) -> usize
-    requires { ⌜ InOrder t (now held) × (u < length (now vertices) / 12) × Figure (offer .0) × (allowed .0 < 2147483647) × (length (now counters) ≡ 2048) × (0 < tally) × (tally < 9223372036854775808) ⌝ }
+    requires { ⌜ InOrder t (now held) × (u < length (now vertices) / 12) × Figure (offer .0) × (allowed .0 < distanceLimit) × (length (now counters) ≡ 2048) × (0 < tally) × (tally < 9223372036854775808) ⌝ }
     requires { ⌜ (u / 2048 ≡ block → (mapOf t (now held) u ≢ absent → 0 < remainingOf (mapOf t (now held) u)) × (mapOf t (now held) u ≡ absent → 0 < vertexAt (now vertices) u .departing)) ⌝ }
     ensures { λ r. ⌜ Leads t t (now (held .exit)) (put (mapOf t (now (held .entry))) u (cond (inBlock block u) (touched (offer .0) (mapOf t (now (held .entry)) u)) (mapOf t (now (held .entry)) u))) ⌝ }
     ensures { λ r. ⌜ r ≡ cond (inBlock block u) (tallied (allowed .0) (offer .0) (vertexAt (now (vertices .entry)) u .departing) (getD (now (counters .entry)) (u % 2048) 0) tally (mapOf t (now (held .entry)) u)) tally ⌝ }

@@ -1,4 +1,4 @@
--- What a word of a slot tells: state (1 bit), distance (31), vertex (16), remaining (16); all ones in a vacant slot.
+-- What a word of a slot tells: state (1 bit), distance (27), vertex (16), remaining (20); all ones in a vacant slot.
 use mathlib.Core.Path.{_≡_}
 use mathlib.Core.List.{List}
 use Prim.Native.Nat.{ℕ, _*_, _/_, _%_, _≤_, min}
@@ -9,11 +9,11 @@ abbrev pub vacant : ℕ
 vacant = 18446744073709551615
 
 unfoldable pub vertexIn : ℕ → ℕ
-vertexIn w = w / 65536 % 65536
+vertexIn w = w / 1048576 % 65536
 
 -- what the tree compares: distance and vertex; settled words and vacant ones come last, all alike
 unfoldable pub key : ℕ → ℕ
-key w = min (w / 65536) 140737488355328
+key w = min (w / 1048576) 8796093022208
 
 unfoldable pub bucketOf : ℕ → ℕ → ℕ
 bucketOf m u = bitAnd u m

@@ -23,7 +23,7 @@ pub const VACANT: u64 = 0xFFFF_FFFF_FFFF_FFFF;
 pub fn vertex_in(w: u64) -> usize
     ensures { λ u. ⌜ (u ≡ vertexIn w) × (u < 65536) ⌝ }
 {
-    (w / 65536 % 65536) as usize
+    (w / 1048576 % 65536) as usize
 }
 
 fn bucket(mask: usize, u: usize) -> usize

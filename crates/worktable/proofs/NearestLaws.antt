@@ -21,35 +21,35 @@ use Rattle.worktable.proofs.LookupLaws.{lookup-slot}
 use Rattle.worktable.proofs.TableLaws.{place-distance, place-state}
 
 -- a word that waits: its key tells distance and vertex
-waits-low : (x : ℕ) → stateIn x ≡ 0 → distanceIn x < none → x / 4294967296 < 2147483647
+waits-low : (x : ℕ) → stateIn x ≡ 0 → distanceIn x < none → x / 68719476736 < 134217727
 unfolding stateIn distanceIn
 waits-low x a h = omega arith
 
-low-distance : (x : ℕ) → x / 4294967296 < 2147483647 → distanceIn x ≡ x / 4294967296
+low-distance : (x : ℕ) → x / 68719476736 < 134217727 → distanceIn x ≡ x / 68719476736
 unfolding distanceIn
 low-distance x h =
-    let a : x / 4294967296 % 2147483648 ≡ x / 4294967296 = omega arith in
-    let e : x / 4294967296 / 2147483647 ≡ 0 = omega arith in
+    let a : x / 68719476736 % 134217728 ≡ x / 68719476736 = omega arith in
+    let e : x / 68719476736 / 134217727 ≡ 0 = omega arith in
     rw (a, e) (omega arith)
 
-low-state : (x : ℕ) → x / 4294967296 < 2147483647 → stateIn x ≡ 0
+low-state : (x : ℕ) → x / 68719476736 < 134217727 → stateIn x ≡ 0
 unfolding stateIn
 low-state x h = omega arith
 
-key-parts : (x : ℕ) → x / 4294967296 < 2147483647 → key x ≡ x / 4294967296 * 65536 + vertexIn x
+key-parts : (x : ℕ) → x / 68719476736 < 134217727 → key x ≡ x / 68719476736 * 65536 + vertexIn x
 unfolding key vertexIn
 key-parts x h = omega arith
 
-high-key : (w : ℕ) → 9223372032559808512 ≤ w → 140737488289792 ≤ key w
+high-key : (w : ℕ) → 9223371968135299072 ≤ w → 8796092956672 ≤ key w
 unfolding key
 high-key w h = omega arith
 
-low-key : (x : ℕ) → x / 4294967296 < 2147483647 → key x ≡ distanceIn x * 65536 + vertexIn x
+low-key : (x : ℕ) → x / 68719476736 < 134217727 → key x ≡ distanceIn x * 65536 + vertexIn x
 low-key x h = rw (low-distance x h) (key-parts x h)
 
 module _ {t : Table} {b : List ℕ} (o : InOrder t b) (pos : 0 < t .capacity) where
   -- who waits has a slot with such a word
-  waiting : (u e : ℕ) → Waits (mapOf t b) u e → (i : ℕ) × At (t .capacity) (cols (t .slots) b .w) u i × (at (cols (t .slots) b .w) i / 4294967296 < 2147483647) × (distanceIn (at (cols (t .slots) b .w) i) ≡ e)
+  waiting : (u e : ℕ) → Waits (mapOf t b) u e → (i : ℕ) × At (t .capacity) (cols (t .slots) b .w) u i × (at (cols (t .slots) b .w) i / 68719476736 < 134217727) × (distanceIn (at (cols (t .slots) b .w) i) ≡ e)
   unfolding mapOf distanceOf
   waiting u e h =
       let used : lookup (t .capacity) (cols (t .slots) b .w) u ≢ vacant = λ z. absurd (omega (arith, ap distanceOf (entry-vacant z), h .at, h .some)) in
@@ -67,7 +67,7 @@ module _ {t : Table} {b : List ℕ} (o : InOrder t b) (pos : 0 < t .capacity) wh
     root : (i : ℕ) → i < t .capacity → key w ≤ key (at (cols (t .slots) b .w) i)
     root i l = rw (ew, es) (least (t .capacity) (cols (t .slots) b .w) (cols (t .slots) b .t) (o .layout pos .win) i l)
 
-    pub nearest-at : {v d : ℕ} → w < 9223372032559808512 → v ≡ vertexIn w → d ≡ distanceIn w → NearestIs t b (Nearest.At s v d)
+    pub nearest-at : {v d : ℕ} → w < 9223371968135299072 → v ≡ vertexIn w → d ≡ distanceIn w → NearestIs t b (Nearest.At s v d)
     unfolding NearestIs
     nearest-at {v} {d} h ev ed = (
       p,
@@ -77,13 +77,13 @@ module _ {t : Table} {b : List ℕ} (o : InOrder t b) (pos : 0 < t .capacity) wh
       },
     )
       where
-        low : w / 4294967296 < 2147483647
+        low : w / 68719476736 < 134217727
         low = omega arith
 
         p : Place t b v s
         p = record { slot = record { low = root-low; used = λ z. absurd (omega (arith, ew)); vertex = ap vertexIn (sym ew) ∙ sym ev } }
 
-        order : (i u e : ℕ) → At (t .capacity) (cols (t .slots) b .w) u i → at (cols (t .slots) b .w) i / 4294967296 < 2147483647 → distanceIn (at (cols (t .slots) b .w) i) ≡ e → Dec (d ≡ e) → (d < e) ⊎ ((d ≡ e) × (v ≤ u))
+        order : (i u e : ℕ) → At (t .capacity) (cols (t .slots) b .w) u i → at (cols (t .slots) b .w) i / 68719476736 < 134217727 → distanceIn (at (cols (t .slots) b .w) i) ≡ e → Dec (d ≡ e) → (d < e) ⊎ ((d ≡ e) × (v ≤ u))
         order i u e a l z c =
             let r = root i (a .low) in
             let kw = low-key w low in
@@ -96,7 +96,7 @@ module _ {t : Table} {b : List ℕ} (o : InOrder t b) (pos : 0 < t .capacity) wh
             go (yes q) r = inr (q, omega arith)
             go (no q) r = inl (omega (arith, vertex-low (at (cols (t .slots) b .w) i), a .vertex))
 
-    pub nearest-none : 9223372032559808512 ≤ w → NearestIs t b Nearest.Nothing
+    pub nearest-none : 9223371968135299072 ≤ w → NearestIs t b Nearest.Nothing
     unfolding NearestIs
     nearest-none h u e q =
         let k = waiting u e q in

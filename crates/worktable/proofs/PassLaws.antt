@@ -93,22 +93,22 @@ module _ {t : Table} {b : List ℕ} {u s v : ℕ} (x : ℕ) (o : InOrder t b) (p
     pub pass-open : touched x (mapOf t b u) ≡ known (min x (distanceIn v)) (stateIn v) (remainingIn v - 1)
     pass-open = ap (touched x) (place-entry o p ev) ∙ touched-open x (distanceIn v) (stateIn v) (remainingIn v) open-word
 
-    pub pass-open-same : Figure x → (v - 1) / 4294967296 ≤ x → touched x (mapOf t b u) ≡ known (distanceIn v) (stateIn v) (remainingIn v - 1)
+    pub pass-open-same : Figure x → (v - 1) / 68719476736 ≤ x → touched x (mapOf t b u) ≡ known (distanceIn v) (stateIn v) (remainingIn v - 1)
     pass-open-same ld l = pass-open ∙ known-is (no-lower v x open-word ld (omega (arith, l, less-half v fit some))) refl refl
 
-    pub pass-open-gives : {c : List ℕ} → Figure x → (v - 1) / 4294967296 ≤ x → cols (t .slots) c ≡ setW (cols (t .slots) b) s (v - 1) → length c ≡ length b → Gives t t b c (put (mapOf t b) u (touched x (mapOf t b u)))
+    pub pass-open-gives : {c : List ℕ} → Figure x → (v - 1) / 68719476736 ≤ x → cols (t .slots) c ≡ setW (cols (t .slots) b) s (v - 1) → length c ≡ length b → Gives t t b c (put (mapOf t b) u (touched x (mapOf t b u)))
     pass-open-gives ld l eq len = stored (less-entry v fit some ∙ sym (pass-open-same ld l)) eq len
 
-    pub pass-lower-same : Figure x → x < (v - 1) / 4294967296
-        → known (distanceIn (x * 4294967296 + (v - 1) % 4294967296)) (stateIn (x * 4294967296 + (v - 1) % 4294967296)) (remainingIn (x * 4294967296 + (v - 1) % 4294967296)) ≡ touched x (mapOf t b u)
+    pub pass-lower-same : Figure x → x < (v - 1) / 68719476736
+        → known (distanceIn (x * 68719476736 + (v - 1) % 68719476736)) (stateIn (x * 68719476736 + (v - 1) % 68719476736)) (remainingIn (x * 68719476736 + (v - 1) % 68719476736)) ≡ touched x (mapOf t b u)
     pass-lower-same ld l =
-        sym (entry-used (x * 4294967296 + (v - 1) % 4294967296) (lower-used (v - 1) x less-open ld l))
+        sym (entry-used (x * 68719476736 + (v - 1) % 68719476736) (lower-used (v - 1) x less-open ld l))
         ∙ lower-entry (v - 1) x less-open ld l ∙ known-is (ap (min x) (less-distance v fit some)) (less-state v fit some) (less-remaining v fit some) ∙ sym pass-open
 
-    pub pass-lower-key : Figure x → x < (v - 1) / 4294967296 → key (x * 4294967296 + (v - 1) % 4294967296) ≤ key (at (cols (t .slots) b .w) s)
+    pub pass-lower-key : Figure x → x < (v - 1) / 68719476736 → key (x * 68719476736 + (v - 1) % 68719476736) ≤ key (at (cols (t .slots) b .w) s)
     pass-lower-key ld l = rw (← ev) (omega (arith, lower-key (v - 1) x less-open ld l, less-key v fit some))
 
-    pub pass-lower-gives : {c : List ℕ} → Figure x → x < (v - 1) / 4294967296 → Changed (t .capacity) s (x * 4294967296 + (v - 1) % 4294967296) (cols (t .slots) b) (cols (t .slots) c) → length c ≡ length b
+    pub pass-lower-gives : {c : List ℕ} → Figure x → x < (v - 1) / 68719476736 → Changed (t .capacity) s (x * 68719476736 + (v - 1) % 68719476736) (cols (t .slots) b) (cols (t .slots) c) → length c ≡ length b
         → Gives t t b c (put (mapOf t b) u (touched x (mapOf t b u)))
     pass-lower-gives ld l ch len = gives-changed o p ev (lower-used (v - 1) x less-open ld l) (lower-vertex (v - 1) x less-open ld l ∙ less-vertex v fit some)
-        (entry-used (x * 4294967296 + (v - 1) % 4294967296) (lower-used (v - 1) x less-open ld l) ∙ pass-lower-same ld l) ch len
+        (entry-used (x * 68719476736 + (v - 1) % 68719476736) (lower-used (v - 1) x less-open ld l) ∙ pass-lower-same ld l) ch len

@@ -11,7 +11,7 @@ use Rattle.journeys.proofs.Tests.{same-test, le-or-lt}
 use Rattle.table_tree.specs.Words.{vacant, vertexIn, key}
 use Rattle.table_records.specs.Fields.{distanceIn, stateIn, remainingIn}
 use Rattle.journeys.specs.Counting.{none}
-use Rattle.worktable.specs.Map.{absent, known, Figure, spent}
+use Rattle.worktable.specs.Map.{absent, known, remainingLimit, Figure, spent}
 use Rattle.worktable.specs.Inside.{wordOf, entryIn}
 use Rattle.worktable.proofs.MapLaws.{choose-yes, choose-no, absent-known, spent-open, spent-settled}
 
@@ -56,7 +56,7 @@ unfolding key
 key-settled w h = omega arith
 
 -- a new word
-module _ (u d n : ℕ) (lu : u < 65536) (ld : Figure d) (ln : n < 65536) where
+module _ (u d n : ℕ) (lu : u < 65536) (ld : Figure d) (ln : n < remainingLimit) where
   pub new-used : wordOf u d n ≢ vacant
   unfolding wordOf
   new-used e = omega arith
@@ -99,7 +99,7 @@ module _ (w : ℕ) (fit : w < 18446744073709551616) (some : 0 < remainingIn w) w
   unfolding key remainingIn
   less-key = omega arith
 
-  pub less-half : (w - 1) / 4294967296 ≡ w / 4294967296
+  pub less-half : (w - 1) / 68719476736 ≡ w / 68719476736
   unfolding remainingIn
   less-half = omega arith
 
@@ -136,7 +136,7 @@ module _ (w : ℕ) (open-word : stateIn w ≡ 0) (some : distanceIn w < none) wh
   unfolding distanceIn stateIn remainingIn
   settled-entry = entry-used (w + 9223372036854775808) settled-used ∙ known-is d s n
     where
-      half : (w + 9223372036854775808) / 4294967296 % 2147483648 ≡ w / 4294967296 % 2147483648
+      half : (w + 9223372036854775808) / 68719476736 % 134217728 ≡ w / 68719476736 % 134217728
       half = omega arith
 
       d : distanceIn (w + 9223372036854775808) ≡ distanceIn w
@@ -148,87 +148,94 @@ module _ (w : ℕ) (open-word : stateIn w ≡ 0) (some : distanceIn w < none) wh
       n : remainingIn (w + 9223372036854775808) ≡ remainingIn w
       n = omega arith
 
-lesser-is : (d q : ℕ) → d < q → q < 2147483648 → d % 2147483648 + d % 2147483648 / 2147483647 * 2147483648 ≡ min d (q % 2147483648 + q % 2147483648 / 2147483647 * 2147483648)
+lesser-is : (d q : ℕ) → d < q → q < 134217728 → d % 134217728 + d % 134217728 / 134217727 * 4160749568 ≡ min d (q % 134217728 + q % 134217728 / 134217727 * 4160749568)
 lesser-is d q h l =
-    let a : d % 2147483648 ≡ d = omega arith in
-    let b : d / 2147483647 ≡ 0 = omega arith in
-    let e : q % 2147483648 ≡ q = omega arith in
-    rw (a, b, e) (plain d q (q / 2147483647 * 2147483648) h)
+    let a : d % 134217728 ≡ d = omega arith in
+    let b : d / 134217727 ≡ 0 = omega arith in
+    let e : q % 134217728 ≡ q = omega arith in
+    rw (a, b, e) (plain d q (q / 134217727 * 4160749568) h)
   where
-    plain : (d q z : ℕ) → d < q → d + 0 * 2147483648 ≡ min d (q + z)
+    plain : (d q z : ℕ) → d < q → d + 0 * 4160749568 ≡ min d (q + z)
     plain d q z h = omega arith
+
+-- no figure is above none
+most-none : (x : ℕ) → x < 134217728 → x + x / 134217727 * 4160749568 ≤ none
+most-none x h = omega arith
 
 -- a lower distance
 module _ (w d : ℕ) (open-word : stateIn w ≡ 0) (ld : Figure d) where
   -- the offer is not less than what is known
-  pub no-lower : w / 4294967296 ≤ d → min d (distanceIn w) ≡ distanceIn w
+  pub no-lower : w / 68719476736 ≤ d → min d (distanceIn w) ≡ distanceIn w
   unfolding distanceIn stateIn
   no-lower h = go ld
     where
-      go : Figure d → min d (w / 4294967296 % 2147483648 + w / 4294967296 % 2147483648 / 2147483647 * 2147483648) ≡ w / 4294967296 % 2147483648 + w / 4294967296 % 2147483648 / 2147483647 * 2147483648
-      go (inl l) = omega arith
-      go (inr l) = omega arith
+      go : Figure d → min d (w / 68719476736 % 134217728 + w / 68719476736 % 134217728 / 134217727 * 4160749568) ≡ w / 68719476736 % 134217728 + w / 68719476736 % 134217728 / 134217727 * 4160749568
+      go (inl l) =
+          let a : w / 68719476736 % 134217728 ≡ w / 68719476736 = omega arith in
+          let e : w / 68719476736 / 134217727 ≡ 0 = omega arith in
+          rw (a, e) (omega arith)
+      go (inr l) = omega (arith, most-none (w / 68719476736 % 134217728) (omega arith))
 
-  module _ (h : d < w / 4294967296) where
-    pub lower-fits : d * 4294967296 + w % 4294967296 < 9223372036854775808
+  module _ (h : d < w / 68719476736) where
+    pub lower-fits : d * 68719476736 + w % 68719476736 < 9223372036854775808
     unfolding stateIn
     lower-fits = omega arith
 
-    pub lower-used : d * 4294967296 + w % 4294967296 ≢ vacant
+    pub lower-used : d * 68719476736 + w % 68719476736 ≢ vacant
     unfolding stateIn
     lower-used e = omega arith
 
-    pub lower-vertex : vertexIn (d * 4294967296 + w % 4294967296) ≡ vertexIn w
+    pub lower-vertex : vertexIn (d * 68719476736 + w % 68719476736) ≡ vertexIn w
     unfolding vertexIn
     lower-vertex = omega arith
 
-    pub lower-key : key (d * 4294967296 + w % 4294967296) ≤ key w
+    pub lower-key : key (d * 68719476736 + w % 68719476736) ≤ key w
     unfolding key
     lower-key = omega arith
 
-    pub lower-entry : entryIn (d * 4294967296 + w % 4294967296) ≡ known (min d (distanceIn w)) (stateIn w) (remainingIn w)
+    pub lower-entry : entryIn (d * 68719476736 + w % 68719476736) ≡ known (min d (distanceIn w)) (stateIn w) (remainingIn w)
     unfolding distanceIn stateIn remainingIn
-    lower-entry = entry-used (d * 4294967296 + w % 4294967296) lower-used ∙ known-is e s n
+    lower-entry = entry-used (d * 68719476736 + w % 68719476736) lower-used ∙ known-is e s n
       where
-        half : (d * 4294967296 + w % 4294967296) / 4294967296 ≡ d
+        half : (d * 68719476736 + w % 68719476736) / 68719476736 ≡ d
         half = omega arith
 
-        e : distanceIn (d * 4294967296 + w % 4294967296) ≡ min d (distanceIn w)
-        e = rw half (lesser-is d (w / 4294967296) h (omega arith))
+        e : distanceIn (d * 68719476736 + w % 68719476736) ≡ min d (distanceIn w)
+        e = rw half (lesser-is d (w / 68719476736) h (omega arith))
 
-        s : stateIn (d * 4294967296 + w % 4294967296) ≡ stateIn w
+        s : stateIn (d * 68719476736 + w % 68719476736) ≡ stateIn w
         s = omega arith
 
-        n : remainingIn (d * 4294967296 + w % 4294967296) ≡ remainingIn w
+        n : remainingIn (d * 68719476736 + w % 68719476736) ≡ remainingIn w
         n = omega arith
 
 -- ---- a word tells whether its entry is spent
--- D compares with the 31 bits of a distance as with the distance: 2147483647 and none are both above it
-above-same : (w D : ℕ) → w < 9223372036854775808 → D < 2147483647 → ltb D (distanceIn w) ≡ ltb D (w / 4294967296)
+-- D compares with the 27 bits of a distance as with the distance: 134217727 and none are both above it
+above-same : (w D : ℕ) → w < 9223372036854775808 → D < 134217727 → ltb D (distanceIn w) ≡ ltb D (w / 68719476736)
 unfolding distanceIn
 above-same w D h l =
-    let q : w / 4294967296 % 2147483648 ≡ w / 4294967296 = omega arith in
-    let low : w / 4294967296 < 2147483648 = omega arith in
-    rw q (plain (w / 4294967296) low)
+    let q : w / 68719476736 % 134217728 ≡ w / 68719476736 = omega arith in
+    let low : w / 68719476736 < 134217728 = omega arith in
+    rw q (plain (w / 68719476736) low)
   where
-    plain : (x : ℕ) → x < 2147483648 → ltb D (x + x / 2147483647 * 2147483648) ≡ ltb D x
+    plain : (x : ℕ) → x < 134217728 → ltb D (x + x / 134217727 * 4160749568) ≡ ltb D x
     plain x k =
-        same-test (ltb D (x + x / 2147483647 * 2147483648)) (ltb D x)
-        (λ e. lt-ltb D x (omega (arith, ltb-true D (x + x / 2147483647 * 2147483648) e)))
-        (λ e. lt-ltb D (x + x / 2147483647 * 2147483648) (omega (arith, ltb-true D x e)))
+        same-test (ltb D (x + x / 134217727 * 4160749568)) (ltb D x)
+        (λ e. lt-ltb D x (omega (arith, ltb-true D (x + x / 134217727 * 4160749568) e)))
+        (λ e. lt-ltb D (x + x / 134217727 * 4160749568) (omega (arith, ltb-true D x e)))
 
-pub word-spent : (w D : ℕ) → D < 2147483647 → spent D (known (distanceIn w) (stateIn w) (remainingIn w)) ≡ (eqb (w % 65536) 0 && ltb D (w / 4294967296))
+pub word-spent : (w D : ℕ) → D < 134217727 → spent D (known (distanceIn w) (stateIn w) (remainingIn w)) ≡ (eqb (w % 1048576) 0 && ltb D (w / 68719476736))
 unfolding remainingIn
 word-spent w D l = ⊎-elim settled fresh (le-or-lt 9223372036854775808 w)
   where
-    settled : 9223372036854775808 ≤ w → spent D (known (distanceIn w) (stateIn w) (w % 65536)) ≡ (eqb (w % 65536) 0 && ltb D (w / 4294967296))
+    settled : 9223372036854775808 ≤ w → spent D (known (distanceIn w) (stateIn w) (w % 1048576)) ≡ (eqb (w % 1048576) 0 && ltb D (w / 68719476736))
     settled h =
-        let above : ltb D (w / 4294967296) ≡ true = lt-ltb D (w / 4294967296) (omega arith) in
-        spent-settled D (distanceIn w) (stateIn w) (w % 65536) (settled-high w h) ∙ rw above (plain (eqb (w % 65536) 0))
+        let above : ltb D (w / 68719476736) ≡ true = lt-ltb D (w / 68719476736) (omega arith) in
+        spent-settled D (distanceIn w) (stateIn w) (w % 1048576) (settled-high w h) ∙ rw above (plain (eqb (w % 1048576) 0))
       where
         plain : (b : Bool) → b ≡ (b && true)
         plain true = refl
         plain false = refl
 
-    fresh : w < 9223372036854775808 → spent D (known (distanceIn w) (stateIn w) (w % 65536)) ≡ (eqb (w % 65536) 0 && ltb D (w / 4294967296))
-    fresh h = spent-open D (distanceIn w) (stateIn w) (w % 65536) (open-low w h) ∙ ap (λ (b : Bool). eqb (w % 65536) 0 && b) (above-same w D h l)
+    fresh : w < 9223372036854775808 → spent D (known (distanceIn w) (stateIn w) (w % 1048576)) ≡ (eqb (w % 1048576) 0 && ltb D (w / 68719476736))
+    fresh h = spent-open D (distanceIn w) (stateIn w) (w % 1048576) (open-low w h) ∙ ap (λ (b : Bool). eqb (w % 1048576) 0 && b) (above-same w D h l)

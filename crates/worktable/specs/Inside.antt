@@ -15,9 +15,9 @@ use Rattle.worktable.specs.Map.{Entry, absent, known, choose, spent}
 use Rattle.worktable.specs.declared.Table.{Table}
 use Rattle.worktable.specs.declared.Passed.{Passed}
 
--- the word of an unsettled vertex: state 0, distance (2147483647 stands for none), vertex, remaining.
+-- the word of an unsettled vertex: state 0, distance (134217727 stands for none), vertex, remaining.
 unfoldable pub wordOf : ℕ → ℕ → ℕ → ℕ
-wordOf u d n = min d 2147483647 * 4294967296 + u * 65536 + n
+wordOf u d n = min d 134217727 * 68719476736 + u * 1048576 + n
 
 -- what a word tells of its vertex
 unfoldable pub entryIn : ℕ → Entry

@@ -28,9 +28,16 @@ unfoldable pub remainingOf : Entry → ℕ
 remainingOf absent = 0
 remainingOf (known d s n) = n
 
+-- what an entry can have: a distance below the first, and as many remaining records as are below the second
+abbrev pub distanceLimit : ℕ
+distanceLimit = 134217727
+
+abbrev pub remainingLimit : ℕ
+remainingLimit = 1048576
+
 -- a figure that fits an entry: a distance, or none
 abbrev pub Figure : ℕ → Type 0
-Figure d = (d < 2147483647) ⊎ (d ≡ none)
+Figure d = (d < distanceLimit) ⊎ (d ≡ none)
 
 unfoldable pub choose : {A : Type 0} → Dec A → Entry → Entry → Entry
 choose (yes p) x y = x

@@ -14,7 +14,7 @@ ghost use mathlib.Core.List.{flatMap};
 ghost use Rattle.journeys.specs.Bytes.{filled};
 ghost use Rattle.journeys.specs.Answers.{heldBytes};
 ghost use Rattle.journeys.specs.Counting.{none};
-ghost use Rattle.worktable.specs.Map.{absent, known, distanceOf, stateOf, remainingOf, Figure, empty, put, settled, touched, size, rows};
+ghost use Rattle.worktable.specs.Map.{absent, known, distanceOf, stateOf, remainingOf, distanceLimit, remainingLimit, Figure, empty, put, settled, touched, size, rows};
 ghost use Rattle.worktable.specs.Inside.{wordOf, toldOf};
 ghost use Rattle.worktable.specs.Table.{mapOf, InOrder, Holds, Place, Gives, FoundIs, PassedIs, NearestIs};
 use table_bytes::next;
@@ -136,7 +136,7 @@ pub fn least(b: &[u8], t: Table) -> Nearest
     }
     let s = tree(b, t.slots, 1);
     let w = word(b, t.slots, s);
-    if w < 0x7FFF_FFFF_0000_0000 {
+    if w < 0x7FFF_FFF0_0000_0000 {
         return Nearest::At(s, vertex_in(w), distance_in(w));
     }
     Nearest::Nothing
@@ -144,11 +144,11 @@ pub fn least(b: &[u8], t: Table) -> Nearest
 
 // The fields side by side.
 fn word_of(u: usize, d: u32, n: u32) -> u64
-    requires { ⌜ (u < 65536) × (n < 65536) ⌝ }
+    requires { ⌜ (u < 65536) × (n < remainingLimit) ⌝ }
     ensures { λ w. ⌜ w ≡ wordOf u d n ⌝ }
 {
-    let k = lesser(d as usize, 2147483647);
-    (k as u64) * 4294967296 + (u as u64) * 65536 + (n as u64)
+    let k = lesser(d as usize, 134217727);
+    (k as u64) * 68719476736 + (u as u64) * 1048576 + (n as u64)
 }
 
 // A table without a vacant slot gets n slots in all. Entries keep their slots and chains, and the tree is played anew.
@@ -182,7 +182,7 @@ fn opened(b: &mut [u8], t: Table) -> Table
 
 // A new vertex, unsettled, takes the vacant slot at the top.
 fn enter(b: &mut [u8], t: Table, u: usize, d: u32, n: u32) -> Table
-    requires { ⌜ InOrder t (now b) × (u < 65536) × Figure d × (n < 65536) × (mapOf t (now b) u ≡ absent) × (size (mapOf t (now b)) < t .capacity) ⌝ }
+    requires { ⌜ InOrder t (now b) × (u < 65536) × Figure d × (n < remainingLimit) × (mapOf t (now b) u ≡ absent) × (size (mapOf t (now b)) < t .capacity) ⌝ }
     ensures { λ r. ⌜ Gives t r (now (b .entry)) (now (b .exit)) (put (mapOf t (now (b .entry))) u (known d 0 n)) ⌝ }
 {
     let w = word_of(u, d, n);
@@ -203,7 +203,7 @@ fn enter(b: &mut [u8], t: Table, u: usize, d: u32, n: u32) -> Table
 
 // A new vertex, unsettled.
 pub fn insert(b: &mut [u8], t: Table, u: usize, d: u32, n: u32) -> Table
-    requires { ⌜ InOrder t (now b) × (u < 65536) × Figure d × (n < 65536) × (mapOf t (now b) u ≡ absent) × (size (mapOf t (now b)) < t .room) ⌝ }
+    requires { ⌜ InOrder t (now b) × (u < 65536) × Figure d × (n < remainingLimit) × (mapOf t (now b) u ≡ absent) × (size (mapOf t (now b)) < t .room) ⌝ }
     ensures { λ r. ⌜ Gives t r (now (b .entry)) (now (b .exit)) (put (mapOf t (now (b .entry))) u (known d 0 n)) ⌝ }
 {
     let ready = opened(b, t);
@@ -212,10 +212,10 @@ pub fn insert(b: &mut [u8], t: Table, u: usize, d: u32, n: u32) -> Table
 
 // What the word w of slot s tells. One comparison serves both: a settled word is above every distance.
 fn told(w: u64, s: usize, allowed: u32) -> Passed
-    requires { ⌜ allowed < 2147483647 ⌝ }
+    requires { ⌜ allowed < distanceLimit ⌝ }
     ensures { λ r. ⌜ r ≡ toldOf allowed s (known (distanceIn w) (stateIn w) (remainingIn w)) ⌝ }
 {
-    if (w % 65536 == 0) & ((allowed as u64) < w / 4294967296) {
+    if (w % 1048576 == 0) & ((allowed as u64) < w / 68719476736) {
         return Passed::Spent(s);
     }
     Passed::Kept
@@ -224,7 +224,7 @@ fn told(w: u64, s: usize, allowed: u32) -> Passed
 // A record with an offer is passed, in one look at the word of the vertex u that it leaves: one less remains, and an unsettled vertex takes the lesser distance.
 // The tree compares the distance and not what remains.
 pub fn pass(b: &mut [u8], t: Table, u: usize, offer: u32, allowed: u32) -> Passed
-    requires { ⌜ InOrder t (now b) × Figure offer × (mapOf t (now b) u ≢ absent → 0 < remainingOf (mapOf t (now b) u)) × (allowed < 2147483647) ⌝ }
+    requires { ⌜ InOrder t (now b) × Figure offer × (mapOf t (now b) u ≢ absent → 0 < remainingOf (mapOf t (now b) u)) × (allowed < distanceLimit) ⌝ }
     ensures { λ r. ⌜ Gives t t (now (b .entry)) (now (b .exit)) (put (mapOf t (now (b .entry))) u (touched offer (mapOf t (now (b .entry)) u))) ⌝ }
     ensures { λ r. ⌜ PassedIs allowed t (now (b .exit)) u (touched offer (mapOf t (now (b .entry)) u)) r ⌝ }
 {
@@ -234,8 +234,8 @@ pub fn pass(b: &mut [u8], t: Table, u: usize, offer: u32, allowed: u32) -> Passe
     let w = word(b, t.slots, s) - 1;
     if w < SETTLED {
         let x = offer as u64;
-        if x < w / 4294967296 {
-            let lower = x * 4294967296 + w % 4294967296;
+        if x < w / 68719476736 {
+            let lower = x * 68719476736 + w % 68719476736;
             lower_word(b, t.slots, t.capacity, s, lower);
             return told(lower, s, allowed);
         }
@@ -248,7 +248,7 @@ pub fn pass(b: &mut [u8], t: Table, u: usize, offer: u32, allowed: u32) -> Passe
 
 // What the vertex u has, in one look at its word.
 pub fn look(b: &[u8], t: Table, u: usize, allowed: u32) -> Passed
-    requires { ⌜ InOrder t (now b) × (allowed < 2147483647) ⌝ }
+    requires { ⌜ InOrder t (now b) × (allowed < distanceLimit) ⌝ }
     ensures { λ r. ⌜ PassedIs allowed t (now (b .entry)) u (mapOf t (now (b .entry)) u) r ⌝ }
 {
     let Found::At(s) = find(b, t, u) else {
@@ -265,7 +265,7 @@ pub fn settle_at(b: &mut [u8], t: Table, u: usize, s: usize) -> bool
 {
     let w = word(b, t.slots, s);
     change_word(b, t.slots, t.capacity, s, w + SETTLED);
-    w % 65536 == 0
+    w % 1048576 == 0
 }
 
 // Slot s gets the vacant word. Where it was settled the tree stands as it is: both come last.

@@ -12,7 +12,7 @@ returns c = seeded-none _ _ _ _ _ _ _ (omega (arith, c .if1 .taken, c .before .r
 insert-requires : tie.Need-insert-requires
 insert-requires c κs =
     let a = c .before .before .before .before .before .before .before .before in
-    first-seed _ _ _ _ _ _ (c .before .before .before .before .start .ensures .0) (c .before .before .before .before .start .ensures .1) (omega (arith, c .before .before .if1 .left, c .before .before .before .room .ensures, c .before .before .before .before .start .ensures .1)) (omega (arith, a .pre)) (omega (arith, a .pre)) (c .departing-at .ensures .1)
+    first-seed _ _ _ _ _ _ (c .before .before .before .before .start .ensures .0) (c .before .before .before .before .start .ensures .1) (omega (arith, c .before .before .if1 .left, c .before .before .before .room .ensures, c .before .before .before .before .start .ensures .1)) (omega (arith, a .pre)) (omega (arith, a .pre)) (omega (arith, c .departing-at .ensures .1))
 
 returns-2 : tie.Need-returns-2
 returns-2 c =
@@ -27,7 +27,7 @@ insert-requires-2 : tie.Need-insert-requires-2
 insert-requires-2 c κs =
     let a = c .before .before .before .before .before .before .before .before .before .before .before .before .before .before .before .before in
     let h = after-first _ _ _ _ _ _ _ _ (c .before .before .before .before .before .before .before .before .departing-at .ensures .0) (c .before .before .before .before .before .before .before .before .before .before .before .before .start .ensures .0) (c .before .before .before .before .before .before .before .insert .ensures) in
-    second-seed _ _ _ _ _ _ _ _ _ h (omega (arith, a .pre)) (a .pre .1 .2) (omega (arith, c .before .before .if3 .left, c .before .before .before .room2 .ensures)) (omega (arith, a .pre)) (omega (arith, a .pre)) (c .departing-at2 .ensures .1)
+    second-seed _ _ _ _ _ _ _ _ _ h (omega (arith, a .pre)) (a .pre .1 .2) (omega (arith, c .before .before .if3 .left, c .before .before .before .room2 .ensures)) (omega (arith, a .pre)) (omega (arith, a .pre)) (omega (arith, c .departing-at2 .ensures .1))
 
 returns-4 : tie.Need-returns-4
 returns-4 c =

@@ -9,6 +9,7 @@ use native.Mathlib.Omega.{arith}
 use Prim.Native.Nat.{ℕ, _+_, _-_, _*_, _≤_, _<_}
 use native.Mathlib.Nat.{mul-le-mul}
 use mathlib.Core.Logic.{inl}
+use Rattle.worktable.specs.Map.{distanceLimit}
 use borrow.Author.Needs.{needs}
 use Rattle.passing.proofs.offer_at.Statement.{statement}
 use Rattle.passing.proofs.offer_at.Tie as tie
@@ -27,7 +28,7 @@ unfolding offer recordOf walkAt
 returns c =
     let s = c .before .before .before .before .before .before .before .before .before in
     let read = c .before .before .before in
-    let d : s .args .arriving .distance .0 + c .before .before .walk-ticks .result .0 < 2147483647 = omega (arith, s .pre .0 .distance, c .before .before .walk-ticks .ensures, way-fits (read .word-at .result) (s .args .arriving .speed) (omega arith) (s .pre .0 .speed)) in
+    let d : s .args .arriving .distance .0 + c .before .before .walk-ticks .result .0 < distanceLimit = omega (arith, s .pre .0 .distance, c .before .before .walk-ticks .ensures, way-fits (read .word-at .result) (s .args .arriving .speed) (omega arith) (s .pre .0 .speed)) in
     (rw (lt-ltb (s .args .j) (s .args .arriving .walks) (read .before .if1 .taken), c .before .before .walk-ticks .ensures, read .word-at .ensures), inl d)
 
 hop-offer-requires : tie.Need-hop-offer-requires

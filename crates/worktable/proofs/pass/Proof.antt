@@ -53,7 +53,7 @@ returns-2 c =
     let lower = c .before .before .before .before .before .if2 .taken in
     let g = pass-lower-gives x o p (v .ensures) fit due h (start .pre .1) lower (c .before .before .before .lower-word .ensures) (c .before .before .before .lower-word .kept .0) in
     let e = pass-lower-same x o p (v .ensures) fit due h (start .pre .1) lower in
-    (g, told-is (start .args .allowed) (x * 4294967296 + (v .result - 1) % 4294967296) (gives-place (touched x (mapOf (start .args .t) (start .args .b .now) (start .args .u))) g (λ z. absent-known (sym z ∙ sym e)) p) e (c .told .ensures))
+    (g, told-is (start .args .allowed) (x * 68719476736 + (v .result - 1) % 68719476736) (gives-place (touched x (mapOf (start .args .t) (start .args .b .now) (start .args .u))) g (λ z. absent-known (sym z ∙ sym e)) p) e (c .told .ensures))
 
 set-word-requires : tie.Need-set-word-requires
 set-word-requires c κs =
