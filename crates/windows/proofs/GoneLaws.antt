@@ -5,11 +5,14 @@ use mathlib.Core.List.{List, [], _∷_, _++_, append-assoc, append-nil}
 use Prim.Native.Nat.{ℕ, zero, suc, _+_, _-_, _*_, _/_, _%_, _<_, _≤_, _^_}
 use native.Mathlib.Omega.{arith}
 use native.Mathlib.Numerals.{add-one}
-use lib.ListN.{length, take, set, length-append}
-use lib.Seq.{take-suc-set, length-take-le}
-use Rattle.table_bytes.specs.Columns.{at}
-use Rattle.sorting.specs.Sorted.{sorted, Ascending}
+use lib.ListN.{length, getD, take, drop, set, length-append, length-drop}
+use lib.Seq.{take-suc-set, take-at, length-take-le, getD-append-add}
+use borrow.Rule.Slice.PartMut.{midOf, putMid, postOf, take-put}
+use Rattle.table_bytes.specs.Columns.{at, dec, col}
+use Rattle.table_bytes.proofs.Access.{dec-ext}
+use Rattle.sorting.specs.Sorted.{recs, sorted, Ascending}
 use Rattle.sorting.proofs.Digits.{fields}
+use Rattle.departures.proofs.SliceLaws.{recs-front, recs-take}
 use Rattle.carry.specs.declared.Item.{Item}
 use Rattle.carry.specs.declared.Carry.{Carry}
 use Rattle.carry.specs.Carried.{itemOf, start, allFollowed, allHops}
@@ -35,7 +38,7 @@ append-one k i W Y Y′ B x e h l q u =
     ∙ ap (λ (r : List ℕ). take k W ++ r) (sym (ap (λ (m : ℕ). take m B) (add-one i) ∙ take-more B i l))
 
 -- ---- hops that are held
-pub held-still : {room k : ℕ} {W : List ℕ} (H G : List ℕ) → room < k → Held room k W H → Held room k W (H ++ G)
+pub held-still : {room k : ℕ} {W Y : List ℕ} (H G : List ℕ) → room < k → Held room k W H → Held room k Y (H ++ G)
 held-still H G h (all a e) = absurd (omega (arith, a, h))
 held-still H G h (more a e) = more a (omega (arith, e, length-append H G))
 
@@ -47,12 +50,61 @@ pub held-more : {room k : ℕ} (m : ℕ) {W Y : List ℕ} (H G : List ℕ) → k
 held-more m H G h u (all a e) = all h (u ∙ ap (λ (r : List ℕ). r ++ G) e)
 held-more m H G h u (more a e) = absurd (omega (arith, a, h))
 
+-- ---- records behind others in one slice
+numbers-apart : (k m : ℕ) (b : List ℕ) (o : ℕ) → col 20 (k + m) b o ≡ col 20 k b o ++ col 20 m b (o + k * 20)
+unfolding col
+numbers-apart zero m b o =
+    let x : 0 + m ≡ m = omega arith in
+    let y : o ≡ o + 0 * 20 = omega arith in
+    ap₂ (λ (n p : ℕ). col 20 n b p) x y
+numbers-apart (suc k) m b o =
+    let x : suc k + m ≡ suc (k + m) = omega arith in
+    let y : o + 20 + k * 20 ≡ o + suc k * 20 = omega arith in
+    ap (λ (n : ℕ). col 20 n b o) x ∙ ap (λ (r : List ℕ). dec 20 b o ∷ r) (numbers-apart k m b (o + 20) ∙ ap (λ (p : ℕ). col 20 k b (o + 20) ++ col 20 m b p) y)
+
+numbers-behind : (w m : ℕ) (X z : List ℕ) (p : ℕ) → col w m (X ++ z) (length X + p) ≡ col w m z p
+unfolding col
+numbers-behind w zero X z p = refl
+numbers-behind w (suc m) X z p =
+    ap₂ (λ (x : ℕ) (r : List ℕ). x ∷ r)
+    (dec-ext w (X ++ z) z (length X + p) p (λ j h. ap (λ (i : ℕ). getD (X ++ z) i 0) (add-assoc (length X) p j) ∙ getD-append-add X z (p + j) 0))
+    (ap (col w m (X ++ z)) (add-assoc (length X) p w) ∙ numbers-behind w m X z (p + w))
+  where
+    add-assoc : (x y z : ℕ) → x + y + z ≡ x + (y + z)
+    add-assoc x y z = omega arith
+
+pub records-behind : (b z : List ℕ) (room k n m : ℕ) → length b ≡ 20 * room → k + n ≡ room → length z ≡ 20 * n → m ≤ n → (l : ℕ)
+    → take (k + m) (recs room (putMid (20 * k) l b z)) ≡ take k (recs room b) ++ take m (recs n z)
+records-behind b z room k n m long sum e h l =
+    let Y = putMid (20 * k) l b z in
+    let few : k ≤ room = omega (arith, sum) in
+    let front : 20 * k ≤ length b = omega (arith, few, long) in
+    let X = take (20 * k) b in
+    let rest = z ++ postOf (20 * k) l b in
+    let size : length X ≡ 20 * k = length-take-le (20 * k) b front in
+    let place : 0 + k * 20 ≡ length X + 0 = omega (arith, size) in
+    sym (recs-take (k + m) room Y (omega (arith, sum, h)))
+    ∙ numbers-apart k m Y 0
+    ∙ ap₂ (λ (x y : List ℕ). x ++ y)
+    (sym (recs-front k k Y (omega arith)) ∙ ap (recs k) (take-put (20 * k) l b z front) ∙ recs-front k k b (omega arith) ∙ recs-take k room b few)
+    (ap (col 20 m Y) place ∙ numbers-behind 20 m X rest 0 ∙ sym (recs-front m n rest h) ∙ ap (recs m) (take-at z (postOf (20 * k) l b) (20 * n) e) ∙ recs-take m n z h)
+
+pub free-long : (b : List ℕ) (room k : ℕ) → length b ≡ 20 * room → k ≤ room → length (midOf (20 * k) (length b - 20 * k) b) ≡ 20 * (room - k)
+free-long b room k e h =
+    let d = length-drop (20 * k) b in
+    let few : length b - 20 * k ≤ length (drop (20 * k) b) = omega (arith, d) in
+    let t = length-take-le (length b - 20 * k) (drop (20 * k) b) few in
+    t ∙ omega (arith, e, h)
+
 -- ---- bounds
 least : (x : ℕ) → 0 ≤ x
 least x = omega arith
 
 between : {a x b : ℕ} → a ≤ x → x < b → a < b
 between p q = omega (arith, p, q)
+
+pub at-most : {a b : ℕ} → a < b → a ≤ b
+at-most p = omega (arith, p)
 
 under : {x y z : ℕ} → x < 2 ^ 64 → y < z → x + 2 ^ 64 * y < 0 + 2 ^ 64 * z
 under p q = omega (arith, p, q)
@@ -67,15 +119,17 @@ gone-start S room W =
     let e : kept 0 0 S ≡ [] = kept-none 0 0 S (λ i h. omega arith) in
     record { carried = sym (ap (allFollowed start) e); hops = all (omega arith) (sym (ap (allHops start) e)) }
 
-module _ (S : List ℕ) (asc : Ascending S) {room : ℕ} {W Y : List ℕ} {run : Run} {end : Bound} {P : List ℕ} (p : P ≡ kept (bound (run .lo)) (bound end) S) (o : bound (run .lo) ≤ bound end) {next : Carry} (c : next ≡ allFollowed (run .carry) P) {k : ℕ}
-    (f : (H : List ℕ) → Held room (run .hops) W H → Held room k Y (H ++ allHops (run .carry) P)) where
-  pub gone-next : Gone S room W run → Gone S room Y (record { lo = end; carry = next; hops = k })
-  gone-next g =
+module _ (S : List ℕ) (asc : Ascending S) (run next : Run) (o : bound (run .lo) < bound (next .lo)) where
+  abbrev P : List ℕ
+  P = kept (bound (run .lo)) (bound (next .lo)) S
+
+  pub gone-next : {room : ℕ} {W Y : List ℕ} → next .carry ≡ allFollowed (run .carry) P → ((H : List ℕ) → Held room (run .hops) W H → Held room (next .hops) Y (H ++ allHops (run .carry) P)) → Gone S room W run → Gone S room Y next
+  gone-next {room} {W} {Y} c f g =
       let a = bound (run .lo) in
-      let e : kept 0 (bound end) S ≡ kept 0 a S ++ P = sym (ap (λ (r : List ℕ). kept 0 a S ++ r) p ∙ kept-on 0 a (bound end) S asc (least a) o) in
+      let e : kept 0 (bound (next .lo)) S ≡ kept 0 a S ++ P = sym (kept-on 0 a (bound (next .lo)) S asc (least a) (at-most o)) in
       record {
         carried = c ∙ ap (λ (d : Carry). allFollowed d P) (g .carried) ∙ sym (ap (allFollowed start) e ∙ followed-append start (kept 0 a S) P);
-        hops = subst (Held room k Y) (ap (λ (d : Carry). allHops start (kept 0 a S) ++ allHops d P) (g .carried) ∙ sym (ap (allHops start) e ∙ hops-append start (kept 0 a S) P)) (f (allHops start (kept 0 a S)) (g .hops));
+        hops = subst (Held room (next .hops) Y) (ap (λ (d : Carry). allHops start (kept 0 a S) ++ allHops d P) (g .carried) ∙ sym (ap (allHops start) e ∙ hops-append start (kept 0 a S) P)) (f (allHops start (kept 0 a S)) (g .hops));
       }
 
 -- the bound rises: a window holds a record, or it is the last one
@@ -88,9 +142,6 @@ bound-rises lo end count S P h p q (inr e) =
 
 pub less-far : {a b t : ℕ} → a < t → a < b → t - b < t - a
 less-far p q = omega (arith, p, q)
-
-pub at-most : {a b : ℕ} → a < b → a ≤ b
-at-most p = omega (arith, p)
 
 over : (x : ℕ) {y z : ℕ} → z ≤ y → 0 + 2 ^ 64 * z ≤ x + 2 ^ 64 * y
 over x p = omega (arith, p)

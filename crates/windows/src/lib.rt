@@ -12,8 +12,8 @@ ghost use Rattle.departures.specs.Answered.{told};
 ghost use Rattle.recorded.specs.Asked.{Read, Short, stopsRead};
 ghost use Rattle.sorting.specs.Sorted.{recs, sorted};
 ghost use Rattle.hopbytes.specs.Listing.{OnTrips};
-ghost use Rattle.carry.specs.Carried.{lateEnd};
-ghost use Rattle.sieve.specs.Kept.{bound, top};
+ghost use Rattle.carry.specs.Carried.{allFollowed, allHops, lateEnd};
+ghost use Rattle.sieve.specs.Kept.{bound, top, kept};
 ghost use Rattle.windows.specs.Lent.{lent};
 ghost use Rattle.windows.specs.Gone.{linesRecords, Ready, Held, Gone, Ended};
 use carry::Carry;
@@ -99,7 +99,211 @@ fn gain(target: &mut [u8], room: usize, k: usize, b: &[u8], n: usize, m: usize) 
     k + m
 }
 
-// One window more.
+// The window from a bound on, in a memory: judged, and its hops in front.
+fn piece(
+    b: &mut [u8],
+    n: usize,
+    lo: Bound,
+    held: Carry,
+    text: &[u8],
+    from: usize,
+    c: Columns,
+    bs: &[u8],
+    ns: usize,
+    ms: usize,
+    stops: &[u8],
+    bt: &[u8],
+    nt: usize,
+    mt: usize,
+    trips: &[u8],
+) -> Run
+    requires { ⌜ (length (now b) ≡ 20 * n) × (2 ≤ n) × (bound lo < bound top) × Ready c (now stops) (now trips) (now text) from ⌝ }
+    requires { ⌜ Nodes ns (now bs) × Listed (now stops) ns ms (now bs) × Nodes nt (now bt) × Listed (now trips) nt mt (now bt) ⌝ }
+    ensures { λ r. ⌜ (bound lo < bound (r .lo))
+        × (r .carry ≡ allFollowed held (kept (bound lo) (bound (r .lo)) (sorted (linesRecords c (now (stops .entry)) (now (trips .entry)) (now (text .entry)) from))))
+        × (r .hops ≤ n)
+        × (take (r .hops) (recs n (now (b .exit))) ≡ allHops held (kept (bound lo) (bound (r .lo)) (sorted (linesRecords c (now (stops .entry)) (now (trips .entry)) (now (text .entry)) from)))) ⌝ }
+{
+    let w = sieve::sift(
+        b,
+        n,
+        lo,
+        text,
+        from,
+        c,
+        bs,
+        ns,
+        ms,
+        stops,
+        bt,
+        nt,
+        mt,
+        trips,
+    );
+    let end = w.end;
+    let count = w.count;
+    let p = carry::pass(b, n, count, held);
+    let carried = p.carry;
+    Run {
+        lo: end,
+        carry: carried,
+        hops: p.hops,
+    }
+}
+
+// One window more, in the memory beside the target.
+fn beside(
+    target: &mut [u8],
+    room: usize,
+    spare: &mut [u8],
+    n: usize,
+    run: Run,
+    text: &[u8],
+    from: usize,
+    c: Columns,
+    bs: &[u8],
+    ns: usize,
+    ms: usize,
+    stops: &[u8],
+    bt: &[u8],
+    nt: usize,
+    mt: usize,
+    trips: &[u8],
+) -> Run
+    requires { ⌜ (length (now target) ≡ 20 * room) × (length (now spare) ≡ 20 * n) × (2 ≤ n) × (bound (run .lo) < bound top) × Ready c (now stops) (now trips) (now text) from ⌝ }
+    requires { ⌜ Nodes ns (now bs) × Listed (now stops) ns ms (now bs) × Nodes nt (now bt) × Listed (now trips) nt mt (now bt) ⌝ }
+    ensures { λ r. ⌜ (bound (run .lo) < bound (r .lo))
+        × (Gone (sorted (linesRecords c (now (stops .entry)) (now (trips .entry)) (now (text .entry)) from)) room (recs room (now (target .entry))) run
+        → Gone (sorted (linesRecords c (now (stops .entry)) (now (trips .entry)) (now (text .entry)) from)) room (recs room (now (target .exit))) r) ⌝ }
+{
+    let p = piece(
+        spare,
+        n,
+        run.lo,
+        run.carry,
+        text,
+        from,
+        c,
+        bs,
+        ns,
+        ms,
+        stops,
+        bt,
+        nt,
+        mt,
+        trips,
+    );
+    let lo = p.lo;
+    let carried = p.carry;
+    let k = gain(target, room, run.hops, spare, n, p.hops);
+    Run {
+        lo,
+        carry: carried,
+        hops: k,
+    }
+}
+
+// One window more, in what the target has free behind the hops so far: its hops then stand where they belong.
+fn behind(
+    target: &mut [u8],
+    room: usize,
+    run: Run,
+    text: &[u8],
+    from: usize,
+    c: Columns,
+    bs: &[u8],
+    ns: usize,
+    ms: usize,
+    stops: &[u8],
+    bt: &[u8],
+    nt: usize,
+    mt: usize,
+    trips: &[u8],
+) -> Run
+    requires { ⌜ (length (now target) ≡ 20 * room) × (run .hops + 2 ≤ room) × (bound (run .lo) < bound top) × Ready c (now stops) (now trips) (now text) from ⌝ }
+    requires { ⌜ Nodes ns (now bs) × Listed (now stops) ns ms (now bs) × Nodes nt (now bt) × Listed (now trips) nt mt (now bt) ⌝ }
+    ensures { λ r. ⌜ (bound (run .lo) < bound (r .lo))
+        × (Gone (sorted (linesRecords c (now (stops .entry)) (now (trips .entry)) (now (text .entry)) from)) room (recs room (now (target .entry))) run
+        → Gone (sorted (linesRecords c (now (stops .entry)) (now (trips .entry)) (now (text .entry)) from)) room (recs room (now (target .exit))) r) ⌝ }
+{
+    let k = run.hops;
+    let at = 20 * k;
+    let p = piece(
+        &mut target[at..],
+        room - k,
+        run.lo,
+        run.carry,
+        text,
+        from,
+        c,
+        bs,
+        ns,
+        ms,
+        stops,
+        bt,
+        nt,
+        mt,
+        trips,
+    );
+    let lo = p.lo;
+    let carried = p.carry;
+    Run {
+        lo,
+        carry: carried,
+        hops: k + p.hops,
+    }
+}
+
+// One window more, where the hops have no room: it is only judged, in the whole target.
+fn instead(
+    target: &mut [u8],
+    room: usize,
+    run: Run,
+    text: &[u8],
+    from: usize,
+    c: Columns,
+    bs: &[u8],
+    ns: usize,
+    ms: usize,
+    stops: &[u8],
+    bt: &[u8],
+    nt: usize,
+    mt: usize,
+    trips: &[u8],
+) -> Run
+    requires { ⌜ (length (now target) ≡ 20 * room) × (2 ≤ room) × (room < run .hops) × (bound (run .lo) < bound top) × Ready c (now stops) (now trips) (now text) from ⌝ }
+    requires { ⌜ Nodes ns (now bs) × Listed (now stops) ns ms (now bs) × Nodes nt (now bt) × Listed (now trips) nt mt (now bt) ⌝ }
+    ensures { λ r. ⌜ (bound (run .lo) < bound (r .lo))
+        × (Gone (sorted (linesRecords c (now (stops .entry)) (now (trips .entry)) (now (text .entry)) from)) room (recs room (now (target .entry))) run
+        → Gone (sorted (linesRecords c (now (stops .entry)) (now (trips .entry)) (now (text .entry)) from)) room (recs room (now (target .exit))) r) ⌝ }
+{
+    let p = piece(
+        target,
+        room,
+        run.lo,
+        run.carry,
+        text,
+        from,
+        c,
+        bs,
+        ns,
+        ms,
+        stops,
+        bt,
+        nt,
+        mt,
+        trips,
+    );
+    let lo = p.lo;
+    let carried = p.carry;
+    Run {
+        lo,
+        carry: carried,
+        hops: run.hops,
+    }
+}
+
+// One window more, in the larger memory.
 fn window(
     target: &mut [u8],
     room: usize,
@@ -124,10 +328,69 @@ fn window(
         × (Gone (sorted (linesRecords c (now (stops .entry)) (now (trips .entry)) (now (text .entry)) from)) room (recs room (now (target .entry))) run
         → Gone (sorted (linesRecords c (now (stops .entry)) (now (trips .entry)) (now (text .entry)) from)) room (recs room (now (target .exit))) r) ⌝ }
 {
-    let w = sieve::sift(
-        spare,
-        n,
-        run.lo,
+    let k = run.hops;
+    if room < n {
+        return beside(
+            target,
+            room,
+            spare,
+            n,
+            run,
+            text,
+            from,
+            c,
+            bs,
+            ns,
+            ms,
+            stops,
+            bt,
+            nt,
+            mt,
+            trips,
+        );
+    }
+    if room < k {
+        return instead(
+            target,
+            room,
+            run,
+            text,
+            from,
+            c,
+            bs,
+            ns,
+            ms,
+            stops,
+            bt,
+            nt,
+            mt,
+            trips,
+        );
+    }
+    if room - k < n {
+        return beside(
+            target,
+            room,
+            spare,
+            n,
+            run,
+            text,
+            from,
+            c,
+            bs,
+            ns,
+            ms,
+            stops,
+            bt,
+            nt,
+            mt,
+            trips,
+        );
+    }
+    behind(
+        target,
+        room,
+        run,
         text,
         from,
         c,
@@ -139,18 +402,7 @@ fn window(
         nt,
         mt,
         trips,
-    );
-    let end = w.end;
-    let count = w.count;
-    let piece = carry::pass(spare, n, count, run.carry);
-    let kept = piece.carry;
-    let hops = piece.hops;
-    let k = gain(target, room, run.hops, spare, n, hops);
-    Run {
-        lo: end,
-        carry: kept,
-        hops: k,
-    }
+    )
 }
 
 // Window by window, until no stop is left.
@@ -240,7 +492,7 @@ fn conclude(target: &mut [u8], room: usize, k: usize, c: Carry, trips: &[u8]) ->
     }
 }
 
-// For any number of lines: window by window, in the memory that is lent beside the target.
+// For any number of lines: window by window, in the free part of the target or in the memory that is lent beside it.
 pub fn all_hops(
     target: &mut [u8],
     spare: &mut [u8],
