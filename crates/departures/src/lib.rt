@@ -33,7 +33,7 @@ fn in_order(b: &mut [u8], k: usize, trips: &[u8])
 }
 
 // The records of k hops stand in front. Behind the hops the slice becomes zero.
-fn finish(b: &mut [u8], k: usize, trips: &[u8])
+pub fn finish(b: &mut [u8], k: usize, trips: &[u8])
     requires { ⌜ (20 * k ≤ length (now b)) × OnTrips (now trips) (recs k (now b)) ⌝ }
     ensures { λ _. ⌜ now (b .exit) ≡ filled (now (b .entry)) (joined (λ i. hopOut (tripAt (now (trips .entry))) (at (sorted (recs k (now (b .entry)))) i)) k) ⌝ }
 {

@@ -48,6 +48,7 @@ pub record Facts (trips : List ℕ) (s e : Stop) : Type 0 where
   pub departure : e .departure < 2 ^ 18
   pub nameless : e .tripNumber ≡ 0
   pub listed : Good trips (e .trip)
+  pub placed : e .trip ≤ length trips
   pub number : s .tripNumber ≡ tripAt trips (e .trip)
 
 number-small : (f : List ℕ) → number none f ≡ true → valueOf f < 2 ^ 32
@@ -72,6 +73,7 @@ module _ (C : Columns) (H : Row) (stops trips : List ℕ) (n : Named C H) (o : I
           within = omega (arith, t .0);
           good = ap (listLine none) (same-line trips (foundFrom trips 0 (bytesIn l (fieldSpan l (C .trip))) - 1) (omega (arith, t .0))) ∙ t .1;
         };
+        placed = omega (arith, t .0);
         number = ap (λ (k : ℕ). numberIn k) (sym (n .trip)) ∙ sym (t .2) ∙ sym (same-number trips (foundFrom trips 0 (bytesIn l (fieldSpan l (C .trip))) - 1) (omega (arith, t .0)));
       }
     where

@@ -31,6 +31,7 @@ use Rattle.headings.proofs.Inside.{found-inside}
 use Rattle.alike.specs.Alike.{Alike}
 use Rattle.alike.proofs.Stops.{Named, made-alike}
 use Rattle.alike.proofs.Unpacked.{Fits, unpacked}
+use Rattle.hoporder.specs.Hops.{Placed}
 use Rattle.hopbytes.specs.Listing.{tripAt, Good}
 use Rattle.departures.specs.Entries.{Listed, EntriesOf}
 use Rattle.recorded.specs.Asked.{Read, Short, stopsRead, recordsRead}
@@ -163,3 +164,18 @@ module _ (F : Feed) (C : Columns) (from : ℕ) (r : Read F C from) where
 
     pub records-listed : Listed (F .trips) (recordsRead F C from)
     records-listed = subst (Listed (F .trips)) (sym read-is) listed
+
+    trip-small : Placed R
+    trip-small i h = less (ap (λ (t : Stop). t .trip) (stop-is i (fewer h))) refl (few (facts i (fewer h) .placed) (s .trips))
+      where
+        few : {x n : ℕ} → x ≤ n → n < 4294967296 → x < 2 ^ 32
+        few a b = omega (arith, a, b)
+
+    pub records-placed : Placed (recordsRead F C from)
+    records-placed = subst Placed (sym read-is) trip-small
+
+    -- lines differ, so records do
+    pub records-distinct : (i j : ℕ) → i < j → j < length (recordsRead F C from) → at (recordsRead F C from) i ≡ at (recordsRead F C from) j → ⊥
+    records-distinct i j p h e =
+        let q = records-listed .rising .rises i j p h in
+        absurd (omega (arith, q, ap (λ (x : ℕ). stopIn x .line) e))

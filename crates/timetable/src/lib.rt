@@ -1,6 +1,6 @@
 // The operators' timetable: stop_times.txt and two lists of ids become hops of 20 bytes.
 // Promises: the refusal, the number of hops and every byte of the target, as the definitions of `feed` say, for texts of every length.
-// Rests on: the texts judged (`vetting`), trees of ids (`idtree`), and for the trips records in the target (`windows`) or, for want of them, `unaided`.
+// Rests on: the texts judged (`vetting`), trees of ids (`idtree`), and for the trips records in the target or in windows (`windows`) or, for want of them, `unaided`.
 use departures::Answer;
 use departures::refuse;
 use stoplist::Columns;
@@ -10,11 +10,50 @@ ghost use Rattle.journeys.specs.Refusals.{tableOf};
 ghost use Rattle.feed.specs.Answers.{Passed};
 ghost use Rattle.known.specs.Counted.{Nodes, Listed};
 ghost use Rattle.headings.specs.Opened.{Opened};
+ghost use Rattle.recorded.specs.Asked.{Read, Short};
 ghost use Rattle.vetting.specs.Vetted.{textRefusal};
 ghost use Rattle.timetable.specs.Lent.{feedOf, Answers, Called};
 
-// What 14 lets pass. Records in the target serve where it has room for one of each line and 32 bits for its number and its trip's place; without
-// them each stop is read again from its line.
+// Where the target does not hold a record of each line, the sorted stops come window by window.
+fn windowed(
+    target: &mut [u8],
+    text: &[u8],
+    from: usize,
+    c: Columns,
+    bs: &[u8],
+    ns: usize,
+    ms: usize,
+    stops: &[u8],
+    bt: &[u8],
+    nt: usize,
+    mt: usize,
+    trips: &[u8],
+) -> Answer
+    requires { ⌜ Read (feedOf (now text) (now stops) (now trips) (now target)) c from × Short (feedOf (now text) (now stops) (now trips) (now target)) ⌝ }
+    requires { ⌜ Nodes ns (now bs) × Listed (now stops) ns ms (now bs) × Nodes nt (now bt) × Listed (now trips) nt mt (now bt) ⌝ }
+    ensures { λ r. ⌜ Answers (feedOf (now (text .entry)) (now (stops .entry)) (now (trips .entry)) (now (target .entry))) r (now (target .exit)) ⌝ }
+{
+    let mut spare = [0u8; 20480];
+    windows::all_hops(
+        target,
+        &mut spare,
+        1024,
+        text,
+        from,
+        c,
+        bs,
+        ns,
+        ms,
+        stops,
+        bt,
+        nt,
+        mt,
+        trips,
+    )
+}
+
+// What 14 lets pass. Records serve where 32 bits hold the number of each line and the place of its trip: in the target where it has room for them all,
+// else in windows. Without them each stop is read again from its line.
 fn passed(
     target: &mut [u8],
     text: &[u8],
@@ -35,7 +74,8 @@ fn passed(
 {
     let room = target.len() / 20;
     let lines = reread::count_stops(text, from);
-    if (lines <= room) & (text.len() < 4294967294) & (trips.len() < 4294967296) {
+    let short = (text.len() < 4294967294) & (trips.len() < 4294967296);
+    if (lines <= room) & short {
         return windows::held_hops(
             target,
             room,
@@ -51,6 +91,9 @@ fn passed(
             mt,
             trips,
         );
+    }
+    if short {
+        return windowed(target, text, from, c, bs, ns, ms, stops, bt, nt, mt, trips);
     }
     unaided::all_hops(target, text, from, c, bs, ns, ms, stops, bt, nt, mt, trips)
 }
@@ -87,11 +130,11 @@ fn named(target: &mut [u8], text: &[u8], stops: &[u8], trips: &[u8]) -> Answer
     requires { ⌜ (tableOf 20 0 262144 (now target) ≡ true) × (textRefusal (now text) (now stops) (now trips) .number ≡ 0) ⌝ }
     ensures { λ r. ⌜ Answers (feedOf (now (text .entry)) (now (stops .entry)) (now (trips .entry)) (now (target .entry))) r (now (target .exit)) ⌝ }
 {
-    let mut bs = [0u8; 40960];
-    let mut bt = [0u8; 88064];
-    let ms = idtree::build(&mut bs, 5120, stops);
-    let mt = idtree::build(&mut bt, 11008, trips);
-    judged(target, text, &bs, 5120, ms, stops, &bt, 11008, mt, trips)
+    let mut bs = [0u8; 32768];
+    let mut bt = [0u8; 77824];
+    let ms = idtree::build(&mut bs, 4096, stops);
+    let mt = idtree::build(&mut bt, 9728, trips);
+    judged(target, text, &bs, 4096, ms, stops, &bt, 9728, mt, trips)
 }
 
 // The hops of a timetable, or the first refusal in the order of the definitions.

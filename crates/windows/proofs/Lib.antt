@@ -1,3 +1,5 @@
 pub mod HeldLaws
 pub mod RoomLaws
+pub mod GoneLaws
+pub mod EndLaws
 pub mod Determined

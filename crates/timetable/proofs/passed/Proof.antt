@@ -15,12 +15,26 @@ held-hops-requires c κs =
     let F = feedOf (s .args .text .now) (s .args .stops .now) (s .args .trips .now) (s .args .target .now) in
     let o = s .pre .0 .2 in
     let both = and-both _ _ (then .if1 .taken) in
-    let first = and-both _ _ (both .0) in (
+    let short = and-both _ _ (both .1) in (
       (
         target-whole (s .args .target .now) (s .pre .0 .0),
         record { passed = s .pre .0 .1; columns = o .found; within = o .within; second = o .rest },
-        record { text = ltb-true _ _ (first .1); trips = ltb-true _ _ (both .1) },
-        stops-held F (s .args .c) (s .args .from) _ _ (count .count-stops .ensures) (leb-true _ _ (first .0)),
+        record { text = ltb-true _ _ (short .0); trips = ltb-true _ _ (short .1) },
+        stops-held F (s .args .c) (s .args .from) _ _ (count .count-stops .ensures) (leb-true _ _ (both .0)),
+      ),
+      s .pre .1,
+    )
+
+windowed-requires : tie.Need-windowed-requires
+windowed-requires c κs =
+    let then = c .before in
+    let count = then .before .before in
+    let s = count .before .before .before .before .before .before .before in
+    let o = s .pre .0 .2 in
+    let short = and-both _ _ (then .if2 .taken) in (
+      (
+        record { passed = s .pre .0 .1; columns = o .found; within = o .within; second = o .rest },
+        record { text = ltb-true _ _ (short .0); trips = ltb-true _ _ (short .1) },
       ),
       s .pre .1,
     )
@@ -31,6 +45,9 @@ passed-spec =
     (tie.spec
     (λ c κs. search needs)
     held-hops-requires
+    (λ c. search needs)
+    (λ c. search needs)
+    windowed-requires
     (λ c. search needs)
     (λ c. search needs)
     (λ c κs. search needs)
