@@ -370,7 +370,7 @@
  *   many lines, the file is read many times.
  * - A call uses less than 8 KB of stack, 4,096 bytes of them for its arrays;
  *   siltbrow_judge less than 264 KB, 256 KB of them for an array;
- *   siltbrow_timetable less than 144 KB, TO-FILL bytes of them for its arrays,
+ *   siltbrow_timetable less than 144 KB, 131,072 bytes of them for its arrays,
  *   whatever the texts: a line of a million fields takes no more.
  * - The library is code for x86-64 Linux. It needs memset and nothing else.
  *   siltbrow_frame compares floats: call it with denormal numbers as they are,
