@@ -1,8 +1,8 @@
 // The rest of a timetable's answer, behind refusal 14: 15, 16, 17 and the hops.
 // Promises: the timetable's answer and every byte of the target, as the definitions of `feed` say.
-// Rests on: the records of lines (`stoplist`, `recorded`), the answer for records (`departures`).
+// Rests on: the records of lines (`stoplist`, `recorded`), windows of them (`sieve`), what is carried over them (`carry`), the answer for records (`departures`).
 ghost use mathlib.Core.Path.{_≡_};
-ghost use Prim.Native.Nat.{ℕ, _+_, _*_, _<_, _≤_};
+ghost use Prim.Native.Nat.{ℕ, _+_, _-_, _*_, _<_, _≤_};
 ghost use mathlib.Core.List.{List, _++_};
 ghost use lib.ListN.{length, take};
 ghost use Rattle.journeys.specs.Counting.{none};
@@ -303,6 +303,16 @@ fn instead(
     }
 }
 
+// The records that are free in the target: behind the hops, or all of them where the hops have no room.
+fn free(room: usize, k: usize) -> usize
+    ensures { λ r. ⌜ (k ≤ room → r ≡ room - k) × (room < k → r ≡ room) ⌝ }
+{
+    if room < k {
+        return room;
+    }
+    room - k
+}
+
 // One window more, in the larger memory.
 fn window(
     target: &mut [u8],
@@ -329,7 +339,7 @@ fn window(
         → Gone (sorted (linesRecords c (now (stops .entry)) (now (trips .entry)) (now (text .entry)) from)) room (recs room (now (target .exit))) r) ⌝ }
 {
     let k = run.hops;
-    if room < n {
+    if free(room, k) < n {
         return beside(
             target,
             room,
@@ -353,26 +363,6 @@ fn window(
         return instead(
             target,
             room,
-            run,
-            text,
-            from,
-            c,
-            bs,
-            ns,
-            ms,
-            stops,
-            bt,
-            nt,
-            mt,
-            trips,
-        );
-    }
-    if room - k < n {
-        return beside(
-            target,
-            room,
-            spare,
-            n,
             run,
             text,
             from,

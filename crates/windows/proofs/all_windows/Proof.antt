@@ -30,7 +30,7 @@ window-requires c κs =
     let loop = known .before in
     let s = loop .before .before .before .before .before .before .before .before in
     let p = s .pre .0 in
-    ((loop .loop .inv .0, loop .loop .inv .1, p .2, low-bound (loop .loop .run .lo) (then .if1 .taken) (known .struct-known .given .0 .1 .0 .fits) (known .struct-known .given .0 .1 .1 .0 .fits), p .3), s .pre .1)
+    ((loop .loop .inv .0, loop .loop .inv .1, p .2, low-bound (loop .loop .run .lo) (omega (arith, then .if1 .taken)) (known .struct-known .given .0 .1 .0 .fits) (known .struct-known .given .0 .1 .1 .0 .fits), p .3), s .pre .1)
 
 loop-less : tie.Need-loop-less Inv-loop μ-loop
 loop-less c =
@@ -38,7 +38,7 @@ loop-less c =
     let then = window .before .before .before in
     let known = then .before in
     let loop = known .before in
-    less-far (low-bound (loop .loop .run .lo) (then .if1 .taken) (known .struct-known .given .0 .1 .0 .fits) (known .struct-known .given .0 .1 .1 .0 .fits)) (window .window .ensures .0)
+    less-far (low-bound (loop .loop .run .lo) (omega (arith, then .if1 .taken)) (known .struct-known .given .0 .1 .0 .fits) (known .struct-known .given .0 .1 .1 .0 .fits)) (window .window .ensures .0)
 
 loop-again : tie.Need-loop-again Inv-loop μ-loop
 loop-again c =
@@ -59,7 +59,7 @@ same-length-2 c =
 returns : tie.Need-returns Inv-loop μ-loop
 returns c =
     let loop = c .before .before in
-    (high-bound (loop .loop .run .lo) (c .if1 .left), loop .loop .inv .2)
+    (high-bound (loop .loop .run .lo) (omega (arith, c .if1 .left)), loop .loop .inv .2)
 
 pub all-windows-spec : {M : Type 1} → statement M
 all-windows-spec =
