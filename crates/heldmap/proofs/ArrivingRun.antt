@@ -30,7 +30,7 @@ module _ (f : ℕ → ℕ) (n : ℕ) (up : (i : ℕ) → suc i < n → f i ≤ f
       let e : i + suc k ≡ suc (i + k) = omega arith in
       rw e (omega (arith, climbs i k (omega arith), up (i + k) (omega arith)))
 
-  climbs-to : (i j : ℕ) → i ≤ j → j < n → f i ≤ f j
+  pub climbs-to : (i j : ℕ) → i ≤ j → j < n → f i ≤ f j
   climbs-to i j h l = let e : i + (j - i) ≡ j = omega arith in subst (λ (k : ℕ). f i ≤ f k) e (climbs i (j - i) (omega arith))
 
   -- those below y come first

@@ -8,6 +8,7 @@ use words::Ticks;
 use worktable::Nearest;
 use worktable::Table;
 ghost use mathlib.Core.Path.{_≡_};
+ghost use mathlib.Core.Bool.{false};
 ghost use Prim.Native.Nat.{_≤_};
 ghost use lib.ListN.{length, replicate};
 ghost use Rattle.journeys.specs.Tables.{tablesOf};
@@ -49,8 +50,8 @@ pub fn steps<'a>(
     limit: u32,
 ) -> Ended
     requires { ⌜ Valid (tablesOf «hop_size» (now vertices) (now walks) (now hops)) (queryOf q) × (allowed .0 ≡ query.allowed (queryOf q)) × (now scratch ≡ replicate 2048 0) × (start .settled ≡ 0) × (16 ≤ «hop_size») ⌝ }
-    requires { ⌜ Stands «hop_size» (now vertices) (now walks) (now hops) (length (now held)) (length (now settled)) (queryOf q) start (now held) (now settled) ⌝ }
-    ensures { λ r. ⌜ Ends «hop_size» (now (vertices .entry)) (now (walks .entry)) (now (hops .entry)) (length (now (held .entry))) (length (now (settled .entry))) (queryOf q) limit (now (held .exit)) (now (settled .exit)) r ⌝ }
+    requires { ⌜ Stands false (tablesOf «hop_size» (now vertices) (now walks) (now hops)) (length (now held)) (length (now settled)) (queryOf q) start (now held) (now settled) ⌝ }
+    ensures { λ r. ⌜ Ends false (tablesOf «hop_size» (now (vertices .entry)) (now (walks .entry)) (now (hops .entry))) (length (now (held .entry))) (length (now (settled .entry))) (queryOf q) limit (now (held .exit)) (now (settled .exit)) r ⌝ }
     ensures { λ _. ⌜ now (scratch .exit) ≡ replicate 2048 0 ⌝ }
 {
     let mut p = start;
