@@ -2,16 +2,13 @@
 use mathlib.Core.Path.{_≡_, refl, sym, ap, _∙_}
 use mathlib.Core.Logic.{_≢_, ⊎-elim}
 use mathlib.Core.Bool.{Bool, true, false, not, cond}
-use mathlib.Core.List.{List}
 use Prim.Native.Nat.{ℕ, zero, suc, _+_, _-_, _≤_, _<_, min}
 use native.Mathlib.Omega.{arith}
 use lib.Dec.{eqb, ltb}
-use lib.ListN.{getD}
 use borrow.Author.Tests.{le-ltb, ne-eqb}
 use Rattle.journeys.specs.Counting as counting
 use Rattle.journeys.proofs.Tests.{never, le-or-lt}
-use Rattle.journeys.specs.Bytes.{be16}
-use Rattle.worktable.specs.Map.{Entry, absent, known, remainingLimit, one, touched, spent, swept, remainingOf}
+use Rattle.worktable.specs.Map.{Entry, absent, known, one, touched, spent, swept, remainingOf}
 use Rattle.worktable.proofs.MapLaws.{absent-known, spent-some, swept-spent, swept-kept}
 use Rattle.meeting.specs.Passing.{missing, entered, met, futile, left}
 
@@ -98,11 +95,6 @@ met-left D b d absent = swept-left D d b 0 d
 met-left D b d (known x zero n) = swept-left D d (min b x) 0 n
 met-left D b d (known x (suc s) n) = swept-left D d x (suc s) n
 
--- a number of two bytes
-pub half-low : (b : List ℕ) (at n : ℕ) → n ≡ be16 b at → ((i : ℕ) → getD b i 0 < 256) → n - 1 < remainingLimit
-unfolding be16
-half-low b at n h l = omega (arith, h, l at, l (at + 1))
-
 -- a record that is futile for a new vertex brings no entry, and no other brings more than one
 pub met-one : (D b d : ℕ) (e : Entry) → one (met D b d e) ≤ one e + counting.one (not (futile D b d))
 unfolding met entered touched swept one
@@ -114,7 +106,7 @@ met-one D b d absent = go (spent D (known b 0 (d - 1)))
 met-one D b d (known x zero n) = omega (arith, one-most (swept D (known (min b x) 0 (n - 1))))
 met-one D b d (known x (suc s) n) = omega (arith, one-most (swept D (known x (suc s) (n - 1))))
 
--- one departing record at most, told in two ways
+-- one record at most, told in two ways
 pub few-is : (d : ℕ) → ltb d 2 ≡ eqb (d - 1) 0
 few-is zero = refl
 few-is (suc zero) = refl

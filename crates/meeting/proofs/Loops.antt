@@ -1,12 +1,13 @@
--- A loop over the records of a row: the first j have gone by f, each on the entry of the vertex that it leaves. Assumes nothing.
+-- A loop over the records of a row: the first j have gone by f, each on the entry of the vertex at its other end. Assumes nothing.
 use mathlib.Core.Path.{_≡_, refl, sym, ap, _∙_, subst}
 use mathlib.Core.List.{List}
 use Prim.Native.Nat.{ℕ, suc, _+_, _≤_, _<_}
 use native.Mathlib.Numerals.{add-one}
 use native.Mathlib.Omega.{arith}
 use lib.ListN.{length}
-use Rattle.passing.specs.Row.{Row, passes, rowOf, Leaves}
-use Rattle.passing.specs.declared.Arriving.{Arriving}
+use Rattle.passing.specs.Row.{Row, passes}
+use Rattle.directed.specs.Directed.{rowIn, Near}
+use Rattle.directed.specs.declared.Directed.{Directed}
 use Rattle.worktable.specs.Map.{Entry, Map, put}
 use Rattle.worktable.specs.Table.{mapOf, InOrder}
 use Rattle.worktable.specs.declared.Table.{Table}
@@ -22,7 +23,7 @@ pub record Went (from : ℕ → ℕ) (f : ℕ → Entry → Entry) (n : ℕ) (t�
   pub lengths : length b ≡ length b₀
   pub leads : Leads t₀ t b (goes from f j (mapOf t₀ b₀))
 
--- a record that leaves u with the offer x goes by g
+-- a record with u at its other end and the offer x goes by g
 pub step-map : (from offer : ℕ → ℕ) (g : ℕ → ℕ → Entry → Entry) (m : Map) (j : ℕ) {M : Map} {u x : ℕ} → M ≡ goes from (λ i e. g (from i) (offer i) e) j m → u ≡ from j → x ≡ offer j
     → put M u (g u x (M u)) ≡ goes from (λ i e. g (from i) (offer i) e) (j + 1) m
 unfolding goes
@@ -60,5 +61,5 @@ passed-left R n m j l {M} {u} q enough p =
     (λ i e x. subst (λ (v : ℕ). left (R .departing (R .from j)) x ≤ suc (left (R .departing (R .from j)) (met (R .allowed) (R .offer i) (R .departing v) x))) (sym e) (met-left (R .allowed) (R .offer i) (R .departing (R .from j)) x))
     (m (R .from j)) (enough (R .from j)) l)
 
-pub from-low : (v w h : List ℕ) (a : Arriving) → Leaves v w h a → (j : ℕ) → j < passes a → rowOf v w h a .from j < 65536
-from-low v w h a s j l = omega (arith, s .low j l, s .vertices)
+pub from-low : (v w h l : List ℕ) (a : Directed) → Near v w h l a → (j : ℕ) → j < passes (a .arriving) → rowIn v w h l a .from j < 65536
+from-low v w h l a s j k = omega (arith, s .low j k, s .vertices)

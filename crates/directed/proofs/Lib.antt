@@ -1,0 +1,4 @@
+pub mod RideFits
+pub mod Meaning
+pub mod Either
+pub mod Determined
