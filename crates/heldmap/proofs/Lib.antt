@@ -5,3 +5,5 @@ pub mod RowOfNetwork
 pub mod RunIsNetwork
 pub mod StepIsNext
 pub mod Directions
+pub mod CourierRow
+pub mod RowsInDirection
