@@ -13,7 +13,7 @@ use Rattle.journeys.proofs.Counting.{none-count}
 use Rattle.passing.specs.Row.{Row}
 use Rattle.worktable.specs.Map.{Entry, absent, known, Map, swept, touched, one, sizeTo, size}
 use Rattle.worktable.specs.declared.Table.{Table}
-use Rattle.meeting.specs.Passing.{missing, goes, along, meets, passed, left, leaving, Enough}
+use Rattle.meeting.specs.Passing.{missing, goes, along, meets, passed, left, leaving, Enough, Few}
 use Rattle.meeting.specs.Answer.{Leads, ArrivedIs}
 use Rattle.meeting.specs.declared.Arrived.{Arrived}
 use Rattle.meeting.specs.declared.Arrived.the-variants.{Fits, NoRoom}
@@ -43,7 +43,7 @@ module _ (R : Row) (n : ℕ) where
       ended-held R n u (along (R .from) (touches R) n u (known x s r)) (touch-missing R u (R .departing u) (known x s r) n)
       ∙ touch-sweep R u (R .departing u) (known x s r) refl n h
 
-  -- a vertex that no record leaves
+  -- a vertex without a record in the row
   ended-none : (u : ℕ) (e : Entry) → leaving R u n ≡ 0 → ended R n u e ≡ e
   unfolding ended
   ended-none u absent z = along-none (R .from) (meets R) u absent n z
@@ -84,7 +84,7 @@ module _ (R : Row) (n : ℕ) where
             rest (inl x) (inr y) = inside lo b u x y ∙ sym (inside lo (suc b) u x (omega arith))
             rest (inl x) (inl y) = above lo b u y ∙ sym (above lo (suc b) u (⊎-elim (λ (k : 2048 * suc b ≤ u). k) (λ (k : u < 2048 * suc b). absurd (q (omega arith))) (le-or-lt (2048 * suc b) u)))
 
-    -- blocks that no record leaves
+    -- blocks without a record in the row
     pub range-gap : (lo b hi : ℕ) → b ≤ hi → ((u : ℕ) → 2048 * b ≤ u → u < 2048 * hi → leaving R u n ≡ 0) → overTo R n lo b m ≡ overTo R n lo hi m
     range-gap lo b hi l none = fun-ext (λ u. go u (le-or-lt (2048 * lo) u) (le-or-lt (2048 * b) u) (le-or-lt (2048 * hi) u))
       where
@@ -156,14 +156,14 @@ module _ (R : Row) (n : ℕ) (m : Map) (enough : Enough R n m) (low : (j : ℕ) 
 
   -- ---- new vertices
   -- who is absent when all are touched was absent before
-  pub fresh-touched : {k : Map} → k ≡ goes (R .from) (touches R) n m → (u : ℕ) → k u ≡ absent → leaving R u n ≤ R .departing u
-  fresh-touched {k} e u z =
+  pub fresh-touched : Few R n m → {k : Map} → k ≡ goes (R .from) (touches R) n m → (u : ℕ) → k u ≡ absent → (leaving R u n ≤ R .departing u) × (leaving R u n ≤ 65535)
+  fresh-touched few {k} e u z =
       let a : m u ≡ absent = missing-absent (m u) (sym (touch-missing R u 0 (m u) n) ∙ absent-missing (along (R .from) (touches R) n u (m u)) (sym (goes-along (R .from) (touches R) n m u) ∙ ap (λ (x : Map). x u) (sym e) ∙ z)) in
-      omega (arith, enough u, left-absent (R .departing u) (m u) a)
+      (omega (arith, enough u, left-absent (R .departing u) (m u) a), few u a)
 
   -- what the upper blocks do leaves the lower ones as they are
-  pub fresh-lower : {k : Map} → k ≡ overTo R n s 32 (goes (R .from) (touches R) n m) → (u : ℕ) → u < 2048 * s → k u ≡ absent → leaving R u n ≤ R .departing u
-  fresh-lower {k} e u l z = fresh-touched refl u (sym (lower u l) ∙ ap (λ (x : Map). x u) (sym e) ∙ z)
+  pub fresh-lower : Few R n m → {k : Map} → k ≡ overTo R n s 32 (goes (R .from) (touches R) n m) → (u : ℕ) → u < 2048 * s → k u ≡ absent → (leaving R u n ≤ R .departing u) × (leaving R u n ≤ 65535)
+  fresh-lower few {k} e u l z = fresh-touched few refl u (sym (lower u l) ∙ ap (λ (x : Map). x u) (sym e) ∙ z)
 
 -- ---- answers
 pub range-fits : (R : Row) (n lo hi : ℕ) (t : Table) (c : List ℕ) (m : Map) {r : Table} {x : Arrived} → RangeIs R n lo hi t c m x → x ≡ Fits r → Leads t r c (overTo R n lo hi m)

@@ -32,5 +32,5 @@ map-one t r q c d m h k = (h .0 .holds .map ∙ sym (k .0 .holds .map), h .0 .ro
 pub arrive-one : (κs : _) (a : _) (z z′ : _) (e e′ : _) → arrive.Post κs a z e → arrive.Post κs a z′ e′ → fits z ≡ fits z′
 arrive-one κs a z z′ e e′ p q = room-one _ _ _ _ z z′ (p .0) (q .0)
 
-pub marks-one : (κs : _) (a : _) (z z′ : _) (e e′ : _) → arrive.Post κs a z e → arrive.Post κs a z′ e′ → now (e .1 .1 .1 .1 .1 .1 .0) ≡ now (e′ .1 .1 .1 .1 .1 .1 .0)
+pub marks-one : (κs : _) (a : _) (z z′ : _) (e e′ : _) → arrive.Post κs a z e → arrive.Post κs a z′ e′ → now (e .1 .1 .1 .1 .1 .1 .1 .0) ≡ now (e′ .1 .1 .1 .1 .1 .1 .1 .0)
 marks-one κs a z z′ e e′ p q = p .1 ∙ sym (q .1)

@@ -4,8 +4,9 @@ use mathlib.Core.Bool.{cond, _&&_}
 use mathlib.Core.List.{List}
 use Prim.Native.Nat.{ℕ, _*_, _<_, _≤_}
 use lib.Dec.{leb, ltb}
-use Rattle.passing.specs.Row.{Row, passes, rowOf, Sound, Leaves}
-use Rattle.passing.specs.declared.Arriving.{Arriving}
+use Rattle.passing.specs.Row.{Row, passes}
+use Rattle.directed.specs.Directed.{rowIn, Passable, Near}
+use Rattle.directed.specs.declared.Directed.{Directed}
 use Rattle.worktable.specs.Map.{absent, Map, size}
 use Rattle.worktable.specs.Table.{mapOf, InOrder}
 use Rattle.worktable.specs.declared.Table.{Table}
@@ -24,13 +25,14 @@ unfoldable pub RangeIs : Row → ℕ → ℕ → ℕ → Table → List ℕ → 
 RangeIs R n lo hi t c m (Fits r) = Leads t r c (overTo R n lo hi m)
 RangeIs R n lo hi t c m NoRoom = (i : ℕ) × (lo ≤ i) × (i ≤ hi) × (t .room < size (overTo R n lo i m))
 
-module _ (v w h : List ℕ) (a : Arriving) (lo hi : ℕ) (t : Table) (b : List ℕ) where
-  -- what the ends of these blocks start from: a new vertex of theirs has no more records in the row than leave it
+module _ (v w h l : List ℕ) (a : Directed) (lo hi : ℕ) (t : Table) (b : List ℕ) where
+  -- what the ends of these blocks start from: a new vertex of theirs has no more records in the row than it has in all, nor than two bytes count
   pub record RangeTouched : Type 0 where
     pub order : InOrder t b
-    pub sound : Sound w h a
-    pub leaves : Leaves v w h a
-    pub fresh : (u : ℕ) → 2048 * lo ≤ u → u < 2048 * hi → mapOf t b u ≡ absent → leaving (rowOf v w h a) u (passes a) ≤ rowOf v w h a .departing u
+    pub sound : Passable w h l a
+    pub near : Near v w h l a
+    pub fresh : (u : ℕ) → 2048 * lo ≤ u → u < 2048 * hi → mapOf t b u ≡ absent
+        → (leaving (rowIn v w h l a) u (passes (a .arriving)) ≤ rowIn v w h l a .departing u) × (leaving (rowIn v w h l a) u (passes (a .arriving)) ≤ 65535)
 
   abbrev pub RangeOver : List ℕ → Arrived → Type 0
-  RangeOver c r = RangeIs (rowOf v w h a) (passes a) lo hi t c (mapOf t b) r
+  RangeOver c r = RangeIs (rowIn v w h l a) (passes (a .arriving)) lo hi t c (mapOf t b) r

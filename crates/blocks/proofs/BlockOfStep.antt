@@ -37,7 +37,7 @@ module _ (R : Row) (n block : ℕ) (M : Map) (s : List ℕ) (counters : (k : ℕ
 
   -- a new vertex stays exactly if the definition gives it an entry; who is held is not new
   stays-new : (u : ℕ) → u / 2048 ≡ block → M u ≡ absent → staysIn s (u % 2048) ≡ not (missing (along (R .from) (meets R) n u absent))
-  stays-new u h e = stays-is u ∙ ap not (sym (present R block M u h e n (fresh-all u h e)))
+  stays-new u h e = stays-is u ∙ ap not (sym (present R block M u h e n (fresh-all u h e .0) (fresh-all u h e .1)))
 
   held-off : (u : ℕ) → u / 2048 ≡ block → missing (M u) ≡ false → staysIn s (u % 2048) ≡ false
   held-off u h e = stays-is u ∙ ap not (eq-eqb (noting R block M n (u % 2048)) 0 (held-noting R block M u h e n))
@@ -102,7 +102,7 @@ module _ (R : Row) (n block : ℕ) (M : Map) (s : List ℕ) (counters : (k : ℕ
 
   -- Who stays is not held, also when the block has been swept.
   pub block-news : News R n block s (goes (R .from) (sweeps (R .allowed) (R .from) block) n M)
-  block-news u both = (gone, fresh-all u h none, stays-on R block M u h none n (fresh-all u h none) some)
+  block-news u both = (gone, fresh-all u h none .0, stays-on R block M u h none n (fresh-all u h none .0) (fresh-all u h none .1) some)
     where
       h : u / 2048 ≡ block
       h = eqb-true (u / 2048) block (and-both (inBlock block u) (staysIn s (u % 2048)) both .0)

@@ -10,7 +10,7 @@ use borrow.Author.Tests.{eq-eqb, ne-eqb, lt-ltb, le-ltb}
 use Rattle.journeys.specs.Counting as counting
 use Rattle.journeys.specs.Counting.{count}
 use Rattle.journeys.proofs.Tests.{Test, same, other, test, never, le-or-lt, and-true, and-left, and-right, cond-true, cond-false}
-use Rattle.journeys.proofs.Counting.{is-one, is-zero, count-mono, count-grows}
+use Rattle.journeys.proofs.Counting.{one-most, is-one, is-zero, count-mono, count-grows}
 use Rattle.passing.specs.Row.{Row}
 use Rattle.worktable.specs.Map.{Entry, absent, known, Map, touched, swept, one}
 use Rattle.worktable.proofs.MapLaws.{spent-open, spent-some, swept-spent, swept-kept}
@@ -33,11 +33,11 @@ unfolding met entered touched
 met-open D b d x n q = ap (met D b d) q
 
 module _ (R : Row) (u : ℕ) where
-  -- how many of the first j records leave u and offer more than D
+  -- how many of the first j records are of u and offer more than D
   unfoldable pub overs : ℕ → ℕ
   overs j = count (λ i. eqb (R .from i) u && ltb (R .allowed) (R .offer i)) j
 
-  -- the entry of a new vertex after j records: it has none yet; it has none any more, since all its departing records are passed and offer more than D; or it has one, and its
+  -- the entry of a new vertex after j records: it has none yet; it has none any more, since all its records are passed and offer more than D; or it has one, and its
   -- distance is above D exactly if all its offers are
   abbrev Hope : ℕ → Entry → Type 0
   Hope j e =
@@ -142,7 +142,7 @@ module _ (R : Row) (u : ℕ) where
           subst (λ (v : ℕ). Hope (suc j) (met (R .allowed) (R .offer j) (R .departing v) (along (R .from) (meets R) j u absent))) (sym q) (step j (along (R .from) (meets R) j u absent) q most h)
       go false (other q) h = stay j (along (R .from) (meets R) j u absent) q h
 
-  -- A new vertex with a record in the row has no entry when the row is over exactly if as many of its records offer more than D as leave it.
+  -- A new vertex with a record in the row has no entry when the row is over exactly if as many of its records offer more than D as it has in all.
   pub row-over : (n : ℕ) → leaving R u n ≤ R .departing u → 0 < leaving R u n → missing (along (R .from) (meets R) n u absent) ≡ eqb (R .departing u - overs n) 0
   unfolding missing
   row-over n most some = go (hope n most)
@@ -170,13 +170,13 @@ module _ (R : Row) (u : ℕ) where
       go (inr (inr p)) = ap one (p .1)
 
 -- ---- the counter of u
-pub chance-new : (D b d c : ℕ) → c ≡ 0 → chance D b d c ≡ d - counting.one (ltb D b)
+pub chance-new : (D b d c : ℕ) → c ≡ 0 → chance D b d c ≡ min (d - counting.one (ltb D b)) 65535
 unfolding chance
-chance-new D b d c e = ap (λ (n : ℕ). n - counting.one (ltb D b)) (cond-true d c (eq-eqb c 0 e))
+chance-new D b d c e = cond-true (min (d - counting.one (ltb D b)) 65535) (c - counting.one (ltb D b)) (eq-eqb c 0 e)
 
 pub chance-old : (D b d c : ℕ) → c ≢ 0 → chance D b d c ≡ c - counting.one (ltb D b)
 unfolding chance
-chance-old D b d c e = ap (λ (n : ℕ). n - counting.one (ltb D b)) (cond-false d c (ne-eqb c 0 e))
+chance-old D b d c e = cond-false (min (d - counting.one (ltb D b)) 65535) (c - counting.one (ltb D b)) (ne-eqb c 0 e)
 
 module _ (R : Row) (block : ℕ) (m : Map) (u : ℕ) (here : u / 2048 ≡ block) where
   noting-skip : (j : ℕ) → (R .from j ≡ u → missing (m u) ≡ false) → noting R block m (suc j) (u % 2048) ≡ noting R block m j (u % 2048)
@@ -202,66 +202,73 @@ module _ (R : Row) (block : ℕ) (m : Map) (u : ℕ) (here : u / 2048 ≡ block)
   held-noting h zero = refl
   held-noting h (suc j) = noting-skip j (λ q. h) ∙ held-noting h j
 
-  -- one record more: u is met for the first time, or again, or the record leaves another vertex
+  -- the counter after j records: none of them is of u; or it is what is due less the offers above D; or more is due than two bytes hold, and the counter cannot reach 0
   abbrev Counts : ℕ → Type 0
-  Counts j = noting R block m j (u % 2048) ≡ cond (eqb (leaving R u j) 0) 0 (R .departing u - overs R u j)
+  Counts j =
+      ((leaving R u j ≡ 0) × (noting R block m j (u % 2048) ≡ 0))
+      ⊎ (((0 < leaving R u j) × (noting R block m j (u % 2048) ≡ R .departing u - overs R u j))
+      ⊎ ((0 < leaving R u j) × (65535 < R .departing u) × (65536 ≤ noting R block m j (u % 2048) + leaving R u j)))
 
-  counts-later : (j : ℕ) → R .from j ≡ u
-      → cond (eqb (leaving R u (suc j)) 0) 0 (R .departing u - overs R u (suc j)) ≡ (R .departing u - overs R u j) - counting.one (ltb (R .allowed) (R .offer j))
-  counts-later j q =
-      cond-false 0 (R .departing u - overs R u (suc j)) (ne-eqb (leaving R u (suc j)) 0 (λ e. let y : ⊥ = omega (arith, leaving-here R u j q, e) in y))
-      ∙ omega (arith, overs-here R u j q)
-
-  counts-here : m u ≡ absent → (j : ℕ) → R .from j ≡ u → leaving R u (suc j) ≤ R .departing u → Counts j → Counts (suc j)
-  counts-here z j q most ih = noting-here j q z ∙ ⊎-elim first more (le-or-lt (leaving R u j) 0)
+  -- one record more: u is met for the first time, or again, or the record is of another vertex
+  counts-here : m u ≡ absent → (j : ℕ) → R .from j ≡ u → leaving R u (suc j) ≤ R .departing u → leaving R u (suc j) ≤ 65535 → Counts j → Counts (suc j)
+  counts-here z j q most few h = go h
     where
-      c : ℕ
-      c = noting R block m j (u % 2048)
+      x : ℕ
+      x = counting.one (ltb (R .allowed) (R .offer j))
 
-      first : leaving R u j ≤ 0 → chance (R .allowed) (R .offer j) (R .departing u) (noting R block m j (u % 2048)) ≡ cond (eqb (leaving R u (suc j)) 0) 0 (R .departing u - overs R u (suc j))
-      first l =
-          let e : noting R block m j (u % 2048) ≡ 0 = ih ∙ cond-true 0 (R .departing u - overs R u j) (eq-eqb (leaving R u j) 0 (omega arith)) in
-          chance-new (R .allowed) (R .offer j) (R .departing u) (noting R block m j (u % 2048)) e ∙ omega (arith, counts-later j q, overs-most R u j)
+      some : 0 < leaving R u (suc j)
+      some = omega (arith, leaving-here R u j q)
 
-      more : 0 < leaving R u j → chance (R .allowed) (R .offer j) (R .departing u) (noting R block m j (u % 2048)) ≡ cond (eqb (leaving R u (suc j)) 0) 0 (R .departing u - overs R u (suc j))
-      more l =
-          let e : noting R block m j (u % 2048) ≡ R .departing u - overs R u j =
-          ih ∙ cond-false 0 (R .departing u - overs R u j) (ne-eqb (leaving R u j) 0 (λ x. let y : ⊥ = omega arith in y)) in
-          chance-old (R .allowed) (R .offer j) (R .departing u) (noting R block m j (u % 2048)) (λ x. let y : ⊥ = omega (arith, e, x, overs-most R u j, leaving-here R u j q, most) in y)
-          ∙ ap (λ (n : ℕ). n - counting.one (ltb (R .allowed) (R .offer j))) e ∙ sym (counts-later j q)
+      again : noting R block m j (u % 2048) ≢ 0 → noting R block m (suc j) (u % 2048) ≡ noting R block m j (u % 2048) - counting.one (ltb (R .allowed) (R .offer j))
+      again n = noting-here j q z ∙ chance-old (R .allowed) (R .offer j) (R .departing u) (noting R block m j (u % 2048)) n
+
+      go : Counts j → Counts (suc j)
+      go (inl p) =
+          let e = noting-here j q z ∙ chance-new (R .allowed) (R .offer j) (R .departing u) (noting R block m j (u % 2048)) (p .1) in
+          let o = one-most (ltb (R .allowed) (R .offer j)) in
+          ⊎-elim
+          (λ (l : R .departing u ≤ 65535). inr (inl (some, omega (arith, e, p .0, overs-most R u j, overs-here R u j q))))
+          (λ (l : 65535 < R .departing u). inr (inr (some, l, omega (arith, e, o, leaving-here R u j q))))
+          (le-or-lt (R .departing u) 65535)
+      go (inr (inl p)) =
+          inr (inl (some, omega (arith, again (λ e. let y : ⊥ = omega (arith, e, p .1, overs-most R u j, leaving-here R u j q, most) in y), p .1, overs-here R u j q)))
+      go (inr (inr p)) =
+          let o = one-most (ltb (R .allowed) (R .offer j)) in
+          inr (inr (some, p .1, omega (arith, again (λ e. let y : ⊥ = omega (arith, e, p .2, leaving-here R u j q, few) in y), o, p .2, leaving-here R u j q, few)))
 
   counts-other : (j : ℕ) → R .from j ≢ u → Counts j → Counts (suc j)
-  counts-other j q ih = noting-skip j (λ p. absurd (q p)) ∙ ih ∙ rw (leaving-other R u j q, overs-other R u j q)
+  counts-other j q h = rw (noting-skip j (λ p. absurd (q p)), leaving-other R u j q, overs-other R u j q) h
 
-  counts : m u ≡ absent → (j : ℕ) → leaving R u j ≤ R .departing u → Counts j
+  counts : m u ≡ absent → (j : ℕ) → leaving R u j ≤ R .departing u → leaving R u j ≤ 65535 → Counts j
   unfolding noting count
-  counts z zero most = refl
-  counts z (suc j) most = go (ℕ-discrete (R .from j) u) (counts z j (omega (arith, count-grows (λ i. eqb (R .from i) u) j (suc j) (omega arith))))
+  counts z zero most few = inl (refl, refl)
+  counts z (suc j) most few = go (ℕ-discrete (R .from j) u) (counts z j (omega (arith, fewer)) (omega (arith, fewer)))
     where
+      fewer : leaving R u j ≤ leaving R u (suc j)
+      fewer = count-grows (λ i. eqb (R .from i) u) j (suc j) (omega arith)
+
       go : Dec (R .from j ≡ u) → Counts j → Counts (suc j)
-      go (yes q) ih = counts-here z j q most ih
+      go (yes q) ih = counts-here z j q most few ih
       go (no q) ih = counts-other j q ih
 
   -- The counter of a new vertex is 0 exactly if it has no entry.
-  pub present : m u ≡ absent → (j : ℕ) → leaving R u j ≤ R .departing u → missing (along (R .from) (meets R) j u absent) ≡ eqb (noting R block m j (u % 2048)) 0
+  pub present : m u ≡ absent → (j : ℕ) → leaving R u j ≤ R .departing u → leaving R u j ≤ 65535
+      → missing (along (R .from) (meets R) j u absent) ≡ eqb (noting R block m j (u % 2048)) 0
   unfolding missing
-  present z j most = go (hope R u j most)
+  present z j most few = go (hope R u j most) (counts z j most few)
     where
-      e : Entry
-      e = along (R .from) (meets R) j u absent
-
-      c : noting R block m j (u % 2048) ≡ cond (eqb (leaving R u j) 0) 0 (R .departing u - overs R u j)
-      c = counts z j most
-
-      seen : 0 < leaving R u j → noting R block m j (u % 2048) ≡ R .departing u - overs R u j
-      seen l = c ∙ cond-false 0 (R .departing u - overs R u j) (ne-eqb (leaving R u j) 0 (λ x. let y : ⊥ = omega arith in y))
-
-      go : Hope R u j (along (R .from) (meets R) j u absent) → missing (along (R .from) (meets R) j u absent) ≡ eqb (noting R block m j (u % 2048)) 0
-      go (inl p) = ap missing (p .0) ∙ sym (eq-eqb (noting R block m j (u % 2048)) 0 (c ∙ cond-true 0 (R .departing u - overs R u j) (eq-eqb (leaving R u j) 0 (p .1))))
-      go (inr (inl p)) = ap missing (p .0) ∙ sym (eq-eqb (noting R block m j (u % 2048)) 0 (omega (arith, seen (p .1), p .2)))
-      go (inr (inr p)) = ap missing (p .1) ∙ sym (ne-eqb (noting R block m j (u % 2048)) 0 (λ x. let y : ⊥ = omega (arith, seen (p .2), p .3, x) in y))
+      go : Hope R u j (along (R .from) (meets R) j u absent) → Counts j → missing (along (R .from) (meets R) j u absent) ≡ eqb (noting R block m j (u % 2048)) 0
+      go (inl p) (inl k) = ap missing (p .0) ∙ sym (eq-eqb (noting R block m j (u % 2048)) 0 (k .1))
+      go (inl p) (inr (inl k)) = absurd (let y : ⊥ = omega (arith, p .1, k .0) in y)
+      go (inl p) (inr (inr k)) = absurd (let y : ⊥ = omega (arith, p .1, k .0) in y)
+      go (inr (inl p)) (inl k) = absurd (let y : ⊥ = omega (arith, p .1, k .0) in y)
+      go (inr (inl p)) (inr (inl k)) = ap missing (p .0) ∙ sym (eq-eqb (noting R block m j (u % 2048)) 0 (omega (arith, k .1, p .2)))
+      go (inr (inl p)) (inr (inr k)) = absurd (let y : ⊥ = omega (arith, p .2, k .1, overs-most R u j, few) in y)
+      go (inr (inr p)) (inl k) = absurd (let y : ⊥ = omega (arith, p .2, k .0) in y)
+      go (inr (inr p)) (inr (inl k)) = ap missing (p .1) ∙ sym (ne-eqb (noting R block m j (u % 2048)) 0 (λ x. let y : ⊥ = omega (arith, k .1, p .3, x) in y))
+      go (inr (inr p)) (inr (inr k)) = ap missing (p .1) ∙ sym (ne-eqb (noting R block m j (u % 2048)) 0 (λ x. let y : ⊥ = omega (arith, k .2, few, x) in y))
 
   -- Who has a counter at the end has an entry from its first record on.
-  pub stays-on : m u ≡ absent → (n : ℕ) → leaving R u n ≤ R .departing u → noting R block m n (u % 2048) ≢ 0 → (j : ℕ) → j < n → R .from j ≡ u
+  pub stays-on : m u ≡ absent → (n : ℕ) → leaving R u n ≤ R .departing u → leaving R u n ≤ 65535 → noting R block m n (u % 2048) ≢ 0 → (j : ℕ) → j < n → R .from j ≡ u
       → one (along (R .from) (meets R) (suc j) u absent) ≡ 1
-  stays-on z n most on j l q = lasts-on R u n most (present z n most ∙ ne-eqb (noting R block m n (u % 2048)) 0 on) j l q
+  stays-on z n most few on j l q = lasts-on R u n most (present z n most few ∙ ne-eqb (noting R block m n (u % 2048)) 0 on) j l q

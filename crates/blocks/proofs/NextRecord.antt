@@ -10,7 +10,6 @@ use lib.Dec.{eqb}
 use borrow.Author.Tests.{eq-eqb, eqb-true}
 use Rattle.journeys.proofs.Tests.{Test, same, other, test, le-or-lt, never}
 use lib.Seq.{getD-set-same, getD-set-other}
-use Rattle.journeys.specs.Bytes.{be16}
 use lib.ListN.{length, getD, set, replicate, length-replicate, getD-replicate}
 use Rattle.passing.specs.Row.{Row}
 use Rattle.worktable.specs.Map.{Entry, absent, Map, put, touched, spent, one, size}
@@ -82,9 +81,9 @@ noting-step R block m j k {u} {x} {c} {y} q o p r =
     ∙ ap (λ (v : ℕ). cond (inBlock block v && (missing (m v) && eqb (v % 2048) k)) (chance (R .allowed) (R .offer j) (R .departing v) (noting R block m j k)) (noting R block m j k)) q
     ∙ ap (λ (i : ℕ). noting R block m i k) (sym (add-one j))
 
--- a new vertex of which a record comes has departing records
-pub new-departs : (R : Row) (n : ℕ) (m : Map) (j : ℕ) → j < n → {u : ℕ} → u ≡ R .from j → (m u ≡ absent → leaving R u n ≤ R .departing u) → m u ≡ absent → 0 < R .departing u
-new-departs R n m j l {u} q fresh z = omega (arith, fresh z, subst (λ (v : ℕ). suc (leaving R v j) ≤ leaving R v n) (sym q) (one-more (R .from) n j l))
+-- a new vertex of which a record comes has records
+pub new-has : (R : Row) (n : ℕ) (m : Map) (j : ℕ) → j < n → {u : ℕ} → u ≡ R .from j → (m u ≡ absent → leaving R u n ≤ R .departing u) → m u ≡ absent → 0 < R .departing u
+new-has R n m j l {u} q fresh z = omega (arith, fresh z, subst (λ (v : ℕ). suc (leaving R v j) ≤ leaving R v n) (sym q) (one-more (R .from) n j l))
 
 pub zero-length : {s : List ℕ} → s ≡ replicate 2048 0 → length s ≡ 2048
 zero-length e = ap length e ∙ length-replicate {A = ℕ} 2048 0
@@ -109,10 +108,6 @@ counter-set s i k x f n h e = go (eqb i k) (test i k)
     go : (b : Bool) → Test i k b → getD (set s i x) k 0 ≡ cond b (f (getD s k 0)) (getD s k 0)
     go true (same q) = ap (λ (z : ℕ). getD (set s i x) z 0) (sym q) ∙ getD-set-same s i x 0 (rw n h) ∙ e ∙ ap (λ (z : ℕ). f (getD s z 0)) q
     go false (other q) = getD-set-other s i k x 0 (λ z. q (sym z))
-
-pub half-fits : (b : List ℕ) (at n : ℕ) → n ≡ be16 b at → ((i : ℕ) → getD b i 0 < 256) → n < 65536
-unfolding be16
-half-fits b at n h l = omega (arith, h, l at, l (at + 1))
 
 pub some-number : (n : ℕ) → n ≢ 0 → 1 ≤ n
 some-number n h = ⊎-elim (λ (q : n ≤ 0). absurd (h (omega arith))) (λ (q : 0 < n). q) (le-or-lt n 0)

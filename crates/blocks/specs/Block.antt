@@ -2,12 +2,13 @@
 use mathlib.Core.Path.{_≡_}
 use mathlib.Core.Bool.{Bool, true, not, cond, _&&_}
 use mathlib.Core.List.{List}
-use Prim.Native.Nat.{ℕ, zero, suc, _-_, _/_, _%_, _≤_, _<_}
+use Prim.Native.Nat.{ℕ, zero, suc, _-_, _/_, _%_, _≤_, _<_, min}
 use lib.Dec.{eqb, ltb}
 use lib.ListN.{getD}
 use Rattle.journeys.specs.Counting.{one}
-use Rattle.passing.specs.Row.{Row, passes, fromOf, rowOf, Sound, Leaves}
-use Rattle.passing.specs.declared.Arriving.{Arriving}
+use Rattle.passing.specs.Row.{Row, passes}
+use Rattle.directed.specs.Directed.{nearOf, rowIn, Passable, Near}
+use Rattle.directed.specs.declared.Directed.{Directed}
 use Rattle.worktable.specs.Map as map
 use Rattle.worktable.specs.Map.{Entry, absent, known, Map, swept}
 use Rattle.worktable.specs.Table.{mapOf, InOrder}
@@ -25,9 +26,10 @@ staysIn s k = not (eqb (getD s k 0) 0)
 abbrev pub stayers : List ℕ → ℕ → ℕ → Bool
 stayers s block u = inBlock block u && staysIn s (u % 2048)
 
--- the counter c of a new vertex after a record with the offer b: it starts at the departing records, and each offer above D takes one off
+-- the counter c of a new vertex after a record with the offer b: it starts at what is due to it, and each offer above D takes one off. Two bytes hold 65,535: that limit is
+-- felt after the first record only, so that who has more is never told to be hopeless by the records of one row.
 unfoldable pub chance : ℕ → ℕ → ℕ → ℕ → ℕ
-chance D b departing c = cond (eqb c 0) departing c - one (ltb D b)
+chance D b due c = cond (eqb c 0) (min (due - one (ltb D b)) 65535) (c - one (ltb D b))
 
 -- those of a block that are spent are dropped
 abbrev pub sweeps : ℕ → (ℕ → ℕ) → ℕ → ℕ → Entry → Entry
@@ -58,11 +60,11 @@ module _ (R : Row) where
   unfoldable pub over : ℕ → ℕ → Map → Map
   over n block m u = cond (inBlock block u) (ended n u (m u)) (m u)
 
-  -- a new vertex of the block has no more records in the row than leave it
+  -- a new vertex of the block has no more records in the row than it has in all, nor than two bytes count
   abbrev pub Fresh : ℕ → ℕ → Map → Type 0
-  Fresh n block m = (u : ℕ) → u / 2048 ≡ block → m u ≡ absent → leaving R u n ≤ R .departing u
+  Fresh n block m = (u : ℕ) → u / 2048 ≡ block → m u ≡ absent → (leaving R u n ≤ R .departing u) × (leaving R u n ≤ 65535)
 
-  -- of whom `on` says so is not held, has no more records in the row than leave it, and has an entry from its first record on
+  -- of whom `on` says so is not held, has no more records in the row than it has in all, and has an entry from its first record on
   abbrev pub Newcomers : ℕ → (ℕ → Bool) → Map → Type 0
   Newcomers n on m = (u : ℕ) → on u ≡ true
       → (m u ≡ absent) × (leaving R u n ≤ R .departing u) × ((j : ℕ) → j < n → R .from j ≡ u → map.one (along (R .from) (meets R) (suc j) u absent) ≡ 1)
@@ -72,32 +74,32 @@ module _ (R : Row) where
   News n block s m = Newcomers n (stayers s block) m
 
 -- ---- what the contracts say of a row
-module _ (w h : List ℕ) (a : Arriving) (block : ℕ) where
+module _ (w h l : List ℕ) (a : Directed) (block : ℕ) where
   abbrev pub sweptBlock : Map → Map
-  sweptBlock m = goes (fromOf w h a) (sweeps (a .allowed .0) (fromOf w h a) block) (passes a) m
+  sweptBlock m = goes (nearOf w h l a) (sweeps (a .arriving .allowed .0) (nearOf w h l a) block) (passes (a .arriving)) m
 
-module _ (v w h : List ℕ) (a : Arriving) (block : ℕ) where
+module _ (v w h l : List ℕ) (a : Directed) (block : ℕ) where
   -- the counters s are those of the block
   abbrev pub Noted : Map → List ℕ → Type 0
-  Noted m s = (k : ℕ) → k < 2048 → getD s k 0 ≡ noting (rowOf v w h a) block m (passes a) k
+  Noted m s = (k : ℕ) → k < 2048 → getD s k 0 ≡ noting (rowIn v w h l a) block m (passes (a .arriving)) k
 
   abbrev pub addedBlock : List ℕ → Map → Map
-  addedBlock s m = goes (fromOf w h a) (adds (rowOf v w h a) s block) (passes a) m
+  addedBlock s m = goes (nearOf w h l a) (adds (rowIn v w h l a) s block) (passes (a .arriving)) m
 
   -- the map when the step is over for the block
   abbrev pub blockOver : Map → Map
-  blockOver m = over (rowOf v w h a) (passes a) block m
+  blockOver m = over (rowIn v w h l a) (passes (a .arriving)) block m
 
   -- what the end of a block starts from
   pub record Touched (t : Table) (b : List ℕ) : Type 0 where
     pub order : InOrder t b
-    pub sound : Sound w h a
-    pub leaves : Leaves v w h a
-    pub fresh : Fresh (rowOf v w h a) (passes a) block (mapOf t b)
+    pub sound : Passable w h l a
+    pub near : Near v w h l a
+    pub fresh : Fresh (rowIn v w h l a) (passes (a .arriving)) block (mapOf t b)
 
   -- what its additions start from, with the counters s
   pub record Swept (s : List ℕ) (t : Table) (b : List ℕ) : Type 0 where
     pub order : InOrder t b
-    pub sound : Sound w h a
-    pub leaves : Leaves v w h a
-    pub news : News (rowOf v w h a) (passes a) block s (mapOf t b)
+    pub sound : Passable w h l a
+    pub near : Near v w h l a
+    pub news : News (rowIn v w h l a) (passes (a .arriving)) block s (mapOf t b)

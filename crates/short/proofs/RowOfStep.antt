@@ -194,7 +194,7 @@ module _ (R : Row) (u : ℕ) where
       let few : overs R u n < R .departing u = omega (arith, g, overs-here R u j (sym q), leaving-here R u j (sym q), overs-most R u j, off, most) in
       sym (ap not (row-over R u n most (some-leave n j l q) ∙ ne-eqb (R .departing u - overs R u n) 0 (λ z. let y : ⊥ = omega arith in y)))
 
-  -- so do the departing records less the offers above D
+  -- so does what is due less the offers above D
   pub hope-left : (n : ℕ) (x : ℕ) → leaving R u n ≤ R .departing u → 0 < leaving R u n → x + overs R u n ≡ R .departing u → not (eqb x 0) ≡ lasting R n u
   hope-left n x most some e = ap (λ (k : ℕ). not (eqb k 0)) (let z : x ≡ R .departing u - overs R u n = omega arith in z) ∙ ap not (sym (row-over R u n most some))
 

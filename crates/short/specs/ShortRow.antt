@@ -5,8 +5,9 @@ use mathlib.Core.List.{List}
 use Prim.Native.Nat.{ℕ, _≤_, _<_}
 use lib.ListN.{getD}
 use Rattle.journeys.specs.Counting.{one}
-use Rattle.passing.specs.Row.{Row, passes, rowOf, Sound, Leaves}
-use Rattle.passing.specs.declared.Arriving.{Arriving}
+use Rattle.passing.specs.Row.{Row, passes}
+use Rattle.directed.specs.Directed.{rowIn, Passable, Near}
+use Rattle.directed.specs.declared.Directed.{Directed}
 use Rattle.worktable.specs.Map.{Entry, absent, Map, touched, swept}
 use Rattle.worktable.specs.Table.{mapOf, InOrder}
 use Rattle.worktable.specs.declared.Table.{Table}
@@ -27,27 +28,27 @@ lasting R n u = not (missing (along (R .from) (meets R) n u absent))
 abbrev pub comesTo : Row → ℕ → Map → ℕ → Bool
 comesTo R n m u = missing (m u) && lasting R n u
 
--- the marks s tell of each record whether the vertex that it leaves is new by m
+-- the marks s tell of each record whether the vertex at its other end is new by m
 abbrev pub Marked : Row → ℕ → Map → List ℕ → Type 0
 Marked R n m s = (k : ℕ) → k < n → getD s k 0 ≡ one (missing (m (R .from k)))
 
-module _ (v w h : List ℕ) (a : Arriving) where
+module _ (v w h l : List ℕ) (a : Directed) where
   -- all that are held have been met: from the bytes b to c
   abbrev pub KeptAll : Table → List ℕ → List ℕ → Table → Type 0
-  KeptAll t b c r = Leads t r c (goes (rowOf v w h a .from) (keeps (rowOf v w h a)) (passes a) (mapOf t b))
+  KeptAll t b c r = Leads t r c (goes (rowIn v w h l a .from) (keeps (rowIn v w h l a)) (passes (a .arriving)) (mapOf t b))
 
   -- what the additions start from: the marks s are those of the map before the step
   pub record Adding (s : List ℕ) (t : Table) (b : List ℕ) : Type 0 where
     pub order : InOrder t b
-    pub sound : Sound w h a
-    pub leaves : Leaves v w h a
+    pub sound : Passable w h l a
+    pub near : Near v w h l a
     pub before : Map
-    pub marked : Marked (rowOf v w h a) (passes a) before s
-    pub enough : Enough (rowOf v w h a) (passes a) before
-    pub kept : mapOf t b ≡ goes (rowOf v w h a .from) (keeps (rowOf v w h a)) (passes a) before
+    pub marked : Marked (rowIn v w h l a) (passes (a .arriving)) before s
+    pub enough : Enough (rowIn v w h l a) (passes (a .arriving)) before
+    pub kept : mapOf t b ≡ goes (rowIn v w h l a .from) (keeps (rowIn v w h l a)) (passes (a .arriving)) before
 
   -- the new ones that stay have been added, whichever map the marks are of
   abbrev pub AddedAll : List ℕ → Table → List ℕ → List ℕ → Arrived → Type 0
   AddedAll s t b c r =
-      (m : Map) → Marked (rowOf v w h a) (passes a) m s → Enough (rowOf v w h a) (passes a) m → mapOf t b ≡ goes (rowOf v w h a .from) (keeps (rowOf v w h a)) (passes a) m
-      → ArrivedIs t c (goes (rowOf v w h a .from) (addsIf (rowOf v w h a) (comesTo (rowOf v w h a) (passes a) m)) (passes a) (mapOf t b)) r
+      (m : Map) → Marked (rowIn v w h l a) (passes (a .arriving)) m s → Enough (rowIn v w h l a) (passes (a .arriving)) m → mapOf t b ≡ goes (rowIn v w h l a .from) (keeps (rowIn v w h l a)) (passes (a .arriving)) m
+      → ArrivedIs t c (goes (rowIn v w h l a .from) (addsIf (rowIn v w h l a) (comesTo (rowIn v w h l a) (passes (a .arriving)) m)) (passes (a .arriving)) (mapOf t b)) r

@@ -10,10 +10,11 @@ use lib.Dec.{eqb, ltb}
 use borrow.Author.Tests.{ne-eqb, lt-ltb, le-ltb, ltb-true, ltb-false}
 use Rattle.journeys.proofs.Tests.{split, le-or-lt, same-or-below, cond-true, cond-false}
 use Rattle.journeys.proofs.Counting.{none-count}
-use Rattle.passing.specs.Row.{Row, passes, fromOf, rowOf}
-use Rattle.passing.specs.declared.Arriving.{Arriving}
+use Rattle.passing.specs.Row.{Row, passes}
+use Rattle.directed.specs.Directed.{nearOf, rowIn}
+use Rattle.directed.specs.declared.Directed.{Directed}
 use Rattle.worktable.specs.Map.{Entry, absent, known, Map, one, sizeTo, size}
-use Rattle.meeting.specs.Passing.{missing, goes, along, meets, passed, left, leaving, Enough}
+use Rattle.meeting.specs.Passing.{missing, goes, along, meets, passed, left, leaving, Enough, Few}
 use Rattle.meeting.proofs.Along.{goes-along, along-none}
 use Rattle.meeting.proofs.Sizes.{size-eq-below}
 use Rattle.surveys.specs.Survey.{touches, touchesIn, meetsIn, touchedTo, Gap}
@@ -29,9 +30,9 @@ same-one (known d s r) absent h = absurd (let z : _≡_ {A = ℕ} 0 1 = cc in om
 same-one (known d s r) (known x y z) h = refl
 
 -- the vertices of a gap have no record in the row
-pub gap-none : (v w h : List ℕ) (a : Arriving) (lo hi : ℕ) → Gap w h a lo hi → (u : ℕ) → 2048 * lo ≤ u → u < 2048 * hi → leaving (rowOf v w h a) u (passes a) ≡ 0
-gap-none v w h a lo hi gap u p q =
-    none-count (λ i. eqb (fromOf w h a i) u) (passes a) (λ j l. ne-eqb (fromOf w h a j) u (λ e. ⊎-elim (λ (k : fromOf w h a j / 2048 < lo). omega (arith, e)) (λ (k : hi ≤ fromOf w h a j / 2048). omega (arith, e)) (gap j l)))
+pub gap-none : (v w h l : List ℕ) (a : Directed) (lo hi : ℕ) → Gap w h l a lo hi → (u : ℕ) → 2048 * lo ≤ u → u < 2048 * hi → leaving (rowIn v w h l a) u (passes (a .arriving)) ≡ 0
+gap-none v w h l a lo hi gap u p q =
+    none-count (λ i. eqb (nearOf w h l a i) u) (passes (a .arriving)) (λ j k. ne-eqb (nearOf w h l a j) u (λ e. ⊎-elim (λ (z : nearOf w h l a j / 2048 < lo). omega (arith, e)) (λ (z : hi ≤ nearOf w h l a j / 2048). omega (arith, e)) (gap j k)))
 
 module _ (R : Row) (n : ℕ) (m : Map) where
   -- ---- what is touched so far
@@ -65,7 +66,7 @@ module _ (R : Row) (n : ℕ) (m : Map) where
           (λ (l : u < 2048 * b). touched-below b u l ∙ sym (touched-below (suc b) u (omega arith)))
           (le-or-lt (2048 * b) u)
 
-  -- blocks that no record leaves
+  -- blocks without a record in the row
   pub touched-gap : (lo hi : ℕ) → lo ≤ hi → ((u : ℕ) → 2048 * lo ≤ u → u < 2048 * hi → leaving R u n ≡ 0) → touchedTo R n lo m ≡ touchedTo R n hi m
   touched-gap lo hi k none = fun-ext (λ u. go u (le-or-lt (2048 * lo) u) (le-or-lt (2048 * hi) u))
     where
@@ -108,6 +109,9 @@ module _ (R : Row) (n : ℕ) (m : Map) where
 
   pub enough-in : Enough R n m → (b : ℕ) → (u : ℕ) → u / 2048 ≡ b → leaving R u n ≤ left (R .departing u) (touchedTo R n b m u)
   enough-in enough b u q = subst (λ (e : Entry). leaving R u n ≤ left (R .departing u) e) (sym (touched-above b u (omega arith))) (enough u)
+
+  pub few-in : Few R n m → (b : ℕ) → (u : ℕ) → u / 2048 ≡ b → touchedTo R n b m u ≡ absent → leaving R u n ≤ 65535
+  few-in few b u q z = few u (sym (touched-above b u (omega arith)) ∙ z)
 
   -- ---- where the survey stands: the blocks below b have been surveyed, and those below `start` grow the most together
   pub record Stands (b total best start : ℕ) : Type 0 where

@@ -110,7 +110,8 @@ module _ (R : Row) (block u : ℕ) (there : u / 2048 ≢ block) where
   pub meet-out : (j : ℕ) (e : Entry) → along (R .from) (meetsIn R block) j u e ≡ e
   meet-out j e = along-id (R .from) (meetsIn R block) u e (λ i q. cond-false (meets R i e) e (not-block i q)) j
 
-module _ (R : Row) (n block : ℕ) (m : Map) (enough : (u : ℕ) → u / 2048 ≡ block → leaving R u n ≤ left (R .departing u) (m u)) (j : ℕ) (l : j < n) (g : ℕ) (some : 0 < g) where
+module _ (R : Row) (n block : ℕ) (m : Map) (enough : (u : ℕ) → u / 2048 ≡ block → leaving R u n ≤ left (R .departing u) (m u))
+    (few : (u : ℕ) → u / 2048 ≡ block → m u ≡ absent → leaving R u n ≤ 65535) (j : ℕ) (l : j < n) (g : ℕ) (some : 0 < g) where
   abbrev u : ℕ
   u = R .from j
 
@@ -135,7 +136,7 @@ module _ (R : Row) (n block : ℕ) (m : Map) (enough : (u : ℕ) → u / 2048 �
       grows = counts.count-grows (λ i. eqb (R .from i) u) (suc j) n l
 
       before : one (along (R .from) (meets R) j u absent) ≡ counting.one (not (eqb (noting R block m j (u % 2048)) 0))
-      before = one-missing (along (R .from) (meets R) j u absent) ∙ ap (λ (b : Bool). counting.one (not b)) (present R block m u here z j (omega (arith, most, more)))
+      before = one-missing (along (R .from) (meets R) j u absent) ∙ ap (λ (b : Bool). counting.one (not b)) (present R block m u here z j (omega (arith, most, more)) (omega (arith, few u here z, more)))
 
       next : along (R .from) (meets R) (suc j) u absent ≡ meets R j (along (R .from) (meets R) j u absent)
       next = along-next R u j refl absent
@@ -143,7 +144,7 @@ module _ (R : Row) (n block : ℕ) (m : Map) (enough : (u : ℕ) → u / 2048 �
       after : one (meets R j (along (R .from) (meets R) j u absent)) ≡ counting.one (not (eqb (chance (R .allowed) (R .offer j) d (noting R block m j (u % 2048))) 0))
       after =
           ap one (sym next) ∙ one-missing (along (R .from) (meets R) (suc j) u absent)
-          ∙ ap (λ (b : Bool). counting.one (not b)) (present R block m u here z (suc j) (omega (arith, most, grows)))
+          ∙ ap (λ (b : Bool). counting.one (not b)) (present R block m u here z (suc j) (omega (arith, most, grows)) (omega (arith, few u here z, grows)))
           ∙ ap (λ (c : ℕ). counting.one (not (eqb c 0))) (noting-here R block m u here j refl z)
   tally-entry here (known x y r) z =
       let q : leaving R u j < left d (known x y r) = omega (arith, one-more (R .from) n j l, left-at (known x y r) z) in
@@ -192,7 +193,7 @@ module _ (R : Row) (n block : ℕ) (m : Map) (enough : (u : ℕ) → u / 2048 �
       rw (entry-is h)
       (some-left (R .from) (touches R) (R .departing (R .from j)) n j (λ i e x. touched-left (R .offer i) (R .departing (R .from j)) x) (m (R .from j)) (enough (R .from j) (ap (λ (x : ℕ). x / 2048) (sym q) ∙ h)) l)
 
-  -- something remains to who is held, and who is not has departing records
+  -- something remains to who is held, and who is not has records
   pub survey-some : u / 2048 ≡ block → (M u ≢ absent → 0 < remainingOf (M u)) × (M u ≡ absent → 0 < R .departing u)
   survey-some h = (any-left (R .departing (R .from j)) (M u) (at-least h), λ z. rw q (omega (arith, at-least h, left-absent (R .departing (R .from j)) (M u) z)))
 
@@ -208,12 +209,12 @@ module _ (R : Row) (n block : ℕ) (m : Map) (enough : (u : ℕ) → u / 2048 �
       same-new true (same h) = ap (λ (z : Bool). z && eqb (u % 2048) k) (survey-missing h)
       same-new false (other h) = refl
 
-  pub tally-more : (g k : ℕ) → 0 < g → R .from j < 65536 → {x : ℕ} (s : List ℕ) → x ≡ R .offer j → ((i : ℕ) → i < 2048 → getD s i 0 ≡ noting R block m j i)
+  pub tally-more : ((v : ℕ) → v / 2048 ≡ block → m v ≡ absent → leaving R v n ≤ 65535) → (g k : ℕ) → 0 < g → R .from j < 65536 → {x : ℕ} (s : List ℕ) → x ≡ R .offer j → ((i : ℕ) → i < 2048 → getD s i 0 ≡ noting R block m j i)
       → k ≡ cond (inBlock block u) (tallied (R .allowed) x (R .departing u) (getD s (u % 2048) 0) g (M u)) g
       → g + size m ≡ n + size (goes (R .from) (meetsIn R block) j m) → k + size m ≡ n + size (goes (R .from) (meetsIn R block) (j + 1) m)
-  tally-more g k some low {x} s o counters r inv =
+  tally-more few g k some low {x} s o counters r inv =
       let v = R .from j in
-      let a = tally-step R n block m enough j l g some low in
+      let a = tally-step R n block m enough few j l g some low in
       let b : k ≡ cond (inBlock block v) (tallied (R .allowed) (R .offer j) (R .departing v) (noting R block m j (v % 2048)) g (goes (R .from) (touchesIn R block) j m v)) g =
       r ∙ ap (λ (y : ℕ). cond (inBlock block u) (tallied (R .allowed) y (R .departing u) (getD s (u % 2048) 0) g (M u)) g) o
       ∙ ap (λ (y : ℕ). cond (inBlock block y) (tallied (R .allowed) (R .offer j) (R .departing y) (getD s (y % 2048) 0) g (M y)) g) q

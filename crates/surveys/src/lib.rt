@@ -1,6 +1,6 @@
 // Before a step where room is scarce: every held vertex is touched, block by block, and how the number of entries is going to change.
 // Promises: all are touched, and the block answered is the one to begin with: from it on, round to it again, the table never has more entries than before or after the step.
-// Rests on: the counters of `blocks`, the row of `passing`, one look at an entry by `worktable`.
+// Rests on: the counters of `blocks`, the row of `directed`, one look at an entry by `worktable`.
 ghost use mathlib.Core.Path.{_≡_};
 ghost use mathlib.Core.Logic.{_≢_, _⊎_};
 ghost use mathlib.Core.Bool.{not, cond, _&&_};
@@ -8,10 +8,9 @@ ghost use Prim.Native.Nat.{ℕ, _+_, _-_, _/_, _%_, _<_, _≤_, max};
 ghost use lib.Dec.{eqb, ltb};
 ghost use lib.ListN.{length, getD, replicate};
 ghost use Rattle.journeys.specs.Counting.{one};
-ghost use Rattle.journeys.specs.Tables.{vertexAt};
 ghost use Rattle.worktable.specs.Map.{absent, touched, remainingOf, distanceLimit, Figure, put};
 ghost use Rattle.worktable.specs.Table.{mapOf, InOrder};
-ghost use Rattle.passing.specs.Row.{Counted};
+ghost use Rattle.directed.specs.Directed.{dueOf, Numbered};
 ghost use Rattle.meeting.specs.Passing.{missing, Ready};
 ghost use Rattle.meeting.specs.Answer.{Leads};
 ghost use Rattle.blocks.specs.Block.{inBlock, staysIn, chance};
@@ -19,9 +18,9 @@ ghost use Rattle.surveys.specs.Survey.{tallied, Waiting, Surveyed, Gap, 
 use blocks::note;
 use blocks::offer_in;
 use blocks::stays;
+use directed::Directed;
+use directed::near_at;
 use marks::clear;
-use passing::Arriving;
-use passing::from_at;
 use words::Ticks;
 use worktable::Passed;
 use worktable::Table;
@@ -47,44 +46,42 @@ fn changed(before: bool, after: bool, tally: usize) -> usize
 // A record of the new vertex u is noted: it may come to stay with it, or turn out to be hopeless.
 fn note_and_tally(
     vertices: &[u8],
+    row: Directed,
     u: usize,
     offer: Ticks,
-    allowed: Ticks,
     tally: usize,
     counters: &mut [u16],
 ) -> usize
-    requires { ⌜ (u < length (now vertices) / 12) × (0 < vertexAt (now vertices) u .departing) × (length (now counters) ≡ 2048) × (0 < tally) × (tally < 9223372036854775808) ⌝ }
-    ensures { λ r. ⌜ r ≡ tallied (allowed .0) (offer .0) (vertexAt (now (vertices .entry)) u .departing) (getD (now (counters .entry)) (u % 2048) 0) tally absent ⌝ }
-    ensures { λ _. ⌜ ((k : ℕ) → k < 2048 → getD (now (counters .exit)) k 0 ≡ cond (eqb (u % 2048) k) (chance (allowed .0) (offer .0) (vertexAt (now (vertices .entry)) u .departing) (getD (now (counters .entry)) k 0)) (getD (now (counters .entry)) k 0)) ⌝ }
+    requires { ⌜ (u < length (now vertices) / 12) × (0 < dueOf (now vertices) row u) × (length (now counters) ≡ 2048) × (0 < tally) × (tally < 9223372036854775808) ⌝ }
+    ensures { λ r. ⌜ r ≡ tallied (row .arriving .allowed .0) (offer .0) (dueOf (now (vertices .entry)) row u) (getD (now (counters .entry)) (u % 2048) 0) tally absent ⌝ }
+    ensures { λ _. ⌜ ((k : ℕ) → k < 2048 → getD (now (counters .exit)) k 0 ≡ cond (eqb (u % 2048) k) (chance (row .arriving .allowed .0) (offer .0) (dueOf (now (vertices .entry)) row u) (getD (now (counters .entry)) k 0)) (getD (now (counters .entry)) k 0)) ⌝ }
 {
     let before = stays(counters, u);
-    note(vertices, u, offer, allowed, counters);
+    note(vertices, row, u, offer, counters);
     changed(before, stays(counters, u), tally)
 }
 
-// One record from u, if it is of the block, is passed, and nobody is dropped or entered. The tally tells how the number of entries is going to change.
+// One record with u at its other end, if it is of the block, is passed, and nobody is dropped or entered. The tally tells how the number of entries is going to change.
 fn survey_one(
     held: &mut [u8],
     t: Table,
     vertices: &[u8],
+    row: Directed,
     u: usize,
     offer: Ticks,
-    allowed: Ticks,
     block: usize,
     tally: usize,
     counters: &mut [u16],
 ) -> usize
-    requires { ⌜ InOrder t (now held) × (u < length (now vertices) / 12) × Figure (offer .0) × (allowed .0 < distanceLimit) × (length (now counters) ≡ 2048) × (0 < tally) × (tally < 9223372036854775808) ⌝ }
-    requires { ⌜ (u / 2048 ≡ block → (mapOf t (now held) u ≢ absent → 0 < remainingOf (mapOf t (now held) u)) × (mapOf t (now held) u ≡ absent → 0 < vertexAt (now vertices) u .departing)) ⌝ }
+    requires { ⌜ InOrder t (now held) × (u < length (now vertices) / 12) × Figure (offer .0) × (row .arriving .allowed .0 < distanceLimit) × (length (now counters) ≡ 2048) × (0 < tally) × (tally < 9223372036854775808) ⌝ }
+    requires { ⌜ (u / 2048 ≡ block → (mapOf t (now held) u ≢ absent → 0 < remainingOf (mapOf t (now held) u)) × (mapOf t (now held) u ≡ absent → 0 < dueOf (now vertices) row u)) ⌝ }
     ensures { λ r. ⌜ Leads t t (now (held .exit)) (put (mapOf t (now (held .entry))) u (cond (inBlock block u) (touched (offer .0) (mapOf t (now (held .entry)) u)) (mapOf t (now (held .entry)) u))) ⌝ }
-    ensures { λ r. ⌜ r ≡ cond (inBlock block u) (tallied (allowed .0) (offer .0) (vertexAt (now (vertices .entry)) u .departing) (getD (now (counters .entry)) (u % 2048) 0) tally (mapOf t (now (held .entry)) u)) tally ⌝ }
-    ensures { λ _. ⌜ ((k : ℕ) → k < 2048 → getD (now (counters .exit)) k 0 ≡ cond (inBlock block u && (missing (mapOf t (now (held .entry)) u) && eqb (u % 2048) k)) (chance (allowed .0) (offer .0) (vertexAt (now (vertices .entry)) u .departing) (getD (now (counters .entry)) k 0)) (getD (now (counters .entry)) k 0)) ⌝ }
+    ensures { λ r. ⌜ r ≡ cond (inBlock block u) (tallied (row .arriving .allowed .0) (offer .0) (dueOf (now (vertices .entry)) row u) (getD (now (counters .entry)) (u % 2048) 0) tally (mapOf t (now (held .entry)) u)) tally ⌝ }
+    ensures { λ _. ⌜ ((k : ℕ) → k < 2048 → getD (now (counters .exit)) k 0 ≡ cond (inBlock block u && (missing (mapOf t (now (held .entry)) u) && eqb (u % 2048) k)) (chance (row .arriving .allowed .0) (offer .0) (dueOf (now (vertices .entry)) row u) (getD (now (counters .entry)) k 0)) (getD (now (counters .entry)) k 0)) ⌝ }
 {
     if u / 2048 == block {
-        match pass(held, t, u, offer.0, allowed.0) {
-            Passed::Absent => {
-                return note_and_tally(vertices, u, offer, allowed, tally, counters)
-            }
+        match pass(held, t, u, offer.0, row.arriving.allowed.0) {
+            Passed::Absent => { return note_and_tally(vertices, row, u, offer, tally, counters) }
             Passed::Kept => return tally,
             Passed::Spent(_) => return tally - 1,
         }
@@ -99,30 +96,21 @@ fn survey(
     vertices: &[u8],
     walks: &[u8],
     hops: &[u8],
-    arriving: Arriving,
+    list: &[u8],
+    row: Directed,
     block: usize,
     counters: &mut [u16],
 ) -> usize
-    requires { ⌜ Waiting (now vertices) (now walks) (now hops) arriving block t (now held) × (now counters ≡ replicate 2048 0) ⌝ }
-    ensures { λ r. ⌜ Surveyed (now (vertices .entry)) (now (walks .entry)) (now (hops .entry)) arriving block t (now (held .entry)) (now (held .exit)) r × (now (counters .exit) ≡ replicate 2048 0) ⌝ }
+    requires { ⌜ Waiting (now vertices) (now walks) (now hops) (now list) row block t (now held) × (now counters ≡ replicate 2048 0) ⌝ }
+    ensures { λ r. ⌜ Surveyed (now (vertices .entry)) (now (walks .entry)) (now (hops .entry)) (now (list .entry)) row block t (now (held .entry)) (now (held .exit)) r × (now (counters .exit) ≡ replicate 2048 0) ⌝ }
 {
-    let n = arriving.walks + arriving.hops;
+    let n = row.arriving.walks + row.arriving.hops;
     let mut tally = n;
     let mut j = 0;
     while j < n {
-        let u = from_at(walks, hops, arriving, j);
-        let offer = offer_in(walks, hops, arriving, j, u, block);
-        tally = survey_one(
-            held,
-            t,
-            vertices,
-            u,
-            offer,
-            arriving.allowed,
-            block,
-            tally,
-            counters,
-        );
+        let u = near_at(walks, hops, list, row, j);
+        let offer = offer_in(walks, hops, list, row, j, u, block);
+        tally = survey_one(held, t, vertices, row, u, offer, block, tally, counters);
         j += 1;
     }
     clear(counters);
@@ -142,16 +130,23 @@ fn nearer(next: usize, block: usize, first: usize) -> usize
     next
 }
 
-// The lowest block from first on, and below end, that a record of the row leaves; or end. Blocks that no record leaves are left alone.
-pub fn next_block(walks: &[u8], hops: &[u8], arriving: Arriving, first: usize, end: usize) -> usize
-    requires { ⌜ Counted (now walks) (now hops) arriving × (first ≤ «end») ⌝ }
-    ensures { λ r. ⌜ (first ≤ r) × (r ≤ «end») × Gap (now (walks .entry)) (now (hops .entry)) arriving first r ⌝ }
+// The lowest block from first on, and below end, that has a record in the row; or end. Blocks without one are left alone.
+pub fn next_block(
+    walks: &[u8],
+    hops: &[u8],
+    list: &[u8],
+    row: Directed,
+    first: usize,
+    end: usize,
+) -> usize
+    requires { ⌜ Numbered (now walks) (now hops) (now list) row × (first ≤ «end») ⌝ }
+    ensures { λ r. ⌜ (first ≤ r) × (r ≤ «end») × Gap (now (walks .entry)) (now (hops .entry)) (now (list .entry)) row first r ⌝ }
 {
-    let n = arriving.walks + arriving.hops;
+    let n = row.arriving.walks + row.arriving.hops;
     let mut next = end;
     let mut j = 0;
     while j < n {
-        let u = from_at(walks, hops, arriving, j);
+        let u = near_at(walks, hops, list, row, j);
         next = nearer(next, u / 2048, first);
         j += 1;
     }
@@ -184,23 +179,24 @@ pub fn survey_all(
     vertices: &[u8],
     walks: &[u8],
     hops: &[u8],
-    arriving: Arriving,
+    list: &[u8],
+    row: Directed,
     counters: &mut [u16],
 ) -> usize
-    requires { ⌜ Ready (now vertices) (now walks) (now hops) arriving t (now held) × (now counters ≡ replicate 2048 0) ⌝ }
-    ensures { λ r. ⌜ Started (now (vertices .entry)) (now (walks .entry)) (now (hops .entry)) arriving t (now (held .entry)) (now (held .exit)) r × (now (counters .exit) ≡ replicate 2048 0) ⌝ }
+    requires { ⌜ Ready (now vertices) (now walks) (now hops) (now list) row t (now held) × (now counters ≡ replicate 2048 0) ⌝ }
+    ensures { λ r. ⌜ Started (now (vertices .entry)) (now (walks .entry)) (now (hops .entry)) (now (list .entry)) row t (now (held .entry)) (now (held .exit)) r × (now (counters .exit) ≡ replicate 2048 0) ⌝ }
 {
-    let n = arriving.walks + arriving.hops;
+    let n = row.arriving.walks + row.arriving.hops;
     let mut total = 65536;
     let mut best = 65536;
     let mut start = 0;
-    let mut block = next_block(walks, hops, arriving, 0, 32);
+    let mut block = next_block(walks, hops, list, row, 0, 32);
     while block < 32 {
-        let tally = survey(held, t, vertices, walks, hops, arriving, block, counters);
+        let tally = survey(held, t, vertices, walks, hops, list, row, block, counters);
         total = total + tally - n;
         start = better(best, total, start, block + 1);
         best = greater(best, total);
-        block = next_block(walks, hops, arriving, block + 1, 32);
+        block = next_block(walks, hops, list, row, block + 1, 32);
     }
     start
 }

@@ -5,7 +5,8 @@ use Prim.Native.Nat.{ℕ, _+_, _-_, _/_, _%_}
 use native.Mathlib.Omega.{arith}
 use borrow.Author.Tests.{eq-eqb}
 use Rattle.journeys.proofs.Tests.{and-true}
-use Rattle.passing.specs.Row.{rowOf, passes}
+use Rattle.passing.specs.Row.{passes}
+use Rattle.directed.specs.Directed.{rowIn}
 use Rattle.worktable.specs.Map.{Entry, put, size}
 use Rattle.worktable.specs.Table.{mapOf}
 use Rattle.meeting.specs.Passing.{met}
@@ -16,45 +17,45 @@ use Rattle.meeting.proofs.Loops.{Went}
 use Rattle.blocks.specs.Block.{inBlock, staysIn, stayers, adds}
 use Rattle.blocks.proofs.BlockOfStep.{adds-size}
 use Rattle.blocks.proofs.NextRecord as nx
-use Rattle.passing.proofs.Few.{hops-few}
+use Rattle.directed.proofs.Either.{numbered, allowed-low, few}
 use borrow.Author.Needs.{needs}
 use Rattle.blocks.proofs.add.Statement.{statement}
 use Rattle.blocks.proofs.add.Tie as tie
 
 abbrev Inv-loop : tie.InvT-loop
-Inv-loop held₀ vertices walks hops arriving block counters n table₀ j₀ held table j =
-    Went (rowOf vertices walks hops arriving .from) (adds (rowOf vertices walks hops arriving) counters block) n table₀ held₀ table held j
+Inv-loop held₀ vertices walks hops list row block counters n table₀ j₀ held table j =
+    Went (rowIn vertices walks hops list row .from) (adds (rowIn vertices walks hops list row) counters block) n table₀ held₀ table held j
 
 abbrev μ-loop : tie.MeasureT-loop
-μ-loop held₀ vertices walks hops arriving block counters n table₀ j₀ held table j = n - j
+μ-loop held₀ vertices walks hops list row block counters n table₀ j₀ held table j = n - j
 
 add-n : tie.Need-add-n Inv-loop μ-loop
 add-n c =
-    let s = c .before .before .before .before .before .before in record { fits = omega (arith, s .pre .0 .sound .counted .walks, hops-few (s .pre .0 .sound .counted), s .good) }
+    let s = c .before .before .before .before .before .before .before in record { fits = omega (arith, few (numbered (s .pre .0 .sound)), s .good) }
 
 loop-holds : tie.Need-loop-holds Inv-loop μ-loop
-loop-holds c = lo.went-none (c .before .before .before .before .before .before .pre .0 .order)
+loop-holds c = lo.went-none (c .before .before .before .before .before .before .before .pre .0 .order)
 
-from-at-requires : tie.Need-from-at-requires Inv-loop μ-loop
-from-at-requires c κs = (c .before .before .before .before .before .before .before .before .pre .0 .sound .counted, c .loop-test .taken)
+near-at-requires : tie.Need-near-at-requires Inv-loop μ-loop
+near-at-requires c κs = (numbered (c .before .before .before .before .before .before .before .before .before .pre .0 .sound), c .loop-test .taken)
 
 offer-in-requires : tie.Need-offer-in-requires Inv-loop μ-loop
-offer-in-requires c κs = (c .before .before .before .before .before .before .before .before .before .pre .0 .sound, c .before .loop-test .taken)
+offer-in-requires c κs = (c .before .before .before .before .before .before .before .before .before .before .pre .0 .sound, c .before .loop-test .taken)
 
 add-one-requires : tie.Need-add-one-requires Inv-loop μ-loop
 add-one-requires c κs =
-    let s = c .before .before .before .before .before .before .before .before .before .before .before in
+    let s = c .before .before .before .before .before .before .before .before .before .before .before .before in
     let a = s .args in
     let y = s .pre .0 in
     let L = c .before .before .before .before .loop in
-    let R = rowOf (a .vertices .now) (a .walks .now) (a .hops .now) (a .arriving) in
-    let q = c .before .before .from-at .ensures in
+    let R = rowIn (a .vertices .now) (a .walks .now) (a .hops .now) (a .list .now) (a .row) in
+    let q = c .before .before .near-at .ensures in
     let l = c .before .before .before .loop-test .taken in
     let i = L .inv .leads in (
-      (i .holds .order, rw q (y .leaves .low (L .j) l), y .leaves .vertices, c .before .offer-in .ensures .1, s .pre .1, omega (arith, y .sound .allowed)),
+      (i .holds .order, rw q (y .near .low (L .j) l), y .near .vertices, c .before .offer-in .ensures .1, s .pre .1, omega (arith, allowed-low (y .sound))),
       λ h on.
-          let both = and-true (eq-eqb (c .before .before .from-at .result / 2048) (a .block) h) on in
-          (nx.added-left R (passes (a .arriving)) (mapOf (a .t) (a .held .now)) (L .j) l q (stayers (a .counters .now) (a .block)) (y .news) (i .holds .map) both, nx.added-entry R (passes (a .arriving)) (mapOf (a .t) (a .held .now)) (L .j) l q (stayers (a .counters .now) (a .block)) (y .news) (i .holds .map) (c .before .offer-in .ensures .0 h) both),
+          let both = and-true (eq-eqb (c .before .before .near-at .result / 2048) (a .block) h) on in
+          (nx.added-left R (passes (a .row .arriving)) (mapOf (a .t) (a .held .now)) (L .j) l q (stayers (a .counters .now) (a .block)) (y .news) (i .holds .map) both, nx.added-entry R (passes (a .row .arriving)) (mapOf (a .t) (a .held .now)) (L .j) l q (stayers (a .counters .now) (a .block)) (y .news) (i .holds .map) (c .before .offer-in .ensures .0 h) both),
     )
 
 same-length : tie.Need-same-length Inv-loop μ-loop
@@ -64,22 +65,22 @@ same-length c =
 returns : tie.Need-returns Inv-loop μ-loop
 unfolding ArrivedIs
 returns c =
-    let s = c .before .before .before .before .before .before .before .before .before .before .before .before .before .before .before .before in
+    let s = c .before .before .before .before .before .before .before .before .before .before .before .before .before .before .before .before .before in
     let a = s .args in
     let L = c .before .before .before .before .before .before .before .before .before .loop in
-    let R = rowOf (a .vertices .now) (a .walks .now) (a .hops .now) (a .arriving) in
+    let R = rowIn (a .vertices .now) (a .walks .now) (a .hops .now) (a .list .now) (a .row) in
     let i = L .inv .leads in
     let m = mapOf (a .t) (a .held .now) in
-    let f = lo.step-map (R .from) (R .offer) (λ u x e. cond (inBlock (a .block) u && staysIn (a .counters .now) (u % 2048)) (met (R .allowed) x (R .departing u) e) e) m (L .j) (i .holds .map) (c .before .before .before .before .before .before .before .from-at .ensures) refl in
-    let u = c .before .before .before .before .before .before .before .from-at .result in
+    let f = lo.step-map (R .from) (R .offer) (λ u x e. cond (inBlock (a .block) u && staysIn (a .counters .now) (u % 2048)) (met (R .allowed) x (R .departing u) e) e) m (L .j) (i .holds .map) (c .before .before .before .before .before .before .before .near-at .ensures) refl in
+    let u = c .before .before .before .before .before .before .before .near-at .result in
     let e = mapOf (L .table) (L .held) u in
     let g = ap (λ (y : Entry). size (put (mapOf (L .table) (L .held)) u y)) (nx.in-offer-and (a .block) u (λ x. met (R .allowed) x (R .departing u) e) e (staysIn (a .counters .now) (u % 2048)) (c .before .before .before .before .before .before .offer-in .ensures .0)) in
     let z = le.none-fits (L .table) (c .before .before .before .before .add-one .last .0) _ (c .before .before .before .before .add-one .ensures) (c .enum-told .given .1) in
-    omega (arith, z, i .room, g, ap size f, adds-size R (passes (a .arriving)) (stayers (a .counters .now) (a .block)) m (s .pre .0 .news) (L .j + 1) (passes (a .arriving)) (omega (arith, c .before .before .before .before .before .before .before .before .loop-test .taken)) (omega arith))
+    omega (arith, z, i .room, g, ap size f, adds-size R (passes (a .row .arriving)) (stayers (a .counters .now) (a .block)) m (s .pre .0 .news) (L .j + 1) (passes (a .row .arriving)) (omega (arith, c .before .before .before .before .before .before .before .before .loop-test .taken)) (omega arith))
 
 add-j : tie.Need-add-j Inv-loop μ-loop
 add-j c =
-    let s = c .before .before .before .before .before .before .before .before .before .before .before .before .before .before .before .before .before in record { fits = omega (arith, c .before .before .before .before .before .before .before .before .before .loop-test .taken, s .pre .0 .sound .counted .walks, hops-few (s .pre .0 .sound .counted), s .good) }
+    let s = c .before .before .before .before .before .before .before .before .before .before .before .before .before .before .before .before .before .before in record { fits = omega (arith, c .before .before .before .before .before .before .before .before .before .loop-test .taken, few (numbered (s .pre .0 .sound)), s .good) }
 
 loop-less : tie.Need-loop-less Inv-loop μ-loop
 loop-less c =
@@ -87,14 +88,14 @@ loop-less c =
 
 loop-again : tie.Need-loop-again Inv-loop μ-loop
 loop-again c =
-    let a = c .before .before .before .before .before .before .before .before .before .before .before .before .before .before .before .before .before .args in
-    let R = rowOf (a .vertices .now) (a .walks .now) (a .hops .now) (a .arriving) in
+    let a = c .before .before .before .before .before .before .before .before .before .before .before .before .before .before .before .before .before .before .args in
+    let R = rowIn (a .vertices .now) (a .walks .now) (a .hops .now) (a .list .now) (a .row) in
     let L = c .before .before .before .before .before .before .before .before .before .before .loop in
-    let u = c .before .before .before .before .before .before .before .before .from-at .result in
+    let u = c .before .before .before .before .before .before .before .before .near-at .result in
     let e = mapOf (L .table) (L .held) u in
     let g = ap (put (mapOf (L .table) (L .held)) u) (nx.in-offer-and (a .block) u (λ x. met (R .allowed) x (R .departing u) e) e (staysIn (a .counters .now) (u % 2048)) (c .before .before .before .before .before .before .before .offer-in .ensures .0)) in
     lo.went-on (R .from) (R .offer) (λ u x e. cond (inBlock (a .block) u && staysIn (a .counters .now) (u % 2048)) (met (R .allowed) x (R .departing u) e) e) (c .before .before .before .before .before .before .before .before .before .before .loop .inv) (c .before .before .before .before .before .before .before .before .before .loop-test .taken) (c .before .before .before .before .before .add-one .kept .0)
-    (le.leads-same (le.fits-leads (c .before .before .before .before .before .add-one .ensures) (c .before .next .given .1)) g) (c .before .before .before .before .before .before .before .before .from-at .ensures) refl
+    (le.leads-same (le.fits-leads (c .before .before .before .before .before .add-one .ensures) (c .before .next .given .1)) g) (c .before .before .before .before .before .before .before .before .near-at .ensures) refl
 
 same-length-2 : tie.Need-same-length-2 Inv-loop μ-loop
 same-length-2 c = c .before .loop .inv .lengths
@@ -110,7 +111,7 @@ add-spec =
     μ-loop
     add-n
     loop-holds
-    from-at-requires
+    near-at-requires
     offer-in-requires
     add-one-requires
     (λ c. search needs)

@@ -2,7 +2,7 @@
 use mathlib.Core.Path.{_≡_, refl, sym, ap, _∙_}
 use Prim.Native.Nat.{_/_, _%_}
 use borrow.Author.Tests.{eq-eqb, ne-eqb}
-use Rattle.journeys.specs.Tables.{vertexAt}
+use Rattle.directed.specs.Directed.{dueOf}
 use Rattle.journeys.proofs.Tests.{and-true, and-left, and-right, cond-true, cond-false}
 use Rattle.worktable.specs.Map.{put}
 use Rattle.worktable.specs.Table.{mapOf}
@@ -27,28 +27,28 @@ returns : tie.Need-returns
 returns c =
     let a = c .before .before .before .before .before .before .before .before .before .before .args in
     let m = mapOf (a .t) (a .held .now) in
-    let d = vertexAt (a .vertices .now) (a .u) .departing in
+    let d = dueOf (a .vertices .now) (a .row) (a .u) in
     let k = and-true (eq-eqb (a .u / 2048) (a .block) (c .before .before .before .before .before .before .if1 .taken)) (sym (c .before .before .before .before .before .stays .ensures) ∙ c .before .before .before .before .if2 .taken) in
     let x = c .before .before .meet-in-room in
-    nx.ends-at (a .t) (a .t) (x .last .0) refl (x .result) (ap (put m (a .u)) (sym (cond-true (met (a .allowed .0) (a .offer .0) d (m (a .u))) (m (a .u)) k))) (x .ensures)
+    nx.ends-at (a .t) (a .t) (x .last .0) refl (x .result) (ap (put m (a .u)) (sym (cond-true (met (a .row .arriving .allowed .0) (a .offer .0) d (m (a .u))) (m (a .u)) k))) (x .ensures)
 
 returns-2 : tie.Need-returns-2
 returns-2 c =
     let s = c .before .before .before .before .before .before in
     let a = s .args in
     let m = mapOf (a .t) (a .held .now) in
-    let d = vertexAt (a .vertices .now) (a .u) .departing in
+    let d = dueOf (a .vertices .now) (a .row) (a .u) in
     let off = and-right (inBlock (a .block) (a .u)) (sym (c .before .stays .ensures) ∙ c .if2 .left) in
-    le.fits-is (le.leads-here (s .pre .0 .0) (le.stays-put m (a .u) _ (sym (cond-false (met (a .allowed .0) (a .offer .0) d (m (a .u))) (m (a .u)) off))))
+    le.fits-is (le.leads-here (s .pre .0 .0) (le.stays-put m (a .u) _ (sym (cond-false (met (a .row .arriving .allowed .0) (a .offer .0) d (m (a .u))) (m (a .u)) off))))
 
 returns-3 : tie.Need-returns-3
 returns-3 c =
     let s = c .before .before .before .before in
     let a = s .args in
     let m = mapOf (a .t) (a .held .now) in
-    let d = vertexAt (a .vertices .now) (a .u) .departing in
+    let d = dueOf (a .vertices .now) (a .row) (a .u) in
     let off = and-left (staysIn (a .counters .now) (a .u % 2048)) (ne-eqb (a .u / 2048) (a .block) (c .if1 .left)) in
-    le.fits-is (le.leads-here (s .pre .0 .0) (le.stays-put m (a .u) _ (sym (cond-false (met (a .allowed .0) (a .offer .0) d (m (a .u))) (m (a .u)) off))))
+    le.fits-is (le.leads-here (s .pre .0 .0) (le.stays-put m (a .u) _ (sym (cond-false (met (a .row .arriving .allowed .0) (a .offer .0) d (m (a .u))) (m (a .u)) off))))
 
 pub add-one-spec : {M : Type 1} → statement M
 add-one-spec = tie.close (tie.spec stays-requires meet-in-room-requires (λ c. search needs) returns returns-2 returns-3)

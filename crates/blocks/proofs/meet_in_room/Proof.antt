@@ -2,7 +2,7 @@
 use mathlib.Core.Path.{_≡_, refl, sym, _∙_}
 use mathlib.Core.Bool.{false}
 use native.Mathlib.Omega.{arith}
-use Rattle.journeys.specs.Tables.{vertexAt}
+use Rattle.directed.specs.Directed.{dueOf}
 use Rattle.worktable.specs.Table.{mapOf}
 use Rattle.meeting.specs.Passing.{futile}
 use Rattle.meeting.specs.Answer.{ArrivedIs}
@@ -17,7 +17,7 @@ pass-requires : tie.Need-pass-requires
 pass-requires c κs =
     let s = c .before .before .before in
     let a = s .args in
-    (s .pre .0 .0, s .pre .0 .3, (λ h. omega (arith, s .pre .1 .0, en.left-known (vertexAt (a .vertices .now) (a .u) .departing) (mapOf (a .t) (a .held .now) (a .u)) h)), s .pre .0 .4)
+    (s .pre .0 .0, s .pre .0 .3, (λ h. omega (arith, s .pre .1 .0, en.left-known (dueOf (a .vertices .now) (a .row) (a .u)) (mapOf (a .t) (a .held .now) (a .u)) h)), s .pre .0 .4)
 
 lacks-slot-requires : tie.Need-lacks-slot-requires
 lacks-slot-requires c κs = c .before .before .before .pass .ensures .0 .holds .order
@@ -27,26 +27,26 @@ unfolding ArrivedIs
 returns c =
     let s = c .before .before .before .before .before .before .before .before .before in
     let a = s .args in
-    let d = vertexAt (a .vertices .now) (a .u) .departing in
+    let d = dueOf (a .vertices .now) (a .row) (a .u) in
     let p = c .before .before .before .before .before .pass in
-    nx.no-slot (a .allowed .0) (a .t) (a .held .now) (a .u) (a .offer .0) d (p .ensures .0) (p .result) (p .ensures .1) (omega (arith, s .pre .0)) (sym (c .before .lacks-slot .ensures) ∙ c .if1 .taken) (s .pre .1 .1) refl
+    nx.no-slot (a .row .arriving .allowed .0) (a .t) (a .held .now) (a .u) (a .offer .0) d (p .ensures .0) (p .result) (p .ensures .1) (omega (arith, s .pre .0)) (sym (c .before .lacks-slot .ensures) ∙ c .if1 .taken) (s .pre .1 .1) refl
 
 enter-or-drop-requires : tie.Need-enter-or-drop-requires
 enter-or-drop-requires c κs =
     let s = c .before .before .before .before .before .before .before .before .before .before in
     let a = s .args in
     let p = c .before .before .before .before .before .before .pass in
-    let d = vertexAt (a .vertices .now) (a .u) .departing in
+    let d = dueOf (a .vertices .now) (a .row) (a .u) in
     let x = a .offer .0 in (
-      (p .ensures .0 .holds .order, s .pre .0 .1, s .pre .0 .2, s .pre .0 .3, le.told-there (a .allowed .0) (a .t) (a .held .now) (a .u) x (p .ensures .0) (p .result) (p .ensures .1)),
-      le.new-there (futile (a .allowed .0) x d ≡ false) (a .t) (a .held .now) (a .u) x d (p .ensures .0) (s .pre .1 .0) (λ z q. nx.has-slot (a .allowed .0) (a .t) (a .held .now) (a .u) x (p .ensures .0) (p .result) (p .ensures .1) (sym (c .before .before .lacks-slot .ensures) ∙ c .before .if1 .left) z),
+      (p .ensures .0 .holds .order, s .pre .0 .1, s .pre .0 .2, s .pre .0 .3, le.told-there (a .row .arriving .allowed .0) (a .t) (a .held .now) (a .u) x (p .ensures .0) (p .result) (p .ensures .1)),
+      le.new-there (futile (a .row .arriving .allowed .0) x d ≡ false) (a .t) (a .held .now) (a .u) x d (p .ensures .0) (s .pre .1 .0) (λ z q. nx.has-slot (a .row .arriving .allowed .0) (a .t) (a .held .now) (a .u) x (p .ensures .0) (p .result) (p .ensures .1) (sym (c .before .before .lacks-slot .ensures) ∙ c .before .if1 .left) z),
     )
 
 returns-2 : tie.Need-returns-2
 returns-2 c =
     let a = c .before .before .before .before .before .before .before .before .before .before .before .before .before .args in
-    let d = vertexAt (a .vertices .now) (a .u) .departing in
-    le.fits-is (le.touched-met (a .allowed .0) (a .t) (a .held .now) (a .u) (a .offer .0) d (c .before .before .before .before .before .before .before .before .before .pass .ensures .0) (c .before .before .enter-or-drop .ensures))
+    let d = dueOf (a .vertices .now) (a .row) (a .u) in
+    le.fits-is (le.touched-met (a .row .arriving .allowed .0) (a .t) (a .held .now) (a .u) (a .offer .0) d (c .before .before .before .before .before .before .before .before .before .pass .ensures .0) (c .before .before .enter-or-drop .ensures))
 
 pub meet-in-room-spec : {M : Type 1} → statement M
 meet-in-room-spec = tie.close (tie.spec pass-requires lacks-slot-requires (λ c. search needs) returns enter-or-drop-requires (λ c. search needs) returns-2)

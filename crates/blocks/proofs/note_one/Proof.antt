@@ -5,7 +5,6 @@ use Prim.Native.Nat.{ℕ, _/_, _%_}
 use lib.Dec.{eqb}
 use lib.ListN.{getD}
 use borrow.Author.Tests.{eq-eqb, ne-eqb}
-use Rattle.journeys.specs.Tables.{vertexAt}
 use Rattle.journeys.proofs.Tests.{and-left, and-right, cond-false}
 use Rattle.worktable.specs.Table.{mapOf}
 use Rattle.worktable.proofs.TableLaws.{found-absent, found-place}

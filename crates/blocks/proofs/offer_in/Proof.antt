@@ -6,7 +6,7 @@ use Rattle.blocks.proofs.offer_in.Statement.{statement}
 use Rattle.blocks.proofs.offer_in.Tie as tie
 
 returns : tie.Need-returns
-returns c = ((λ h. c .offer-at .ensures .0), c .offer-at .ensures .1)
+returns c = ((λ h. c .brings-at .ensures .0), c .brings-at .ensures .1)
 
 returns-2 : tie.Need-returns-2
 returns-2 c = ((λ h. absurd (c .if1 .left h)), inl (omega arith))

@@ -7,8 +7,9 @@ use native.Mathlib.Omega.{arith}
 use lib.Dec.{eqb}
 use lib.ListN.{length, getD}
 use Rattle.journeys.proofs.Tests.{and-true}
-use Rattle.passing.specs.Row.{rowOf, passes}
-use Rattle.passing.proofs.Few.{hops-few}
+use Rattle.passing.specs.Row.{passes}
+use Rattle.directed.specs.Directed.{rowIn}
+use Rattle.directed.proofs.Either.{numbered, few}
 use Rattle.worktable.specs.Map.{Map, put, size}
 use Rattle.worktable.specs.Table.{mapOf}
 use Rattle.meeting.specs.Passing.{missing, met, meets, goes, Enough}
@@ -26,35 +27,35 @@ use Rattle.short.proofs.add.Statement.{statement}
 use Rattle.short.proofs.add.Tie as tie
 
 abbrev Inv-loop : tie.InvT-loop
-Inv-loop held₀ vertices walks hops arriving marks n table₀ j₀ held table j =
+Inv-loop held₀ vertices walks hops list row marks n table₀ j₀ held table j =
     (length held ≡ length held₀)
-    × ((m : Map) → Marked (rowOf vertices walks hops arriving) (passes arriving) m marks → Enough (rowOf vertices walks hops arriving) (passes arriving) m
-    → mapOf table₀ held₀ ≡ goes (rowOf vertices walks hops arriving .from) (keeps (rowOf vertices walks hops arriving)) (passes arriving) m
-    → Went (rowOf vertices walks hops arriving .from) (addsIf (rowOf vertices walks hops arriving) (comesTo (rowOf vertices walks hops arriving) (passes arriving) m)) n table₀ held₀ table held j)
+    × ((m : Map) → Marked (rowIn vertices walks hops list row) (passes (row .arriving)) m marks → Enough (rowIn vertices walks hops list row) (passes (row .arriving)) m
+    → mapOf table₀ held₀ ≡ goes (rowIn vertices walks hops list row .from) (keeps (rowIn vertices walks hops list row)) (passes (row .arriving)) m
+    → Went (rowIn vertices walks hops list row .from) (addsIf (rowIn vertices walks hops list row) (comesTo (rowIn vertices walks hops list row) (passes (row .arriving)) m)) n table₀ held₀ table held j)
 
 abbrev μ-loop : tie.MeasureT-loop
-μ-loop held₀ vertices walks hops arriving marks n table₀ j₀ held table j = n - j
+μ-loop held₀ vertices walks hops list row marks n table₀ j₀ held table j = n - j
 
 add-n : tie.Need-add-n Inv-loop μ-loop
-add-n c = let s = c .before .before .before .before .before .before in record { fits = omega (arith, s .pre .0 .sound .counted .walks, hops-few (s .pre .0 .sound .counted), s .good) }
+add-n c = let s = c .before .before .before .before .before .before .before in record { fits = omega (arith, few (numbered (s .pre .0 .sound)), s .good) }
 
 loop-holds : tie.Need-loop-holds Inv-loop μ-loop
-loop-holds c = let s = c .before .before .before .before .before .before in (refl, λ m k e p. lo.went-none (s .pre .0 .order))
+loop-holds c = let s = c .before .before .before .before .before .before .before in (refl, λ m k e p. lo.went-none (s .pre .0 .order))
 
 add-one-requires : tie.Need-add-one-requires Inv-loop μ-loop
 add-one-requires c κs =
-    let s = c .before .before .before .before .before .before .before .before .before in
+    let s = c .before .before .before .before .before .before .before .before .before .before in
     let a = s .args in
     let y = s .pre .0 in
     let L = c .before .before .loop in
     let l = c .before .loop-test .taken in
-    let R = rowOf (a .vertices .now) (a .walks .now) (a .hops .now) (a .arriving) in
-    let n = passes (a .arriving) in
+    let R = rowIn (a .vertices .now) (a .walks .now) (a .hops .now) (a .list .now) (a .row) in
+    let n = passes (a .row .arriving) in
     let m = y .before in
     let i = L .inv .1 m (y .marked) (y .enough) (y .kept) .leads in
     let news = row-news R n m (y .enough) (y .kept) in
     let new : getD (a .marks .now) (L .j) 0 ≢ 0 → missing (m (R .from (L .j))) ≡ true = λ h. mark-new (missing (m (R .from (L .j)))) (λ z. h (y .marked (L .j) l ∙ z)) in (
-      (i .holds .order, y .sound, y .leaves, l, s .pre .1, omega (arith, l, s .pre .2)),
+      (i .holds .order, y .sound, y .near, l, s .pre .1, omega (arith, l, s .pre .2)),
       (
         (λ h. new-few R n m (y .enough) (R .from (L .j)) (new h)),
         λ h t. (
@@ -70,12 +71,12 @@ same-length c = c .before .before .before .before .add-one .kept .0 ∙ c .befor
 returns : tie.Need-returns Inv-loop μ-loop
 unfolding ArrivedIs
 returns c =
-    let s = c .before .before .before .before .before .before .before .before .before .before .before .before .before .before in
+    let s = c .before .before .before .before .before .before .before .before .before .before .before .before .before .before .before in
     let a = s .args in
     let L = c .before .before .before .before .before .before .before .loop in
     let l = c .before .before .before .before .before .before .loop-test .taken in
-    let R = rowOf (a .vertices .now) (a .walks .now) (a .hops .now) (a .arriving) in
-    let n = passes (a .arriving) in
+    let R = rowIn (a .vertices .now) (a .walks .now) (a .hops .now) (a .list .now) (a .row) in
+    let n = passes (a .row .arriving) in
     let M = mapOf (L .table) (L .held) in
     let F = R .from (L .j) in
     let z = le.none-fits (L .table) (c .before .before .before .before .add-one .last .0) _ (c .before .before .before .before .add-one .ensures) (c .enum-told .given .1) in
@@ -87,19 +88,19 @@ returns c =
     omega (arith, z, i .room, g, ap size f, adds-size R n (comesTo R n m) (mapOf (a .t) (a .held .now)) (row-news R n m e p) (L .j + 1) n (omega (arith, l)) (omega arith))
 
 add-j : tie.Need-add-j Inv-loop μ-loop
-add-j c = let s = c .before .before .before .before .before .before .before .before .before .before .before .before .before .before .before in record { fits = omega (arith, c .before .before .before .before .before .before .before .loop-test .taken, s .pre .0 .sound .counted .walks, hops-few (s .pre .0 .sound .counted), s .good) }
+add-j c = let s = c .before .before .before .before .before .before .before .before .before .before .before .before .before .before .before .before in record { fits = omega (arith, c .before .before .before .before .before .before .before .loop-test .taken, few (numbered (s .pre .0 .sound)), s .good) }
 
 loop-less : tie.Need-loop-less Inv-loop μ-loop
 loop-less c = omega (arith, c .before .before .before .before .before .before .before .loop-test .taken)
 
 loop-again : tie.Need-loop-again Inv-loop μ-loop
 loop-again c =
-    let a = c .before .before .before .before .before .before .before .before .before .before .before .before .before .before .before .args in
+    let a = c .before .before .before .before .before .before .before .before .before .before .before .before .before .before .before .before .args in
     let L = c .before .before .before .before .before .before .before .before .loop in
     let l = c .before .before .before .before .before .before .before .loop-test .taken in
     let x = c .before .before .before .before .before .add-one in
-    let R = rowOf (a .vertices .now) (a .walks .now) (a .hops .now) (a .arriving) in
-    let n = passes (a .arriving) in
+    let R = rowIn (a .vertices .now) (a .walks .now) (a .hops .now) (a .list .now) (a .row) in
+    let n = passes (a .row .arriving) in
     let M = mapOf (L .table) (L .held) in
     let F = R .from (L .j) in (
       x .kept .0 ∙ L .inv .0,

@@ -1,6 +1,7 @@
 -- `short::pass_row` meets its contract: the held ones met and the new ones added are all records passed. Assumes nothing.
 use mathlib.Core.Path.{_∙_}
-use Rattle.passing.specs.Row.{rowOf, passes}
+use Rattle.passing.specs.Row.{passes}
+use Rattle.directed.specs.Directed.{rowIn}
 use Rattle.worktable.specs.Table.{mapOf}
 use Rattle.blocks.proofs.NextRecord as nx
 use Rattle.short.proofs.RowOfStep.{row-done}
@@ -10,32 +11,32 @@ use Rattle.short.proofs.pass_row.Tie as tie
 
 add-requires : tie.Need-add-requires
 add-requires c κs =
-    let s = c .before .before .before .before .before .before .before .before .before .before .before .before .before .before in
+    let s = c .before .before .before .before .before .before .before .before .before .before .before .before .before .before .before in
     let a = s .args in
     let y = s .pre .0 in
     let w = c .before .before .before .before .before .before .touch-row in (
       record {
         order = w .ensures .0 .holds .order;
         sound = y .sound;
-        leaves = y .leaves;
+        near = y .near;
         before = mapOf (a .t) (a .held .now);
         marked = w .ensures .1;
         enough = y .enough;
         kept = w .ensures .0 .holds .map;
       },
-      w .kept .1 .1 .1 .1 .1 .1 .0 ∙ s .pre .1,
+      w .kept .1 .1 .1 .1 .1 .1 .1 .0 ∙ s .pre .1,
       s .pre .2,
     )
 
 clear-requires : tie.Need-clear-requires
-clear-requires c κs = c .before .before .before .before .before .before .before .before .before .before .touch-row .kept .1 .1 .1 .1 .1 .1 .0 ∙ c .before .before .before .before .before .before .before .before .before .before .before .before .before .before .before .before .before .before .pre .1
+clear-requires c κs = c .before .before .before .before .before .before .before .before .before .before .touch-row .kept .1 .1 .1 .1 .1 .1 .1 .0 ∙ c .before .before .before .before .before .before .before .before .before .before .before .before .before .before .before .before .before .before .before .pre .1
 
 returns : tie.Need-returns
 returns c =
-    let s = c .before .before .before .before .before .before .before .before .before .before .before .before .before .before .before .before .before .before .before .before .before in
+    let s = c .before .before .before .before .before .before .before .before .before .before .before .before .before .before .before .before .before .before .before .before .before .before in
     let a = s .args in
-    let R = rowOf (a .vertices .now) (a .walks .now) (a .hops .now) (a .arriving) in
-    let n = passes (a .arriving) in
+    let R = rowIn (a .vertices .now) (a .walks .now) (a .hops .now) (a .list .now) (a .row) in
+    let n = passes (a .row .arriving) in
     let m = mapOf (a .t) (a .held .now) in
     let w = c .before .before .before .before .before .before .before .before .before .before .before .before .before .touch-row in
     let x = c .before .before .before .before .before .before .add in

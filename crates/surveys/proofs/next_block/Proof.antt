@@ -1,11 +1,11 @@
--- `surveys::next_block` meets its contract: of the first j records none leaves the blocks that are passed over. Assumes nothing.
+-- `surveys::next_block` meets its contract: the first j records have none in the blocks that are passed over. Assumes nothing.
 use mathlib.Core.Path.{_≡_, sym, subst}
 use mathlib.Core.Logic.{_⊎_, inl, inr, ⊎-elim}
 use Prim.Native.Nat.{ℕ, _+_, _-_, _/_, _≤_, _<_}
 use native.Mathlib.Omega.{arith}
 use Rattle.journeys.proofs.Tests.{le-or-lt}
-use Rattle.passing.specs.Row.{fromOf}
-use Rattle.passing.proofs.Few.{hops-few}
+use Rattle.directed.specs.Directed.{nearOf}
+use Rattle.directed.proofs.Either.{few}
 use borrow.Author.Needs.{needs}
 use Rattle.surveys.proofs.next_block.Statement.{statement}
 use Rattle.surveys.proofs.next_block.Tie as tie
@@ -23,29 +23,29 @@ far-more from first next r j u q less here far i l =
     same e = rw e q
 
 abbrev Inv-loop : tie.InvT-loop
-Inv-loop walks hops arriving first end n next₀ j₀ next j = (j ≤ n) × (first ≤ next) × (next ≤ end) × Far (fromOf walks hops arriving) first next j
+Inv-loop walks hops list row first end n next₀ j₀ next j = (j ≤ n) × (first ≤ next) × (next ≤ end) × Far (nearOf walks hops list row) first next j
 
 abbrev μ-loop : tie.MeasureT-loop
-μ-loop walks hops arriving first end n next₀ j₀ next j = n - j
+μ-loop walks hops list row first end n next₀ j₀ next j = n - j
 
 add-n : tie.Need-add-n Inv-loop μ-loop
-add-n c = let s = c .before .before .before in record { fits = omega (arith, s .pre .0 .walks, hops-few (s .pre .0), s .good) }
+add-n c = let s = c .before .before .before .before in record { fits = omega (arith, few (s .pre .0), s .good) }
 
 loop-holds : tie.Need-loop-holds Inv-loop μ-loop
-loop-holds c = (omega arith, c .before .before .before .pre .1, omega arith, λ i l. absurd (let z : ⊥ = omega arith in z))
+loop-holds c = (omega arith, c .before .before .before .before .pre .1, omega arith, λ i l. absurd (let z : ⊥ = omega arith in z))
 
-from-at-requires : tie.Need-from-at-requires Inv-loop μ-loop
-from-at-requires c κs = (c .before .before .before .before .before .pre .0, c .loop-test .taken)
+near-at-requires : tie.Need-near-at-requires Inv-loop μ-loop
+near-at-requires c κs = (c .before .before .before .before .before .before .pre .0, c .loop-test .taken)
 
 add-j : tie.Need-add-j Inv-loop μ-loop
-add-j c = let s = c .before .before .before .before .before .before .before in record { fits = omega (arith, c .before .before .loop-test .taken, s .pre .0 .walks, hops-few (s .pre .0), s .good) }
+add-j c = let s = c .before .before .before .before .before .before .before .before in record { fits = omega (arith, c .before .before .loop-test .taken, few (s .pre .0), s .good) }
 
 loop-again : tie.Need-loop-again Inv-loop μ-loop
 loop-again c =
-    let a = c .before .before .before .before .before .before .before .args in
+    let a = c .before .before .before .before .before .before .before .before .args in
     let L = c .before .before .before .loop in
     let x = c .nearer .ensures in
-    (omega arith, x .2 (L .inv .1), omega (arith, x .0, L .inv .2), far-more (fromOf (a .walks .now) (a .hops .now) (a .arriving)) (a .first) (L .next) (c .nearer .result) (L .j) (c .before .from-at .result) (c .before .from-at .ensures) (x .0) (x .1) (L .inv .3))
+    (omega arith, x .2 (L .inv .1), omega (arith, x .0, L .inv .2), far-more (nearOf (a .walks .now) (a .hops .now) (a .list .now) (a .row)) (a .first) (L .next) (c .nearer .result) (L .j) (c .before .near-at .result) (c .before .near-at .ensures) (x .0) (x .1) (L .inv .3))
 
 returns : tie.Need-returns Inv-loop μ-loop
 returns c =
@@ -60,7 +60,7 @@ next-block-spec =
     μ-loop
     add-n
     loop-holds
-    from-at-requires
+    near-at-requires
     (λ c κs. search needs)
     add-j
     (λ c. search needs)

@@ -5,7 +5,7 @@ use Prim.Native.Nat.{ℕ, _/_, _%_}
 use lib.Dec.{eqb}
 use lib.ListN.{getD}
 use borrow.Author.Tests.{eq-eqb, ne-eqb}
-use Rattle.journeys.specs.Tables.{vertexAt}
+use Rattle.directed.specs.Directed.{dueOf}
 use Rattle.journeys.proofs.Tests.{cond-true, cond-false, and-left, and-right}
 use Rattle.worktable.specs.Map.{put, touched}
 use Rattle.worktable.specs.Table.{mapOf}
@@ -31,18 +31,18 @@ note-and-tally-requires c κs =
     let x = a .offer .0 in
     let e = mapOf (a .t) (a .held .now) (a .u) in
     let p = c .before .before .before .before .before .pass in
-    let z = touched-absent x e (passed-absent (a .allowed .0) (a .t) (p .last .0) (a .u) (touched x e) (p .ensures .1) (c .before .enum-told .given .1)) in
+    let z = touched-absent x e (passed-absent (a .row .arriving .allowed .0) (a .t) (p .last .0) (a .u) (touched x e) (p .ensures .1) (c .before .enum-told .given .1)) in
     (s .pre .0 .1, s .pre .1 (c .before .before .before .before .before .before .before .if1 .taken) .1 z, s .pre .0 .4, s .pre .0 .5, s .pre .0 .6)
 
 returns : tie.Need-returns
 returns c =
     let s = c .before .before .before .before .before .before .before .before .before .before .before .before .before .before in
     let a = s .args in
-    let D = a .allowed .0 in
+    let D = a .row .arriving .allowed .0 in
     let x = a .offer .0 in
     let m = mapOf (a .t) (a .held .now) in
     let e = m (a .u) in
-    let d = vertexAt (a .vertices .now) (a .u) .departing in
+    let d = dueOf (a .vertices .now) (a .row) (a .u) in
     let k₀ = getD (a .counters .now) (a .u % 2048) 0 in
     let p = c .before .before .before .before .before .before .before .before .pass in
     let z = touched-absent x e (passed-absent D (a .t) (p .last .0) (a .u) (touched x e) (p .ensures .1) (c .before .before .before .before .enum-told .given .1)) in
@@ -57,11 +57,11 @@ returns-2 : tie.Need-returns-2
 returns-2 c =
     let s = c .before .before .before .before .before .before .before .before .before .before in
     let a = s .args in
-    let D = a .allowed .0 in
+    let D = a .row .arriving .allowed .0 in
     let x = a .offer .0 in
     let m = mapOf (a .t) (a .held .now) in
     let e = m (a .u) in
-    let d = vertexAt (a .vertices .now) (a .u) .departing in
+    let d = dueOf (a .vertices .now) (a .row) (a .u) in
     let k₀ = getD (a .counters .now) (a .u % 2048) 0 in
     let p = c .before .before .before .before .pass in
     let z = passed-kept D (a .t) (p .last .0) (a .u) (touched x e) (p .ensures .1) (c .enum-told2 .given .1) in
@@ -74,11 +74,11 @@ returns-3 : tie.Need-returns-3
 returns-3 c =
     let s = c .before .before .before .before .before .before .before .before .before .before in
     let a = s .args in
-    let D = a .allowed .0 in
+    let D = a .row .arriving .allowed .0 in
     let x = a .offer .0 in
     let m = mapOf (a .t) (a .held .now) in
     let e = m (a .u) in
-    let d = vertexAt (a .vertices .now) (a .u) .departing in
+    let d = dueOf (a .vertices .now) (a .row) (a .u) in
     let k₀ = getD (a .counters .now) (a .u % 2048) 0 in
     let p = c .before .before .before .before .pass in
     let z = passed-spent D (a .t) (p .last .0) (a .u) (touched x e) (p .ensures .1) (c .enum-told3 .given .1) in
@@ -91,11 +91,11 @@ returns-4 : tie.Need-returns-4
 returns-4 c =
     let s = c .before .before .before .before in
     let a = s .args in
-    let D = a .allowed .0 in
+    let D = a .row .arriving .allowed .0 in
     let x = a .offer .0 in
     let m = mapOf (a .t) (a .held .now) in
     let e = m (a .u) in
-    let d = vertexAt (a .vertices .now) (a .u) .departing in
+    let d = dueOf (a .vertices .now) (a .row) (a .u) in
     let k₀ = getD (a .counters .now) (a .u % 2048) 0 in
     let f = ne-eqb (a .u / 2048) (a .block) (c .if1 .left) in (
       le.leads-here (s .pre .0 .0) (le.stays-put m (a .u) _ (sym (cond-false (touched x e) e f))),
