@@ -124,10 +124,10 @@ module _ (size : ℕ) (wide : 16 ≤ size) (v w h list : List ℕ) (Q : Query) (
   R = rowIn v w h l a
 
   -- the stretch is as long as there are records that leave x
-  many : passes (a .arriving) ≡ same F x n
+  pub many : passes (a .arriving) ≡ same F x n
   many = omega (arith, same-grows F x (recordsIn 16 w) n (omega arith))
 
-  inside : s .first + passes (a .arriving) ≤ n
+  pub inside : s .first + passes (a .arriving) ≤ n
   inside = omega (arith, many, below-next F x n, below-most F (suc x) n)
 
   long-here : length l ≡ 4 * passes (a .arriving)

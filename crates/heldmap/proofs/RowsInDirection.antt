@@ -1,14 +1,24 @@
 -- The row that is read from the tables is the row of the network, in either direction. Assumes nothing.
-use mathlib.Core.Path.{_≡_, refl}
+use mathlib.Core.Path.{_≡_, refl, subst}
 use mathlib.Core.Bool.{Bool, true, false}
 use mathlib.Core.List.{List}
-use Prim.Native.Nat.{ℕ, _/_, _≤_, _<_}
-use lib.ListN.{length}
-use Rattle.journeys.specs.Bytes.{clocked}
-use Rattle.journeys.specs.Tables.{tablesOf}
+use Prim.Native.Nat.{ℕ, _+_, _*_, _/_, _≤_, _<_}
+use native.Mathlib.Omega.{arith}
+use mir.Syntax.{w8}
+use mir.Val.{Fits}
+use lib.Dec.{eqb}
+use lib.ListN.{length, getD}
+use borrow.Author.Tests.{lt-ltb}
+use Rattle.journeys.specs.Bytes.{be16, clocked}
+use Rattle.journeys.specs.Tables.{vertexAt, tablesOf}
 use Rattle.journeys.specs.Query.{Query, allowed}
 use Rattle.journeys.specs.Valid.{Valid}
-use Rattle.journeys.proofs.Tests.{never}
+use Rattle.journeys.proofs.Tests.{never, cond-true}
+use Rattle.journeys.proofs.Counting.{count-most}
+use Rattle.listing.specs.Places.{departingOf}
+use Rattle.listing.proofs.Froms.{departs}
+use Rattle.worktable.specs.Map.{Entry, Map}
+use Rattle.meeting.specs.Passing.{left, leaving, Enough, Few}
 use Rattle.words.specs.declared.Seconds.{Seconds}
 use Rattle.passing.specs.Row.{passes}
 use Rattle.directed.specs.Directed.{Passable, Near}
@@ -19,6 +29,11 @@ use Rattle.heldmap.specs.RowsOfTables.{Lists, stretchIn, numbersAt, walk
 use Rattle.heldmap.proofs.RowOfNetwork.{IsRow}
 use Rattle.heldmap.proofs.RunIsNetwork as ordinary
 use Rattle.heldmap.proofs.CourierRow as courier
+
+-- a departing field is two bytes
+two-bytes : (v : List ℕ) → ((i : ℕ) → Fits w8 (getD v i 0)) → (u : ℕ) → vertexAt v u .departing < 65536
+unfolding vertexAt be16
+two-bytes v h u = omega (arith, h (12 * u + 8), h (12 * u + 8 + 1))
 
 module _ (size : ℕ) (wide : 16 ≤ size) (v w h list : List ℕ) (Q : Query) (ok : Valid (tablesOf size v w h) Q) (x d : ℕ) (low : x < length v / 12) (near : d ≤ allowed Q) (A : Seconds) (clock : clocked (A .0) ≡ Q .arrival) where
   abbrev pub rowFor : Bool → Directed
@@ -38,3 +53,26 @@ module _ (size : ℕ) (wide : 16 ≤ size) (v w h list : List ℕ) (Q : Query) (
   unfolding stretchIn walksIn hopsIn directedAt
   near-in true L = courier.ends size wide v w h list Q ok (L .right refl) (L .long refl) x d near A clock
   near-in false L = ordinary-near _ _ _ _ refl v (ordinary.leaves size wide v w h Q ok x d low near A clock)
+
+  -- the stretch stands in the list
+  pub stretch-in : (c : Bool) → Lists c size w h list → stretchIn c size w h x .first + (stretchIn c size w h x .walks + stretchIn c size w h x .hops) ≤ length list / 4
+  unfolding stretchIn
+  stretch-in true L = omega (arith, courier.inside size wide v w h list Q ok (L .right refl) (L .long refl) x d near A clock, L .long refl)
+  stretch-in false L = omega arith
+
+  -- A new vertex has no more records in the row than two bytes count: an ordinary one has no more in all, and the courier's row has no more.
+  pub few-in : ((i : ℕ) → Fits w8 (getD v i 0)) → (c : Bool) → Lists c size w h list → (m : Map)
+      → Enough (rowOn c size v w h list x (rowFor c)) (passes (rowFor c .arriving)) m → Few (rowOn c size v w h list x (rowFor c)) (passes (rowFor c .arriving)) m
+  unfolding stretchIn walksIn hopsIn directedAt departingOf left
+  few-in bytes true L m E u e =
+      omega (
+        arith,
+        count-most (λ i. eqb (rowOn true size v w h list x (rowFor true) .from i) u) (passes (rowFor true .arriving)),
+        courier.many size wide v w h list Q ok (L .right refl) (L .long refl) x d near A clock,
+        departs size v w h (ok .tables) x,
+        cond-true (vertexAt v x .departing) 0 (lt-ltb x (length v / 12) low),
+        two-bytes v bytes x,
+      )
+  few-in bytes false L m E u e =
+      let q : leaving (rowOn false size v w h list x (rowFor false)) u (passes (rowFor false .arriving)) ≤ vertexAt v u .departing = subst (λ (y : Entry). leaving (rowOn false size v w h list x (rowFor false)) u (passes (rowFor false .arriving)) ≤ left (vertexAt v u .departing) y) e (E u) in
+      omega (arith, q, two-bytes v bytes u)

@@ -115,7 +115,16 @@ fn settle_and_pass<'a>(
     let walked = walks_at(vertices, walks, hops, row.arriving.size, row.courier, x);
     let ridden = hops_at(vertices, walks, hops, row.arriving.size, row.courier, x);
     let numbers = numbers_at(list, stretch);
-    arrivals::arrive(held, settled, vertices, walked, ridden, numbers, row, scratch)
+    arrivals::arrive(
+        held,
+        settled,
+        vertices,
+        walked,
+        ridden,
+        numbers,
+        row,
+        scratch,
+    )
 }
 
 // One step: x, at its slot, is the next vertex, with the distance d.

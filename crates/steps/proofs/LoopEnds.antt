@@ -4,7 +4,9 @@ use mathlib.Core.Bool.{Bool, true, false}
 use mathlib.Core.List.{List}
 use Prim.Native.Nat.{ℕ, suc, _+_, _/_, _≤_, _<_}
 use native.Mathlib.Omega.{arith}
-use lib.ListN.{length, take, replicate, length-take, length-replicate}
+use mir.Syntax.{w8}
+use mir.Val.{Fits}
+use lib.ListN.{length, getD, take, replicate, length-take, length-replicate}
 use borrow.Author.Tests.{le-leb, lt-leb}
 use Rattle.journeys.specs.Bytes.{clocked}
 use Rattle.journeys.specs.Tables.{Tables, vertexCount, tablesOf}
@@ -23,10 +25,14 @@ use Rattle.worktable.specs.Table.{mapOf, InOrder, Place}
 use Rattle.worktable.specs.declared.Nearest.{Nearest}
 use Rattle.worktable.specs.declared.Table.{Table}
 use Rattle.passing.specs.Row.{Row, passes}
-use Rattle.passing.specs.declared.Arriving.{Arriving}
+use Rattle.listing.specs.Places.{Sound}
+use Rattle.listing.proofs.Froms.{sound}
+use Rattle.stretches.specs.declared.Stretch.{Stretch}
+use Rattle.directed.specs.declared.Directed.{Directed}
 use Rattle.meeting.specs.Passing.{passed, Enough}
 use Rattle.heldmap.specs.Directions.{networkIn, distanceFor}
-use Rattle.heldmap.specs.Model.{Standing, heldMap, arrivingAt, rowAt, settledNow}
+use Rattle.heldmap.specs.Model.{Standing, heldMap, settledNow}
+use Rattle.heldmap.specs.RowsOfTables.{Lists, stretchIn, directedAt, rowOn}
 use Rattle.stepping.specs.Taken.{NextIs, StepIs, Begins, StepMade}
 use Rattle.steps.specs.Running.{WaitsIs, Running, Short, EndedIs, OrderIn, Stands, Ends}
 use Rattle.stepping.specs.declared.Progress.{Progress}
@@ -36,16 +42,12 @@ use Rattle.steps.specs.declared.Ended.the-variants.{Done, Refused}
 use Rattle.heldmap.proofs.ArrivingRun.{standing}
 use Rattle.heldmap.proofs.HeldMap.{beyond-none, none-waits}
 use Rattle.heldmap.proofs.RowOfNetwork.{IsRow}
-use Rattle.heldmap.proofs.RunIsNetwork.{is-row, sound, leaves}
+use Rattle.heldmap.proofs.RowsInDirection.{row-in, passable-in, near-in, stretch-in, few-in}
 use Rattle.heldmap.proofs.StepIsNext.{Searched, one-further, next-low, enough-next}
 use Rattle.heldmap.proofs.Directions.{waysIn, searched}
 use Rattle.steps.proofs.RunningNext.{onward, onward-short}
 
 -- what `waits` has from `next`
--- the records that arrive at x, where D is written in another way
-pub arriving-allowed : (size : ℕ) (v w h : List ℕ) (x d : ℕ) (A : Seconds) (speed : ℕ) {D D′ : ℕ} {a : Arriving} → D ≡ D′ → a ≡ arrivingAt size v w h x d A speed D → a ≡ arrivingAt size v w h x d A speed D′
-arriving-allowed size v w h x d A speed q e = e ∙ ap (arrivingAt size v w h x d A speed) q
-
 module _ (t : Table) (b : List ℕ) (D : ℕ) (r : Nearest) (h : NextIs t b D r) where
   pub waits-at : {s v d : ℕ} → r ≡ Nearest.At s v d → WaitsIs t b D true
   unfolding WaitsIs
@@ -169,50 +171,72 @@ module _ (c : Bool) (N : Tables) (heldLong settledLong : ℕ) (Q : query.Query) 
     unfolding WaitsIs
     none-wait below t = whole limit below (subst (λ (z : ℕ). WaitsIs (p .table) held z false) q (subst (WaitsIs (p .table) held D) t K))
 
--- ---- the ordinary row
-module _ (size : ℕ) (wide : 16 ≤ size) (v w h : List ℕ) (heldLong settledLong : ℕ) (Q : query.Query) (ok : Valid (tablesOf size v w h) Q) (p : Progress) (held settled : List ℕ)
-    (H : Stands false (tablesOf size v w h) heldLong settledLong Q p held settled) (s x d : ℕ) (n : NextIs (p .table) held (allowed Q) (Nearest.At s x d)) where
+-- ---- the row as it is read from the tables
+-- in the code's way: from the stretch as it was found, and D as it was worked out
+pub row-is : (c : Bool) (size : ℕ) (v w h : List ℕ) (x d : ℕ) (A : Seconds) (speed : ℕ) {D D′ : ℕ} {s t : Stretch} {a : Directed} → D ≡ D′ → s ≡ t → a ≡ directedAt c size v w h s x d A speed D → a ≡ directedAt c size v w h t x d A speed D′
+row-is c size v w h x d A speed {D} {D′} {s} {t} q e f = f ∙ ap (λ (y : Stretch). directedAt c size v w h y x d A speed D) e ∙ ap (directedAt c size v w h t x d A speed) q
+
+module _ (c : Bool) (size : ℕ) (wide : 16 ≤ size) (v w h list : List ℕ) (lists : Lists c size w h list) (heldLong settledLong : ℕ) (Q : query.Query) (ok : Valid (tablesOf size v w h) Q) (p : Progress) (held settled : List ℕ)
+    (H : Stands c (tablesOf size v w h) heldLong settledLong Q p held settled) (s x d : ℕ) (n : NextIs (p .table) held (allowed Q) (Nearest.At s x d)) where
   abbrev T : Tables
   T = tablesOf size v w h
 
   low : x < length v / 12
-  low = rw (vertex-count size v w h) at (x-low false T heldLong settledLong Q ok p held settled H s x d n)
+  low = rw (vertex-count size v w h) at (x-low c T heldLong settledLong Q ok p held settled H s x d n)
 
   -- its arriving records are a run of each table
   pub run-fits : Standing size v w h x
   run-fits = standing size v w h (ok .tables) x low
 
-  module _ (A : Seconds) (clock : clocked (A .0) ≡ Q .arrival) where
-    abbrev r : Arriving
-    r = arrivingAt size v w h x d A (Q .speed) (allowed Q)
+  -- and its stretch may be searched for
+  pub may-find : Lists c size w h list × Sound size v w h × (x < 4294967296)
+  may-find = (lists, sound size v w h (ok .tables) (omega arith), omega (arith, low, vertex-count size v w h, ok .tables .vertices-few))
 
-    pub row-here : IsRow (networkIn false T Q) x d (rowAt v w h x r) (passes r)
-    unfolding arrivingAt
-    row-here = is-row size wide v w h Q ok x d low (near false T heldLong settledLong Q ok p held settled H s x d n) A clock
+  module _ (A : Seconds) (clock : clocked (A .0) ≡ Q .arrival) where
+    abbrev stretch : Stretch
+    stretch = stretchIn c size w h x
+
+    abbrev r : Directed
+    r = directedAt c size v w h stretch x d A (Q .speed) (allowed Q)
+
+    abbrev R : Row
+    R = rowOn c size v w h list x r
+
+    close : d ≤ allowed Q
+    close = near c T heldLong settledLong Q ok p held settled H s x d n
+
+    pub row-here : IsRow (networkIn c T Q) x d R (passes (r .arriving))
+    row-here = row-in size wide v w h list Q ok x d low close A clock c lists
+
+    may-pass : Enough R (passes (r .arriving)) (settledNow (mapOf (p .table) held) x)
+    may-pass = enough c T heldLong settledLong Q ok p held settled H s x d n R (passes (r .arriving)) row-here
 
     -- the step may begin
-    pub begins : Begins v w h x s r (p .table) held
-    unfolding arrivingAt
-    begins =
-        let f = front false T heldLong settledLong Q ok p held settled H s x d n in
-        let l = near false T heldLong settledLong Q ok p held settled H s x d n in
+    pub begins : ((i : ℕ) → Fits w8 (getD v i 0)) → Begins v w h list x s stretch r (p .table) held
+    unfolding directedAt
+    begins bytes =
+        let f = front c T heldLong settledLong Q ok p held settled H s x d n in
         record {
-          order = table-order false T heldLong settledLong Q ok p held settled H;
-          place = place false T heldLong settledLong Q ok p held settled H s x d n;
+          order = table-order c T heldLong settledLong Q ok p held settled H;
+          place = place c T heldLong settledLong Q ok p held settled H s x d n;
           unsettled = f .waits .unsettled;
           some = omega (arith, f .waits .at, f .waits .some);
           standing = run-fits;
-          sound = sound size wide v w h Q ok x d low l A clock;
-          leaves = leaves size wide v w h Q ok x d low l A clock;
-          enough = enough false T heldLong settledLong Q ok p held settled H s x d n (rowAt v w h x r) (passes r) row-here;
-          inside = λ u b. inside false T heldLong settledLong Q ok p held settled H s x d n u (omega (arith, b, vertex-count size v w h));
+          wide = wide;
+          stretch = stretch-in size wide v w h list Q ok x d low close A clock c lists;
+          sound = passable-in size wide v w h list Q ok x d low close A clock c lists;
+          near = near-in size wide v w h list Q ok x d low close A clock c lists;
+          enough = may-pass;
+          few = few-in size wide v w h list Q ok x d low close A clock bytes c lists (settledNow (mapOf (p .table) held) x) may-pass;
+          inside = λ u b. inside c T heldLong settledLong Q ok p held settled H s x d n u (omega (arith, b, vertex-count size v w h));
         }
 
-    pub begins-as : (a : Arriving) → a ≡ r → Begins v w h x s a (p .table) held
-    begins-as a e = subst (λ (z : Arriving). Begins v w h x s z (p .table) held) (sym e) begins
+    pub begins-as : ((i : ℕ) → Fits w8 (getD v i 0)) → (t : Stretch) → t ≡ stretch → (a : Directed) → a ≡ r → Begins v w h list x s t a (p .table) held
+    begins-as bytes t e a f = subst (λ (y : Stretch). Begins v w h list x s y a (p .table) held) (sym e) (subst (λ (z : Directed). Begins v w h list x s stretch z (p .table) held) (sym f) (begins bytes))
 
-    -- one step, with the arriving records written in the code's way
-    pub step-as : (held′ settled′ : List ℕ) (a : Arriving) → a ≡ r → (y : Stepped) → StepMade v w h x a p held held′ settled settled′ y
-        → StepIs p (passed (rowAt v w h x r) (passes r) (settledNow (mapOf (p .table) held) x)) x d held′ settled settled′ y
-    unfolding arrivingAt
-    step-as held′ settled′ a e y T = subst (λ (z : Arriving). StepMade v w h x z p held held′ settled settled′ y) e T
+    -- one step, with the row written in the code's way
+    pub step-as : (held′ settled′ : List ℕ) (t : Stretch) → t ≡ stretch → (a : Directed) → a ≡ r → (y : Stepped) → StepMade v w h list x t a p held held′ settled settled′ y
+        → StepIs p (passed R (passes (r .arriving)) (settledNow (mapOf (p .table) held) x)) x d held′ settled settled′ y
+    unfolding directedAt
+    step-as held′ settled′ t e a f y S =
+        subst (λ (z : Stretch). StepMade v w h list x z r p held held′ settled settled′ y) e (subst (λ (z : Directed). StepMade v w h list x t z p held held′ settled settled′ y) f S)
