@@ -30,7 +30,7 @@ module _ (f : ℕ → ℕ) (n : ℕ) (up : (i : ℕ) → suc i < n → f i ≤ f
       let e : i + suc k ≡ suc (i + k) = omega arith in
       rw e (omega (arith, climbs i k (omega arith), up (i + k) (omega arith)))
 
-  climbs-to : (i j : ℕ) → i ≤ j → j < n → f i ≤ f j
+  pub climbs-to : (i j : ℕ) → i ≤ j → j < n → f i ≤ f j
   climbs-to i j h l = let e : i + (j - i) ≡ j = omega arith in subst (λ (k : ℕ). f i ≤ f k) e (climbs i (j - i) (omega arith))
 
   -- those below y come first
@@ -127,11 +127,11 @@ module _ (size : ℕ) (v w h : List ℕ) (ok : ValidTables (tablesOf size v w h)
   here : vertex N x ≡ vertexAt v x
   here = vertex-at size v w h x low
 
-  walk-first : firstOf Walks (vertexAt v x) ≡ count (λ i. ltb (walk N i .to) x) (walkCount N)
+  pub walk-first : firstOf Walks (vertexAt v x) ≡ count (λ i. ltb (walk N i .to) x) (walkCount N)
   unfolding firstOf
   walk-first = ap (λ y. y .firstWalk) (sym here) ∙ good-vertex N ok x low-in .walks
 
-  hop-first : firstOf Hops (vertexAt v x) ≡ count (λ j. ltb (hop N j .to) x) (hopCount N)
+  pub hop-first : firstOf Hops (vertexAt v x) ≡ count (λ j. ltb (hop N j .to) x) (hopCount N)
   unfolding firstOf
   hop-first = ap (λ y. y .firstHop) (sym here) ∙ good-vertex N ok x low-in .hops
 
@@ -140,7 +140,7 @@ module _ (size : ℕ) (v w h : List ℕ) (ok : ValidTables (tablesOf size v w h)
   beyond : length v / 12 ≤ x + 1 → suc x ≡ vertexCount (tablesOf size v w h)
   beyond e = omega (arith, vertex-count size v w h)
 
-  walk-end : endOf Walks v (length w / 16) x ≡ count (λ i. ltb (walk (tablesOf size v w h) i .to) (suc x)) (walkCount (tablesOf size v w h))
+  pub walk-end : endOf Walks v (length w / 16) x ≡ count (λ i. ltb (walk (tablesOf size v w h) i .to) (suc x)) (walkCount (tablesOf size v w h))
   unfolding endOf
   walk-end =
       ⊎-elim
@@ -155,7 +155,7 @@ module _ (size : ℕ) (v w h : List ℕ) (ok : ValidTables (tablesOf size v w h)
       ∙ ap (λ (y : ℕ). count (λ i. ltb (walk (tablesOf size v w h) i .to) y) (walkCount (tablesOf size v w h))) (let e : x + 1 ≡ suc x = omega arith in e))
       (le-or-lt (length v / 12) (x + 1))
 
-  hop-end : endOf Hops v (length h / size) x ≡ count (λ j. ltb (hop (tablesOf size v w h) j .to) (suc x)) (hopCount (tablesOf size v w h))
+  pub hop-end : endOf Hops v (length h / size) x ≡ count (λ j. ltb (hop (tablesOf size v w h) j .to) (suc x)) (hopCount (tablesOf size v w h))
   unfolding endOf
   hop-end =
       ⊎-elim

@@ -1,5 +1,9 @@
 pub mod HeldMap
 pub mod ArrivingRun
 pub mod MapAfterSettling
+pub mod RowOfNetwork
 pub mod RunIsNetwork
 pub mod StepIsNext
+pub mod Directions
+pub mod CourierRow
+pub mod RowsInDirection

@@ -1,49 +1,40 @@
--- The run of arriving records and the records of the network: passing the one is going through the other. Assumes nothing.
-use mathlib.Core.Path.{_≡_, refl, sym, ap, ap₂, subst, _∙_}
-use mathlib.Core.Logic.{inl, inr, ⊎-elim, _≢_}
-use mathlib.Core.Bool.{Bool, true, false, cond, _&&_}
-use mathlib.Core.List.{List, [], _∷_}
-use Prim.Native.Nat.{ℕ, zero, suc, _+_, _-_, _/_, _≤_, _<_}
+-- The run of the records that arrive at a vertex is the row of the network there. Assumes nothing.
+use mathlib.Core.Path.{_≡_, refl, sym, ap, subst, _∙_}
+use mathlib.Core.Logic.{_⊎_, inl, inr, ⊎-elim, _≢_}
+use mathlib.Core.Bool.{cond}
+use mathlib.Core.List.{List}
+use Prim.Native.Nat.{ℕ, suc, _+_, _-_, _/_, _≤_, _<_}
 use native.Mathlib.Omega.{arith}
-use native.Mathlib.Decide.{ℕ-discrete}
-use lib.Dec.{eqb}
+use lib.Dec.{ltb}
 use lib.ListN.{length}
-use borrow.Author.Tests.{lt-ltb, le-ltb, eq-eqb, eqb-true}
+use borrow.Author.Tests.{lt-ltb, le-ltb}
 use Rattle.journeys.specs.Bytes.{clocked}
-use Rattle.journeys.specs.Counting.{none, count, one}
+use Rattle.journeys.specs.Counting.{none}
 use Rattle.journeys.specs.Tables.{Tables, vertex, walk, hop, vertexCount, walkCount, hopCount, tablesOf, vertexAt, walkAt, hopAt}
-use Rattle.journeys.specs.Query.{Query, allowed, before}
-use Rattle.journeys.specs.Order.{Settled}
-use Rattle.journeys.specs.Network as network
-use Rattle.journeys.specs.Network.{Network, Held, distanceIn, within, remaining, held, row, entry}
+use Rattle.journeys.specs.Query.{Query, allowed}
+use Rattle.journeys.specs.Network.{Network}
 use Rattle.journeys.specs.Records as records
 use Rattle.journeys.specs.Records.{Record, walked, ridden, recordAt, recordCount, offer, departing}
-use Rattle.journeys.proofs.Tests.{cond-true, cond-false, le-or-lt, and-both, split}
-use Rattle.journeys.proofs.Counting.{count-grows, none-count}
+use Rattle.journeys.proofs.Tests.{cond-true, cond-false, le-or-lt}
 use Rattle.journeys.proofs.Decoding.{walk-at, hop-at, vertex-at, vertex-count, walk-count, hop-count}
 use Rattle.journeys.proofs.Valid.{good-hop, allowed-high}
 use Rattle.journeys.specs.Valid.{Valid}
-use Rattle.journeys.proofs.Document.{ways, laws, loopless, walk-record, hop-record}
+use Rattle.journeys.proofs.Document.{laws, walk-record, hop-record}
 use Rattle.journeys.proofs.Fits.{offer-fits, Fits}
-use Rattle.journeys.proofs.Known.{upd, Next}
-use Rattle.journeys.proofs.Step.{toward, toward-skip, remaining-step}
-use Rattle.journeys.proofs.Greedy.{State}
-use Rattle.journeys.proofs.Held.{departs, departs-is, partway-none, partway-all}
+use Rattle.journeys.proofs.Held.{departs}
 use Rattle.records.specs.Arriving.{firstOf, endOf}
 use Rattle.words.specs.Quantities.{DayTime}
 use Rattle.records.specs.declared.Kind.the-variants.{Walks, Hops}
 use Rattle.words.specs.declared.Seconds.{Seconds}
-use Rattle.worktable.specs.Map.{Entry, Map, put}
 use Rattle.records.specs.Columns.{recordsIn}
 use Rattle.records.proofs.Sizes.{as-many}
 use Rattle.records.proofs.Runs.{length-run, run-walk, run-hop}
 use Rattle.passing.specs.Row.{Row, asking, passes, recordOf, Rides, Sound, Leaves}
 use Rattle.passing.specs.declared.Arriving.{Arriving}
-use Rattle.meeting.specs.Passing as passing
-use Rattle.heldmap.specs.Model.{asEntry, heldMap, walksAt, hopsAt, rowAt}
+use Rattle.heldmap.specs.Model.{walksAt, hopsAt, rowAt}
 use Rattle.heldmap.proofs.ArrivingRun as arriving
 use Rattle.heldmap.proofs.ArrivingRun.{up-walk, up-hop, walk-run, hop-run, good-vertex}
-use Rattle.heldmap.proofs.MapAfterSettling.{midway, midway-skip, midway-step}
+use Rattle.heldmap.proofs.RowOfNetwork.{IsRow}
 
 -- the records that leave a vertex are those that its field counts
 pub departs-field : (N : Tables) (Q : Query) (u : ℕ) → departs (records.network N Q) u ≡ departing N u
@@ -56,17 +47,12 @@ unfolding offer
 same-offer Q (walked y) d = refl
 same-offer Q (ridden y) d = refl
 
-module _ (size : ℕ) (wide : 16 ≤ size) (v w h : List ℕ) (Q : Query) (ok : Valid (tablesOf size v w h) Q) {S : List Settled} (s : State (records.network (tablesOf size v w h) Q) (ways (tablesOf size v w h) Q) S) (x : ℕ)
-    (X : Next (records.network (tablesOf size v w h) Q) (distanceIn S) x) (near : network.known (records.network (tablesOf size v w h) Q) (distanceIn S) x ≤ allowed Q)
-    (A : Seconds) (clock : clocked (A .0) ≡ Q .arrival) where
+module _ (size : ℕ) (wide : 16 ≤ size) (v w h : List ℕ) (Q : Query) (ok : Valid (tablesOf size v w h) Q) (x d : ℕ) (low : x < length v / 12) (near : d ≤ allowed Q) (A : Seconds) (clock : clocked (A .0) ≡ Q .arrival) where
   abbrev N : Tables
   N = tablesOf size v w h
 
   abbrev G : Network
   G = records.network N Q
-
-  abbrev d : ℕ
-  d = network.known G (distanceIn S) x
 
   abbrev r : Arriving
   r = record {
@@ -89,17 +75,11 @@ module _ (size : ℕ) (wide : 16 ≤ size) (v w h : List ℕ) (Q : Query) (ok : 
   abbrev R : Row
   R = rowAt v w h x r
 
-  low : x < length v / 12
-  low = rw (vertex-count size v w h) at (X .low)
-
   wr : arriving.Run (λ i. walk N i .to) (walkCount N) (up-walk N (ok .tables)) x (firstOf Walks (vertexAt v x)) (endOf Walks v (length w / 16) x)
   wr = walk-run size v w h (ok .tables) x low
 
   hr : arriving.Run (λ j. hop N j .to) (hopCount N) (up-hop N (ok .tables)) x (firstOf Hops (vertexAt v x)) (endOf Hops v (length h / size) x)
   hr = hop-run size v w h (ok .tables) x low
-
-  abbrev mid : ℕ → Map
-  mid k = midway G (ways N Q) (laws N Q ok) (loopless N Q ok) s x X k
 
   -- ---- record j of the run, by its number in the network
   walks-in : endOf Walks v (length w / 16) x ≤ recordsIn 16 w
@@ -140,174 +120,108 @@ module _ (size : ℕ) (wide : 16 ≤ size) (v w h : List ℕ) (Q : Query) (ok : 
   departs-of u l =
       ap (λ z. z .departing) (sym (vertex-at size v w h u (rw (vertex-count size v w h) at l))) ∙ good-vertex N (ok .tables) u l .departs ∙ sym (departs-field N Q u)
 
-  -- ---- one record passed
-  pass-one : (j k : ℕ) → k < recordCount N → recordOf (walksAt v w x) (hopsAt size v h x) r j ≡ recordAt N k → G .to k ≡ x
-      → put (mid k) (R .from j) (passing.meets R j (mid k (R .from j))) ≡ mid (suc k)
-  pass-one j k l e t =
-      let f : R .from j ≡ G .from k = ap records.from e in
-      let o : R .offer j ≡ G .offer k d = offer-of (recordOf (walksAt v w x) (hopsAt size v h x) r j) ∙ ap (λ (y : Record). offer Q y d) e in
-      let q : R .departing (R .from j) ≡ departs G (G .from k) = ap (R .departing) f ∙ departs-of (G .from k) (laws N Q ok .from-low k l) in
-      let fit : G .offer k d ≤ none = small (offer-fits N Q ok k d l near) in
-      ap₂ (λ (u : ℕ) (y : Entry). put (mid k) u y) f
-      (ap₂ (λ (b c : ℕ). passing.met (G .allowed) b c (mid k (R .from j))) o q ∙ ap (λ (u : ℕ). passing.met (G .allowed) (G .offer k d) (departs G (G .from k)) (mid k u)) f)
-      ∙ sym (midway-step G (ways N Q) (laws N Q ok) (loopless N Q ok) s x X k l t fit)
-    where
-      small : {z : ℕ} → Fits z → z ≤ none
-      small (inl e) = omega arith
-      small (inr e) = omega arith
-
   walk-to : (i : ℕ) → i < walkCount N → G .to i ≡ walk N i .to
   walk-to i l = ap records.to (walk-record N i l)
 
   hop-to : (j : ℕ) → G .to (walkCount N + j) ≡ hop N j .to
   hop-to j = ap records.to (hop-record N j)
 
-  -- ---- records that lead elsewhere
-  before-walks : mid (fw) ≡ mid 0
-  before-walks =
-      midway-skip G (ways N Q) (laws N Q ok) (loopless N Q ok) s x X 0 (fw) (omega arith)
-      (λ i a b e. wr .before i b (sym (walk-to i (omega (arith, wr .order, wr .fit))) ∙ e))
+  -- ---- the numbers of the run: its walks, and then its hops
+  number : ℕ → ℕ
+  number j = cond (ltb j (r .walks)) (fw + j) (walkCount N + (fh + (j - r .walks)))
 
-  between : mid (walkCount N + fh) ≡ mid (fw + r .walks)
-  between =
-      midway-skip G (ways N Q) (laws N Q ok) (loopless N Q ok) s x X (fw + r .walks) (walkCount N + fh) (omega (arith, wr .order, wr .fit))
-      (λ i a b e. ⊎-elim
-      (λ (l : walkCount N ≤ i).
-      let k : walkCount N + (i - walkCount N) ≡ i = omega arith in
-      hr .before (i - walkCount N) (omega arith) (sym (hop-to (i - walkCount N)) ∙ ap (G .to) k ∙ e))
-      (λ (l : i < walkCount N). wr .after i (omega (arith, wr .order)) l (sym (walk-to i l) ∙ e))
-      (le-or-lt (walkCount N) i))
+  -- record j of the run in one of the two tables
+  data Numbering (j : ℕ) : Type 0 where
+    as-walk : fw + j < walkCount N → fw + j < endOf Walks v (length w / 16) x → number j ≡ fw + j → recordOf (walksAt v w x) (hopsAt size v h x) r j ≡ recordAt N (number j) → j < r .walks → Numbering j
+    as-hop : (i : ℕ) → fh + i < hopCount N → fh + i < endOf Hops v (length h / size) x → number j ≡ walkCount N + (fh + i) → recordOf (walksAt v w x) (hopsAt size v h x) r j ≡ recordAt N (number j) → j ≡ r .walks + i → Numbering j
 
-  after-hops : mid (recordCount N) ≡ mid (walkCount N + (fh + r .hops))
-  after-hops =
-      midway-skip G (ways N Q) (laws N Q ok) (loopless N Q ok) s x X (walkCount N + (fh + r .hops)) (recordCount N) (omega (arith, hr .order, hr .fit))
-      (λ i a b e.
-      let k : walkCount N + (i - walkCount N) ≡ i = omega arith in
-      hr .after (i - walkCount N) (omega (arith, hr .order)) (omega arith) (sym (hop-to (i - walkCount N)) ∙ ap (G .to) k ∙ e))
+  numbering : (j : ℕ) → j < passes r → Numbering j
+  unfolding number
+  numbering j l =
+      ⊎-elim
+      (λ (q : r .walks ≤ j).
+      let e : r .walks + (j - r .walks) ≡ j = omega arith in
+      let n : number j ≡ walkCount N + (fh + (j - r .walks)) = cond-false _ _ (le-ltb j (r .walks) q) in
+      as-hop (j - r .walks) (omega (arith, hr .order, hr .fit)) (omega (arith, hr .order)) n
+      (ap (recordOf (walksAt v w x) (hopsAt size v h x) r) (sym e) ∙ hop-of (j - r .walks) (omega arith) ∙ ap (recordAt N) (sym n)) (omega arith))
+      (λ (q : j < r .walks).
+      let n : number j ≡ fw + j = cond-true _ _ (lt-ltb j (r .walks) q) in
+      as-walk (omega (arith, wr .order, wr .fit)) (omega (arith, wr .order)) n (walk-of j q ∙ ap (recordAt N) (sym n)) q)
+      (le-or-lt (r .walks) j)
 
-  -- ---- all of them
-  pass-walks : (j : ℕ) → j ≤ r .walks → passing.passed R j (mid 0) ≡ mid (fw + j)
-  unfolding passing.goes
-  pass-walks zero l = sym (ap mid (let e : fw + 0 ≡ fw = omega arith in e) ∙ before-walks)
-  pass-walks (suc j) l =
-      let i : fw + j < walkCount N = omega (arith, wr .order, wr .fit) in
-      let e : fw + suc j ≡ suc (fw + j) = omega arith in
-      ap (λ (m : Map). put m (R .from j) (passing.meets R j (m (R .from j)))) (pass-walks j (omega arith))
-      ∙ pass-one j (fw + j) (omega arith) (walk-of j l) (walk-to (fw + j) i ∙ wr .inside (fw + j) (omega arith) (omega (arith, wr .order)))
-      ∙ ap mid (sym e)
-
-  pass-hops : (i : ℕ) → i ≤ r .hops → passing.passed R (r .walks + i) (mid 0) ≡ mid (walkCount N + (fh + i))
-  unfolding passing.goes
-  pass-hops zero l =
-      ap (λ (k : ℕ). passing.passed R k (mid 0)) (let e : r .walks + 0 ≡ r .walks = omega arith in e)
-      ∙ pass-walks (r .walks) (omega arith)
-      ∙ sym between
-      ∙ ap (λ (k : ℕ). mid (walkCount N + k)) (let e : fh ≡ fh + 0 = omega arith in e)
-  pass-hops (suc i) l =
-      let k : fh + i < hopCount N = omega (arith, hr .order, hr .fit) in
-      let e : walkCount N + (fh + suc i) ≡ suc (walkCount N + (fh + i)) = omega arith in
-      let j : r .walks + suc i ≡ suc (r .walks + i) = omega arith in
-      ap (λ (n : ℕ). passing.passed R n (mid 0)) j
-      ∙ ap (λ (m : Map). put m (R .from (r .walks + i)) (passing.meets R (r .walks + i) (m (R .from (r .walks + i))))) (pass-hops i (omega arith))
-      ∙ pass-one (r .walks + i) (walkCount N + (fh + i)) (omega arith) (hop-of i l) (hop-to (fh + i) ∙ hr .inside (fh + i) (omega arith) (omega (arith, hr .order)))
-      ∙ ap mid (sym e)
-
-  -- When the run has been passed, the map is that of S with x.
-  pub pass-all : (u : ℕ) → passing.passed R (passes r) (mid 0) u ≡ heldMap G (upd (distanceIn S) x d) u
-  unfolding midway heldMap
-  pass-all u = ap (λ (m : Map). m u) (pass-hops (r .hops) (omega arith) ∙ sym after-hops) ∙ ap asEntry (partway-all G (distanceIn S) x d (X .out) (X .some) u)
-
-  -- ---- how many records of the run leave u
-  leads-here : (u k : ℕ) → G .to k ≡ x → toward G x u k ≡ eqb (G .from k) u
-  unfolding toward
-  leads-here u k t = ap (λ (b : Bool). eqb (G .from k) u && b) (eq-eqb (G .to k) x t) ∙ and-yes (eqb (G .from k) u)
+  number-low : (j : ℕ) → j < passes r → number j < recordCount N
+  number-low j l = go (numbering j l)
     where
-      and-yes : (b : Bool) → b && true ≡ b
-      and-yes true = refl
-      and-yes false = refl
+      go : Numbering j → number j < recordCount N
+      go (as-walk a b e o q) = omega arith
+      go (as-hop i a b e o q) = omega arith
 
-  count-one : (u j k : ℕ) → recordOf (walksAt v w x) (hopsAt size v h x) r j ≡ recordAt N k → G .to k ≡ x → one (eqb (R .from j) u) ≡ one (toward G x u k)
-  count-one u j k e t = ap one (ap (λ (z : ℕ). eqb z u) (ap records.from e) ∙ sym (leads-here u k t))
-
-  leave-walks : (u j : ℕ) → j ≤ r .walks → passing.leaving R u j ≡ count (toward G x u) (fw + j)
-  unfolding count
-  leave-walks u zero l =
-      sym (ap (count (toward G x u)) (let e : fw + 0 ≡ fw = omega arith in e)
-      ∙ toward-skip G x 0 (fw) (omega arith) (λ i a b e. wr .before i b (sym (walk-to i (omega (arith, wr .order, wr .fit))) ∙ e)) u)
-  leave-walks u (suc j) l =
-      let i : fw + j < walkCount N = omega (arith, wr .order, wr .fit) in
-      let e : fw + suc j ≡ suc (fw + j) = omega arith in
-      let t : G .to (fw + j) ≡ x = walk-to (fw + j) i ∙ wr .inside (fw + j) (omega arith) (omega (arith, wr .order)) in
-      sym (ap (count (toward G x u)) e ∙ omega (arith, leave-walks u j (let q : j ≤ r .walks = omega arith in q), count-one u j (fw + j) (walk-of j l) t))
-
-  leave-hops : (u i : ℕ) → i ≤ r .hops → passing.leaving R u (r .walks + i) ≡ count (toward G x u) (walkCount N + (fh + i))
-  unfolding count
-  leave-hops u zero l =
-      ap (passing.leaving R u) (let e : r .walks + 0 ≡ r .walks = omega arith in e)
-      ∙ leave-walks u (r .walks) (omega arith)
-      ∙ sym (toward-skip G x (fw + r .walks) (walkCount N + fh) (omega (arith, wr .order, wr .fit)) elsewhere u)
-      ∙ ap (λ (k : ℕ). count (toward G x u) (walkCount N + k)) (let e : fh ≡ fh + 0 = omega arith in e)
+  of-number : (j : ℕ) → j < passes r → recordOf (walksAt v w x) (hopsAt size v h x) r j ≡ recordAt N (number j)
+  of-number j l = go (numbering j l)
     where
-      elsewhere : (i : ℕ) → fw + r .walks ≤ i → i < walkCount N + fh → G .to i ≢ x
-      elsewhere i a b e =
+      go : Numbering j → recordOf (walksAt v w x) (hopsAt size v h x) r j ≡ recordAt N (number j)
+      go (as-walk a b e o q) = o
+      go (as-hop i a b e o q) = o
+
+  -- The run is the row of the network at x.
+  pub is-row : IsRow G x d R (passes r)
+  unfolding number
+  is-row =
+      record {
+        number = number;
+        ascends = λ j l. up j (numbering j (omega arith)) (numbering (suc j) l);
+        low = number-low;
+        leads = λ j l. leads j (numbering j l);
+        elsewhere = λ k l q e. go-elsewhere k l q e (le-or-lt (walkCount N) k);
+        from = λ j l. ap records.from (of-number j l);
+        offer = λ j l. offer-of (recordOf (walksAt v w x) (hopsAt size v h x) r j) ∙ ap (λ (y : Record). offer Q y d) (of-number j l);
+        small = λ j l. fits (offer-fits N Q ok (number j) d (number-low j l) near);
+        departing = departs-of;
+        allowed = refl;
+      }
+    where
+      fits : {z : ℕ} → Fits z → z ≤ none
+      fits (inl e) = omega arith
+      fits (inr e) = omega arith
+
+      up : (j : ℕ) → Numbering j → Numbering (suc j) → number j < number (suc j)
+      up j (as-walk a b e o q) (as-walk a′ b′ e′ o′ q′) = omega arith
+      up j (as-walk a b e o q) (as-hop i′ a′ b′ e′ o′ q′) = omega arith
+      up j (as-hop i a b e o q) (as-walk a′ b′ e′ o′ q′) = absurd (let z : ⊥ = omega arith in z)
+      up j (as-hop i a b e o q) (as-hop i′ a′ b′ e′ o′ q′) = omega arith
+
+      leads : (j : ℕ) → Numbering j → G .to (number j) ≡ x
+      leads j (as-walk a b e o q) = ap (G .to) e ∙ walk-to (fw + j) a ∙ wr .inside (fw + j) (omega arith) b
+      leads j (as-hop i a b e o q) = ap (G .to) e ∙ hop-to (fh + i) ∙ hr .inside (fh + i) (omega arith) b
+
+      -- a walk or a hop outside its run leads elsewhere, one inside has its number
+      walk-elsewhere : (k : ℕ) → k < walkCount N → ((j : ℕ) → j < passes r → number j ≢ k) → walk N k .to ≢ x
+      walk-elsewhere k l q e =
           ⊎-elim
-          (λ (l : walkCount N ≤ i).
-          let k : walkCount N + (i - walkCount N) ≡ i = omega arith in
-          hr .before (i - walkCount N) (omega arith) (sym (hop-to (i - walkCount N)) ∙ ap (G .to) k ∙ e))
-          (λ (l : i < walkCount N). wr .after i (omega (arith, wr .order)) l (sym (walk-to i l) ∙ e))
-          (le-or-lt (walkCount N) i)
-  leave-hops u (suc i) l =
-      let k : fh + i < hopCount N = omega (arith, hr .order, hr .fit) in
-      let e : walkCount N + (fh + suc i) ≡ suc (walkCount N + (fh + i)) = omega arith in
-      let j : r .walks + suc i ≡ suc (r .walks + i) = omega arith in
-      let t : G .to (walkCount N + (fh + i)) ≡ x = hop-to (fh + i) ∙ hr .inside (fh + i) (omega arith) (omega (arith, hr .order)) in
-      ap (passing.leaving R u) j
-      ∙ sym (ap (count (toward G x u)) e
-      ∙ omega (arith, leave-hops u i (let q : i ≤ r .hops = omega arith in q), count-one u (r .walks + i) (walkCount N + (fh + i)) (hop-of i l) t))
+          (λ (a : fw ≤ k).
+          ⊎-elim (λ (b : endOf Walks v (length w / 16) x ≤ k). wr .after k b l e)
+          (λ (b : k < endOf Walks v (length w / 16) x). q (k - fw) (omega arith) (cond-true _ _ (lt-ltb (k - fw) (r .walks) (omega arith)) ∙ (let z : fw + (k - fw) ≡ k = omega arith in z)))
+          (le-or-lt (endOf Walks v (length w / 16) x) k))
+          (λ (a : k < fw). wr .before k a e)
+          (le-or-lt fw k)
 
-  leave-all : (u : ℕ) → passing.leaving R u (passes r) ≤ count (toward G x u) (recordCount N)
-  leave-all u =
-      omega (arith, leave-hops u (r .hops) (let q : r .hops ≤ r .hops = omega arith in q), count-grows (toward G x u) (walkCount N + (fh + r .hops)) (recordCount N) (let q : walkCount N + (fh + r .hops) ≤ recordCount N = omega (arith, hr .order, hr .fit) in q))
+      hop-elsewhere : (i : ℕ) → i < hopCount N → ((j : ℕ) → j < passes r → number j ≢ walkCount N + i) → hop N i .to ≢ x
+      hop-elsewhere i l q e =
+          ⊎-elim
+          (λ (a : fh ≤ i).
+          ⊎-elim (λ (b : endOf Hops v (length h / size) x ≤ i). hr .after i b l e)
+          (λ (b : i < endOf Hops v (length h / size) x).
+          q (r .walks + (i - fh)) (omega arith)
+          (cond-false _ _ (le-ltb (r .walks + (i - fh)) (r .walks) (omega arith)) ∙ (let z : walkCount N + (fh + ((r .walks + (i - fh)) - r .walks)) ≡ walkCount N + i = omega arith in z)))
+          (le-or-lt (endOf Hops v (length h / size) x) i))
+          (λ (a : i < fh). hr .before i a e)
+          (le-or-lt fh i)
 
-  -- u has no such record if it is x itself or no vertex
-  none-toward : (u : ℕ) → ((k : ℕ) → k < recordCount N → G .from k ≡ u → G .to k ≡ x → ⊥) → count (toward G x u) (recordCount N) ≡ 0
-  unfolding toward
-  none-toward u h =
-      none-count (toward G x u) (recordCount N)
-      (λ k l. ⊎-elim (λ (e : toward G x u k ≡ true). absurd (let p = and-both (eqb (G .from k) u) _ e in h k l (eqb-true _ _ (p .0)) (eqb-true _ _ (p .1)))) (λ (e : toward G x u k ≡ false). e) (split (toward G x u k)))
-
-  -- the entries of the others are those of S
-  other-entry : (u : ℕ) → u ≢ x → mid 0 u ≡ heldMap G (distanceIn S) u
-  unfolding midway heldMap
-  other-entry u n = ap asEntry (partway-none G (distanceIn S) x d (X .out) (X .some) u n)
-
-  by-entry : (u : ℕ) {c : ℕ} → c ≤ remaining G (distanceIn S) u → c ≤ R .departing u → c ≤ passing.left (R .departing u) (heldMap G (distanceIn S) u)
-  unfolding heldMap entry row passing.left
-  by-entry u {c} a b = go (held G (distanceIn S) u)
-    where
-      y : Held
-      y = record { vertex = u; distance = network.known G (distanceIn S) u; state = cond (within (distanceIn S) u) 1 0; remaining = remaining G (distanceIn S) u }
-
-      go : (t : Bool) → c ≤ passing.left (R .departing u) (asEntry (cond t (y ∷ []) []))
-      go true = a
-      go false = b
-
-  -- No vertex has more records in the run than remain to it.
-  pub enough : passing.Enough R (passes r) (mid 0)
-  enough u = omega (arith, leave-all u, go (ℕ-discrete u x))
-    where
-      held-left : count (toward G x u) (recordCount N) ≤ remaining G (distanceIn S) u
-      held-left = omega (arith, remaining-step G (distanceIn S) x d (X .out) (X .some) u)
-
-      absent-left : count (toward G x u) (recordCount N) ≤ R .departing u
-      absent-left =
-          ⊎-elim (λ (l : vertexCount N ≤ u). omega (arith, none-toward u (λ k kl f t. absurd (let z : ⊥ = omega (arith, laws N Q ok .from-low k kl) in z))))
-          (λ (l : u < vertexCount N). omega (arith, held-left, departs-of u l, departs-is G (distanceIn S) u))
-          (le-or-lt (vertexCount N) u)
-
-      go : Dec (u ≡ x) → count (toward G x u) (recordCount N) ≤ passing.left (R .departing u) (mid 0 u)
-      go (yes e) = omega (arith, none-toward u (λ k kl f t. loopless N Q ok k kl (f ∙ e ∙ sym t)))
-      go (no n) = subst (λ (y : Entry). count (toward G x u) (recordCount N) ≤ passing.left (R .departing u) y) (sym (other-entry u n)) (by-entry u held-left absent-left)
+      go-elsewhere : (k : ℕ) → k < recordCount N → ((j : ℕ) → j < passes r → number j ≢ k) → G .to k ≡ x → (walkCount N ≤ k) ⊎ (k < walkCount N) → ⊥
+      go-elsewhere k l q e (inl a) =
+          let z : walkCount N + (k - walkCount N) ≡ k = omega arith in
+          hop-elsewhere (k - walkCount N) (omega arith) (λ j jl n. q j jl (n ∙ z)) (sym (hop-to (k - walkCount N)) ∙ ap (G .to) z ∙ e)
+      go-elsewhere k l q e (inr a) = walk-elsewhere k a q (sym (walk-to k a) ∙ e)
 
   -- ---- what a row has to be
   pub sound : Sound (walksAt v w x) (hopsAt size v h x) r
@@ -341,13 +255,4 @@ module _ (size : ℕ) (wide : 16 ≤ size) (v w h : List ℕ) (Q : Query) (ok : 
   leaves = record { vertices = omega (arith, ok .tables .vertices-few, vertex-count size v w h); low = λ j l. from-low j l }
     where
       from-low : (j : ℕ) → j < passes r → R .from j < length v / 12
-      from-low j l =
-          ⊎-elim
-          (λ (q : r .walks ≤ j).
-          let e : r .walks + (j - r .walks) ≡ j = omega arith in
-          let f = ap records.from (ap (recordOf (walksAt v w x) (hopsAt size v h x) r) (sym e) ∙ hop-of (j - r .walks) (omega arith)) in
-          rw f (rw (vertex-count size v w h) at (laws N Q ok .from-low (walkCount N + (fh + (j - r .walks))) (omega (arith, hr .order, hr .fit)))))
-          (λ (q : j < r .walks).
-          let f = ap records.from (walk-of j q) in
-          rw f (rw (vertex-count size v w h) at (laws N Q ok .from-low (fw + j) (omega (arith, wr .order, wr .fit)))))
-          (le-or-lt (r .walks) j)
+      from-low j l = rw (ap records.from (of-number j l)) (rw (vertex-count size v w h) at (laws N Q ok .from-low (number j) (number-low j l)))

@@ -18,8 +18,8 @@ use Rattle.journeys.specs.CourierList.{byFrom, listRefusal}
 use Rattle.journeys.proofs.Tests.{le-or-lt, last-or-below}
 use Rattle.journeys.proofs.Refusals.{bad-none, bad-first}
 use Rattle.listing.specs.Places.{total, fromOf, below, same, place, rank, Sound}
-use Rattle.listing.proofs.PlaceLaws.{listed, below-next, below-grows, below-all, same-here, same-other, same-start, same-grows, same-before, rank-below, rank-low, rank-apart, listed-length, listed-rank, every-place}
-use Rattle.listing.proofs.Froms.{total-is, by-from-is}
+use Rattle.listing.proofs.PlaceLaws.{below-next, below-grows, below-all, same-here, same-other, same-start, same-grows, same-before, rank-below, rank-low, rank-apart, every-place}
+use Rattle.listing.proofs.Froms.{total-is, number-at}
 use Rattle.listed.specs.Stretches.{Found, Upto, Rising}
 
 -- ---- rising
@@ -170,7 +170,7 @@ module _ (size : ℕ) (v w h list : List ℕ) (ok : Sound size v w h) where
   n = total size w h
 
   entry : (x : ℕ) → x < total size w h → getD (byFrom (tablesOf size v w h)) (rank (fromOf size w h) (total size w h) x) none ≡ x
-  entry x l = ap (λ (m : List ℕ). getD m (rank F n x) none) (by-from-is size v w h) ∙ listed-rank F n (length v / 12) x l (ok .low x l)
+  entry = number-at size v w h (ok .low)
 
   good-at : (x : ℕ) → x < total size w h → be32 list (4 * rank (fromOf size w h) (total size w h) x) ≡ x
       → eqb (be32 list (4 * rank (fromOf size w h) (total size w h) x)) (getD (byFrom (tablesOf size v w h)) (rank (fromOf size w h) (total size w h) x) none) ≡ true

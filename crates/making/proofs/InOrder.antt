@@ -18,7 +18,7 @@ use Rattle.journeys.proofs.Valid.{lengths-valid}
 use Rattle.listing.specs.Places.{total}
 use Rattle.listing.proofs.Froms.{total-is}
 use Rattle.audit.proofs.Scan.{same-number}
-use Rattle.making.specs.Making.{makingRefusal, made}
+use Rattle.journeys.specs.CourierMaking.{makingRefusal, made}
 
 module _ (size : ℕ) (v w h list : List ℕ) where
   -- ---- the length

@@ -16,7 +16,7 @@ ghost use Rattle.journeys.specs.Refusals.{tableLengths};
 ghost use Rattle.journeys.specs.CourierList.{listLength};
 ghost use Rattle.words.specs.Told.{told};
 ghost use Rattle.audit.specs.Judging.{Sizes};
-ghost use Rattle.making.specs.Making.{makingRefusal, made};
+ghost use Rattle.journeys.specs.CourierMaking.{makingRefusal, made};
 
 const WALK_SIZE: usize = 16;
 

@@ -27,7 +27,7 @@ use Rattle.parts.proofs.Laws.{past-is}
 use Rattle.heldmap.specs.Model.{heldMap}
 use Rattle.heldmap.proofs.ArrivingRun.{good-vertex}
 use Rattle.heldmap.proofs.HeldMap.{size-held}
-use Rattle.heldmap.proofs.StepIsNext.{bounded-is}
+use Rattle.heldmap.proofs.Directions.{bounded-is}
 use Rattle.opening.specs.Seeds.{seedMap, fromTicksOf, toTicksOf, atEnd, toIsSeed, firstMap}
 use Rattle.opening.proofs.SeedsHeld.{two, seeds-held}
 use Rattle.opening.proofs.SeedTable.{size-first}

@@ -1,7 +1,7 @@
 -- The answer at the end of a run is one that the rules allow. Assumes nothing.
 use mathlib.Core.Path.{_≡_, refl, subst, sym, ap, ap₂, _∙_}
 use mathlib.Core.Logic.{_≢_}
-use mathlib.Core.Bool.{true, false}
+use mathlib.Core.Bool.{Bool, true, false}
 use mathlib.Core.List.{List, _++_, flatMap}
 use Prim.Native.Nat.{ℕ, _+_, _-_, _*_, _%_, _≤_, _<_, min}
 use native.Mathlib.Omega.{arith}
@@ -9,34 +9,36 @@ use lib.Dec.{eqb}
 use lib.ListN.{length, take, replicate, length-take}
 use borrow.Author.Tests.{eqb-true, eq-eqb, ne-eqb}
 use Rattle.journeys.specs.Bytes.{filled, cleared}
+use Rattle.journeys.specs.Tables.{Tables}
 use Rattle.journeys.specs.Query.{Query}
 use Rattle.journeys.specs.Order.{Settled}
 use Rattle.journeys.specs.Network.{Network, Held, distanceIn}
-use Rattle.journeys.specs.Records.{network}
 use Rattle.journeys.specs.Refusals as refusals
 use Rattle.journeys.specs.Refusals.{unless, wholeOf, tableLengths, bufferLengths}
 use Rattle.journeys.specs.Answers as answers
-use Rattle.journeys.specs.Answers.{Lent, tables, early, refusedEarly, refusedLate, heldBytes, settledBytes, heldAfter, roomAt, roomUpTo, acceptedAfter, answerOver, Allowed, Room}
+use Rattle.journeys.specs.Answers.{Lent, tables, early, refusedEarly, heldBytes, settledBytes, Allowed}
+use Rattle.journeys.specs.RunAnswers.{lateFor, heldFor, RoomFor, roomFor, roomUpToFor, acceptedFor, answerFor}
 use Rattle.journeys.proofs.Tests.{cond-true, cond-false}
 use Rattle.journeys.proofs.Valid.{early-valid, size-fits}
 use Rattle.journeys.specs.Valid.{Valid}
-use Rattle.journeys.proofs.Refusals.{or-fine, unless-fine, room-is, room-exactly, room-first}
-use Rattle.journeys.proofs.OrderLaws.{orderOf, order-is, order-size}
+use Rattle.journeys.proofs.Refusals.{or-fine, unless-fine, roomFor-is, roomFor-exactly, roomFor-first, ordinary-run}
+use Rattle.journeys.proofs.Told.{orderOf, order-is, order-size}
 use Rattle.worktable.specs.Map.{Map, size, rows}
 use Rattle.worktable.specs.Table.{mapOf, InOrder}
 use Rattle.words.specs.Told.{told}
 use Rattle.words.specs.declared.Refusal as audit
-use Rattle.heldmap.specs.Model.{heldMap}
-use Rattle.steps.specs.Running.{Over, Short, EndedIs, Ends}
+use Rattle.heldmap.specs.Directions.{networkIn, distanceFor}
+use Rattle.steps.specs.Running.{Over, Short, EndedIs, OrderIn, Ends}
 use Rattle.ending.specs.Left.{Concluded, GivenUp}
-use Rattle.search.specs.Outcome.{answerOf}
+use Rattle.search.specs.Outcome.{answerOf, AnsweredIn}
 use Rattle.records.specs.Meaning.{refusalOf}
 use Rattle.records.specs.declared.Answer.{Answer}
 use Rattle.stepping.specs.declared.Progress.{Progress}
 use Rattle.steps.specs.declared.Ended.{Ended}
 use Rattle.steps.specs.declared.Ended.the-variants.{Done, Refused}
 use Rattle.heldmap.proofs.HeldMap.{Bounded, size-held, rows-held}
-use Rattle.heldmap.proofs.StepIsNext.{bounded-is}
+use Rattle.heldmap.proofs.StepIsNext.{Searched}
+use Rattle.heldmap.proofs.Directions.{waysIn, searched}
 
 filled-as : (d d′ bytes : List ℕ) → length d ≡ length d′ → filled d bytes ≡ filled d′ bytes
 unfolding filled
@@ -75,30 +77,44 @@ module _ (b : Lent) (Q : Query) (limit : ℕ) (passes : early b Q .number ≡ 0)
   unfolding early
   hop-fits = size-fits (b .hopSize) (b .vertices) (b .walks) (b .hops) (or-fine (tableLengths (b .hopSize) (b .vertices) (b .walks) (b .hops)) _ passes .0)
 
+  -- What an ordinary run makes is allowed.
+  pub allow : (a : answers.Answer) → AnsweredIn false (tables b) Q limit (b .held) (b .settled) a → Allowed b Q limit a
+  unfolding AnsweredIn distanceFor
+  allow a x = record { refused = λ n. absurd (n passes); accepted = λ z. (x .0, x .1, x .2 ∙ sym (ordinary-run b Q (x .0) limit)) }
+
+-- ---- the steps in either direction
+module _ (c : Bool) (N : Tables) (Q : Query) (ok : Valid N Q) (limit : ℕ) (heldLent settledLent : List ℕ) where
+  abbrev G : Network
+  G = networkIn c N Q
+
+  network-searched : Searched G (waysIn c N Q) (distanceFor c N Q)
+  network-searched = searched c N Q ok
+
   abbrev order : List Settled
-  order = orderOf (tables b) Q valid
+  order = orderOf G (waysIn c N Q) (distanceFor c N Q) (network-searched .told)
 
-  allow : (a : answers.Answer) → a ≡ answerOver b Q order limit → Allowed b Q limit a
-  allow a e = record { refused = λ n. absurd (n passes); accepted = λ z. (order, order-is (tables b) Q valid, e) }
+  order-here : OrderIn c N Q order
+  order-here = order-is G (waysIn c N Q) (distanceFor c N Q) (network-searched .told)
 
-  module _ (held settled : List ℕ) (end : Ended) (S : Ends (b .hopSize) (b .vertices) (b .walks) (b .hops) (length (b .held)) (length (b .settled)) Q limit held settled end) where
-    ended : EndedIs b Q order limit held settled end
+  answered : (a : answers.Answer) → a ≡ answerFor G heldLent settledLent order limit → AnsweredIn c N Q limit heldLent settledLent a
+  unfolding AnsweredIn
+  answered a e = (order, order-here, e)
+
+  module _ (held settled : List ℕ) (end : Ended) (S : Ends c N (length heldLent) (length settledLent) Q limit held settled end) where
+    ended : EndedIs G heldLent settledLent order limit held settled end
     unfolding Ends
-    ended = S (b .held) (b .settled) refl refl order (order-is (tables b) Q valid)
+    ended = S heldLent settledLent refl refl order order-here
 
     -- Room was found for every step.
     module _ (p : Progress) (finished : ℕ) (done : end ≡ Done p finished) where
-      over : Over b Q order limit p finished held settled
+      over : Over G heldLent settledLent order limit p finished held settled
       unfolding EndedIs
-      over = subst (EndedIs b Q order limit held settled) done ended
+      over = subst (EndedIs G heldLent settledLent order limit held settled) done ended
 
       abbrev k : ℕ
       k = min limit (length order)
 
-      abbrev M : Map
-      M = heldMap (network (tables b) Q) (distanceIn (take (p .settled) order))
-
-      here : Room b Q order (p .settled)
+      here : RoomFor G heldLent settledLent order (p .settled)
       here = over .running .room (p .settled) (let z : p .settled ≤ p .settled = omega arith in z)
 
       S-long : length (take (p .settled) order) ≡ p .settled
@@ -107,42 +123,40 @@ module _ (b : Lent) (Q : Query) (limit : ℕ) (passes : early b Q .number ≡ 0)
       -- the numbers that the end asks for
       pub fits-end : InOrder (p .table) held × (8 * p .settled ≤ length settled) × (p .settled < 4294967296)
       fits-end =
-          let few = order-size (tables b) Q valid (order-is (tables b) Q valid) in
-          (over .running .table .order, omega (arith, here .1, S-long, over .running .long), omega (arith, over .steps, few, valid .tables .vertices-few))
+          let few = order-size G (waysIn c N Q) (distanceFor c N Q) (network-searched .told) order-here in
+          (over .running .table .order, omega (arith, here .1, S-long, over .running .long), omega (arith, over .steps, few, ok .tables .vertices-few))
 
-      pub concluded : (held′ settled′ : List ℕ) (r : Answer) → Concluded p finished held settled held′ settled′ r → length held ≡ length (b .held)
-          → Allowed b Q limit (answerOf r held′ settled′) × (r .parts ≡ 0)
-      unfolding answerOver acceptedAfter
+      pub concluded : (held′ settled′ : List ℕ) (r : Answer) → Concluded p finished held settled held′ settled′ r → length held ≡ length heldLent
+          → AnsweredIn c N Q limit heldLent settledLent (answerOf r held′ settled′) × (r .parts ≡ 0)
+      unfolding answerFor acceptedFor
       concluded held′ settled′ r C eh = (
-        allow (answerOf r held′ settled′) (
-            ap (λ (x : Answer). answerOf x held′ settled′) (C .answer) ∙ fields ∙ ap (acceptedAfter b Q order) (over .steps)
-            ∙ sym (cond-true (acceptedAfter b Q order k) (refusedLate b (roomUpTo b Q order k)) room)),
+        answered (answerOf r held′ settled′) (
+            ap (λ (x : Answer). answerOf x held′ settled′) (C .answer) ∙ fields ∙ ap (acceptedFor G heldLent settledLent order) (over .steps)
+            ∙ sym (cond-true (acceptedFor G heldLent settledLent order k) (lateFor heldLent settledLent (roomUpToFor G heldLent settledLent order k)) room)),
         ap (λ (x : Answer). x .parts) (C .answer),
       )
         where
-          G : Network
-          G = network (tables b) Q
-
-          room : eqb (roomUpTo b Q order k .number) 0 ≡ true
-          room = eq-eqb _ 0 (room-exactly b Q order k .1 (λ j h. over .running .room j (omega (arith, over .steps))))
+          room : eqb (roomUpToFor G heldLent settledLent order k .number) 0 ≡ true
+          room = eq-eqb _ 0 (roomFor-exactly G heldLent settledLent order k .1 (λ j h. over .running .room j (omega (arith, over .steps))))
 
           low : Bounded G
-          low = bounded-is (tables b) Q valid
+          low = network-searched .bounded
 
-          held-end : held′ ≡ filled (b .held) (flatMap heldBytes (heldAfter b Q order (p .settled)))
+          held-end : held′ ≡ filled heldLent (flatMap heldBytes (heldFor G order (p .settled)))
           held-end =
               C .held-is
               ∙ ap (λ (m : Map). filled held (flatMap heldBytes (rows m))) (over .running .table .map)
-              ∙ ap (λ (x : List Held). filled held (flatMap heldBytes x)) (rows-held G (distanceIn (take (p .settled) order)) low (valid .tables .vertices-few))
-              ∙ filled-as held (b .held) _ eh
+              ∙ ap (λ (x : List Held). filled held (flatMap heldBytes x)) (rows-held G (distanceIn (take (p .settled) order)) low (ok .tables .vertices-few))
+              ∙ filled-as held heldLent _ eh
 
-          held-count : size (mapOf (p .table) held) ≡ length (heldAfter b Q order (p .settled))
-          held-count = ap size (over .running .table .map) ∙ size-held G (distanceIn (take (p .settled) order)) low (valid .tables .vertices-few)
+          held-count : size (mapOf (p .table) held) ≡ length (heldFor G order (p .settled))
+          held-count = ap size (over .running .table .map) ∙ size-held G (distanceIn (take (p .settled) order)) low (ok .tables .vertices-few)
 
-          settled-end : settled′ ≡ filled (b .settled) (flatMap settledBytes (take (p .settled) order))
-          settled-end = C .settled-is ∙ ap (filled settled) (over .running .listed) ∙ filled-as settled (b .settled) _ (over .running .long)
+          settled-end : settled′ ≡ filled settledLent (flatMap settledBytes (take (p .settled) order))
+          settled-end = C .settled-is ∙ ap (filled settled) (over .running .listed) ∙ filled-as settled settledLent _ (over .running .long)
 
-          fields : answerOf (record { refusal = 0; place = 0; settled = p .settled; parts = 0; held = size (mapOf (p .table) held); finished = finished }) held′ settled′ ≡ acceptedAfter b Q order (p .settled)
+          fields : answerOf (record { refusal = 0; place = 0; settled = p .settled; parts = 0; held = size (mapOf (p .table) held); finished = finished }) held′ settled′
+              ≡ acceptedFor G heldLent settledLent order (p .settled)
           fields i =
               record {
                 refusal = 0;
@@ -156,34 +170,39 @@ module _ (b : Lent) (Q : Query) (limit : ℕ) (passes : early b Q .number ≡ 0)
 
     -- One step lacks room.
     module _ (n step : ℕ) (full : end ≡ Refused n step) where
-      short : Short b Q order limit n step
+      short : Short G heldLent settledLent order limit n step
       unfolding EndedIs
-      short = subst (EndedIs b Q order limit held settled) full ended
+      short = subst (EndedIs G heldLent settledLent order limit held settled) full ended
 
       pub step-low : step ≤ limit
       step-low = omega (arith, short .made)
 
-      number-short : roomAt b Q order step .number ≡ n
+      number-short : roomFor G heldLent settledLent order step .number ≡ n
       number-short = ap (λ (r : refusals.Refusal). r .number) (short .refusal)
 
-      first-short : roomUpTo b Q order (min limit (length order)) ≡ record { number = n; place = step }
-      first-short = room-first b Q order (min limit (length order)) step (short .made) (λ r. omega (arith, room-is b Q order step .1 r, number-short, short .some)) (short .before) ∙ short .refusal
+      abbrev last : refusals.Refusal
+      last = roomUpToFor G heldLent settledLent order (min limit (length order))
+
+      first-short : last ≡ record { number = n; place = step }
+      first-short =
+          roomFor-first G heldLent settledLent order (min limit (length order)) step (short .made) (λ r. omega (arith, roomFor-is G heldLent settledLent order step .1 r, number-short, short .some)) (short .before)
+          ∙ short .refusal
 
       pub late : (held′ settled′ : List ℕ) (r : Answer) → GivenUp n step held settled held′ settled′ r
-          → length held ≡ length (b .held) → length settled ≡ length (b .settled) → Allowed b Q limit (answerOf r held′ settled′) × (r .parts ≡ 0)
-      unfolding answerOver refusedLate cleared
+          → length held ≡ length heldLent → length settled ≡ length settledLent → AnsweredIn c N Q limit heldLent settledLent (answerOf r held′ settled′) × (r .parts ≡ 0)
+      unfolding answerFor lateFor cleared
       late held′ settled′ r C eh es = (
-        allow (answerOf r held′ settled′) (
-            ap (λ (x : Answer). answerOf x held′ settled′) (C .answer) ∙ buffers ∙ ap (refusedLate b) (sym first-short)
-            ∙ sym (cond-false (acceptedAfter b Q order (min limit (length order))) (refusedLate b (roomUpTo b Q order (min limit (length order)))) lacks)),
+        answered (answerOf r held′ settled′) (
+            ap (λ (x : Answer). answerOf x held′ settled′) (C .answer) ∙ buffers ∙ ap (lateFor heldLent settledLent) (sym first-short)
+            ∙ sym (cond-false (acceptedFor G heldLent settledLent order (min limit (length order))) (lateFor heldLent settledLent last) lacks)),
         ap (λ (x : Answer). x .parts) (C .answer),
       )
         where
           zero : {x : List ℕ} {m n : ℕ} → x ≡ replicate m 0 → m ≡ n → x ≡ replicate n 0
           zero p q = p ∙ ap (λ (m : ℕ). replicate m 0) q
 
-          lacks : eqb (roomUpTo b Q order (min limit (length order)) .number) 0 ≡ false
-          lacks = ne-eqb (roomUpTo b Q order (min limit (length order)) .number) 0 (λ (z : roomUpTo b Q order (min limit (length order)) .number ≡ 0). omega (arith, ap (λ (x : refusals.Refusal). x .number) first-short, short .some))
+          lacks : eqb (last .number) 0 ≡ false
+          lacks = ne-eqb (last .number) 0 (λ (z : last .number ≡ 0). omega (arith, ap (λ (x : refusals.Refusal). x .number) first-short, short .some))
 
-          buffers : answerOf (refusalOf n step) held′ settled′ ≡ refusedLate b (record { number = n; place = step })
+          buffers : answerOf (refusalOf n step) held′ settled′ ≡ lateFor heldLent settledLent (record { number = n; place = step })
           buffers = ap₂ (answerOf (refusalOf n step)) (zero (C .held-is) eh) (zero (C .settled-is) es)

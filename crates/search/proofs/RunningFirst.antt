@@ -1,6 +1,6 @@
 -- Step 0: the seeds are entered, and the run stands at its beginning. Assumes nothing.
 use mathlib.Core.Path.{_≡_, refl, sym, ap, ap₂, subst, _∙_}
-use mathlib.Core.Bool.{cond}
+use mathlib.Core.Bool.{Bool, false, cond}
 use mathlib.Core.List.{List, [], flatMap}
 use Prim.Native.Nat.{ℕ, _/_, _≤_, min}
 use native.Mathlib.Omega.{arith}
@@ -10,11 +10,11 @@ use Rattle.journeys.specs.Tables.{Tables}
 use Rattle.journeys.specs.Query.{Query}
 use Rattle.journeys.specs.Network.{Network, distanceIn}
 use Rattle.journeys.specs.Records.{network}
-use Rattle.journeys.specs.Answers.{Lent, tables, heldAfter, roomAt, Room}
+use Rattle.journeys.specs.Answers.{Lent, tables, heldAfter}
+use Rattle.journeys.specs.RunAnswers.{RoomFor, roomFor}
 use Rattle.journeys.specs.Valid.{Valid}
 use Rattle.journeys.proofs.Fits.{held-most}
 use Rattle.parts.specs.declared.Road.{Road}
-use Rattle.intake.specs.Lending.{lent}
 use Rattle.intake.proofs.FirstFault.{failed}
 use Rattle.stepping.specs.declared.Progress.{Progress}
 use Rattle.stepping.specs.declared.Stepped.{Stepped}
@@ -27,8 +27,8 @@ use Rattle.steps.specs.declared.Ended.{Ended}
 use Rattle.steps.specs.declared.Ended.the-variants.{Refused}
 
 -- the end of the steps, with the length of the held buffer as it was lent
-pub ends-as : (size : ℕ) (v w h : List ℕ) (m m′ n : ℕ) (Q : Query) (limit : ℕ) (held settled : List ℕ) (r : Ended) → m ≡ m′ → Ends size v w h m n Q limit held settled r → Ends size v w h m′ n Q limit held settled r
-ends-as size v w h m m′ n Q limit held settled r e = subst (λ (k : ℕ). Ends size v w h k n Q limit held settled r) e
+pub ends-as : (c : Bool) (N : Tables) (m m′ n : ℕ) (Q : Query) (limit : ℕ) (held settled : List ℕ) (r : Ended) → m ≡ m′ → Ends c N m n Q limit held settled r → Ends c N m′ n Q limit held settled r
+ends-as c N m m′ n Q limit held settled r e = subst (λ (k : ℕ). Ends c N k n Q limit held settled r) e
 
 module _ (b : Lent) (Q : Query) (ok : Valid (tables b) Q) where
   abbrev N : Tables
@@ -45,20 +45,17 @@ module _ (b : Lent) (Q : Query) (ok : Valid (tables b) Q) where
 
   -- The run stands before its first step.
   pub begins : (held′ : List ℕ) (p : Progress) → Opens capacity (firstMap (b .vertices) (b .walks) road) (cond (toIsSeed road) 2 1) held′ p → length held′ ≡ length (b .held)
-      → Stands (b .hopSize) (b .vertices) (b .walks) (b .hops) (length held′) (length (b .settled)) Q p held′ (b .settled)
+      → Stands false N (length held′) (length (b .settled)) Q p held′ (b .settled)
   unfolding Stands flatMap
-  begins held′ p H same x y same-held same-settled l O = subst (λ (z : Progress). Running b′ Q l z held′ (b .settled)) whole-p at-zero
+  begins held′ p H same x y same-held same-settled l O = subst (λ (z : Progress). Running G x y l z held′ (b .settled)) whole-p at-zero
     where
-      b′ : Lent
-      b′ = lent (b .vertices) (b .walks) (b .hops) (b .hopSize) x y
-
       p0 : Progress
       p0 = record { table = p .table; settled = 0 }
 
       whole-p : p0 ≡ p
       whole-p = ap (λ (n : ℕ). record { table = p .table; settled = n }) (sym (H .count))
 
-      at-zero : Running b′ Q l p0 held′ (b .settled)
+      at-zero : Running G x y l p0 held′ (b .settled)
       at-zero =
           record {
             made = omega arith;
@@ -66,19 +63,19 @@ module _ (b : Lent) (Q : Query) (ok : Valid (tables b) Q) where
             slots = H .slots ∙ ap₂ (λ (m n : ℕ). min (m / 16) (min n 65536)) (sym (same-held ∙ same)) (sym (vertices-as b Q ok));
             long = sym same-settled;
             listed = refl;
-            room = λ j h. subst (Room b′ Q l) (let z : 0 ≡ j = omega arith in z) (omega (arith, seeds-sized b Q ok l, H .fits, same-held, same), omega arith);
+            room = λ j h. subst (RoomFor G x y l) (let z : 0 ≡ j = omega arith in z) (omega (arith, seeds-sized b Q ok l, H .fits, same-held, same), omega arith);
           }
 
   -- There is no room for step 0.
   pub shut : (limit n : ℕ) (held settled : List ℕ) → Shut capacity (cond (toIsSeed road) 2 1) n
-      → Ends (b .hopSize) (b .vertices) (b .walks) (b .hops) (length (b .held)) (length (b .settled)) Q limit held settled (Refused n 0)
-  unfolding Ends EndedIs roomAt
+      → Ends false N (length (b .held)) (length (b .settled)) Q limit held settled (Refused n 0)
+  unfolding Ends EndedIs roomFor
   shut limit n held settled h x y same-held same-settled l O = record { made = omega arith; refusal = refused; some = omega (arith, h .0); before = λ j z. absurd (omega arith) }
     where
       few : length (heldAfter b Q l 0) ≤ min (length (b .vertices) / 12) 65536
       few = omega (arith, held-most G (distanceIn []), ok .tables .vertices-few, vertices-as b Q ok)
 
-      refused : roomAt (lent (b .vertices) (b .walks) (b .hops) (b .hopSize) x y) Q l 0 ≡ record { number = n; place = 0 }
+      refused : roomFor G x y l 0 ≡ record { number = n; place = 0 }
       refused =
           failed _ 8 0 _ (omega arith) (lt-leb (length (heldAfter b Q l 0)) (length x / 16) (omega (arith, seeds-sized b Q ok l, h .1, few, same-held)))
           ∙ ap (λ (z : ℕ). record { number = z; place = 0 }) (sym (h .0))

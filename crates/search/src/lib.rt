@@ -8,6 +8,7 @@ use records::refusal;
 use stepping::Stepped;
 use steps::Ended;
 ghost use mathlib.Core.Path.{_≡_};
+ghost use mathlib.Core.Bool.{false};
 ghost use Prim.Native.Nat.{_%_, _≤_};
 ghost use lib.ListN.{length, replicate};
 ghost use Rattle.journeys.specs.Tables.{tablesOf};
@@ -31,7 +32,7 @@ fn all_steps<'a>(
     limit: u32,
 ) -> Ended
     requires { ⌜ Valid (tablesOf «hop_size» (now vertices) (now walks) (now hops)) (queryOf q) × (now scratch ≡ replicate 2048 0) × (length (now held) % 16 ≡ 0) × (16 ≤ «hop_size») ⌝ }
-    ensures { λ r. ⌜ Ends «hop_size» (now (vertices .entry)) (now (walks .entry)) (now (hops .entry)) (length (now (held .entry))) (length (now (settled .entry))) (queryOf q) limit (now (held .exit)) (now (settled .exit)) r ⌝ }
+    ensures { λ r. ⌜ Ends false (tablesOf «hop_size» (now (vertices .entry)) (now (walks .entry)) (now (hops .entry))) (length (now (held .entry))) (length (now (settled .entry))) (queryOf q) limit (now (held .exit)) (now (settled .exit)) r ⌝ }
     ensures { λ _. ⌜ now (scratch .exit) ≡ replicate 2048 0 ⌝ }
 {
     let road = parts::read_road(walks, q);

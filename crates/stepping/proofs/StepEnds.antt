@@ -14,14 +14,17 @@ use Rattle.worktable.specs.Map.{absent, Map, put, settled, remainingOf, size}
 use Rattle.worktable.specs.Table.{mapOf}
 use Rattle.worktable.specs.declared.Table.{Table}
 use Rattle.worktable.proofs.MapLaws.{put-other}
-use Rattle.passing.specs.Row.{Row, passes, rowOf}
-use Rattle.passing.specs.declared.Arriving.{Arriving}
-use Rattle.meeting.specs.Passing.{passed, Enough, Inside, Ready}
+use Rattle.passing.specs.Row.{Row, passes}
+use Rattle.stretches.specs.declared.Stretch.{Stretch}
+use Rattle.directed.specs.Directed.{rowIn}
+use Rattle.directed.specs.declared.Directed.{Directed}
+use Rattle.meeting.specs.Passing.{passed, Enough, Few, Inside, Ready}
 use Rattle.meeting.specs.Answer.{Leads, ArrivedIs, Passed}
 use Rattle.meeting.specs.declared.Arrived.{Arrived}
 use Rattle.blocks.proofs.NextRecord.{ends-at}
-use Rattle.heldmap.specs.Model.{walksAt, hopsAt, rowAt, settledNow}
-use Rattle.stepping.specs.Taken.{StepIs, Begins}
+use Rattle.heldmap.specs.Model.{settledNow}
+use Rattle.heldmap.specs.RowsOfTables.{numbersAt, walksIn, hopsIn}
+use Rattle.stepping.specs.Taken.{StepIs, rowFrom, Begins}
 use Rattle.stepping.specs.declared.Progress.{Progress}
 use Rattle.stepping.specs.declared.Stepped.the-variants.{Next, Full}
 
@@ -37,37 +40,38 @@ settled-inside n m x l h u k = go (eqb (remainingOf (settled (m x))) 0)
     go true = put-other (put m x (settled (m x))) x absent u ne ∙ put-other m x (settled (m x)) u ne ∙ h u k
     go false = put-other m x (settled (m x)) u ne ∙ h u k
 
--- x is settled, its arriving records are two parts, and they are passed
-module _ (v w h : List ℕ) (x slot : ℕ) (a : Arriving) (t t1 : Table) (h1 : List ℕ) {held w1 r1 : List ℕ} (B : Begins v w h x slot a t held) (walks-are : w1 ≡ walksAt v w x) (hops-are : r1 ≡ hopsAt (a .size) v h x)
-    (L : Leads t t1 h1 (settledNow (mapOf t held) x)) where
+-- x is settled, its row is read from three parts, and it is passed
+module _ (v w h list : List ℕ) (x slot : ℕ) (s : Stretch) (a : Directed) (t t1 : Table) (h1 : List ℕ) {held w1 r1 l1 : List ℕ} (B : Begins v w h list x slot s a t held) (walks-are : w1 ≡ walksIn (a .courier) v w x)
+    (hops-are : r1 ≡ hopsIn (a .courier) (a .arriving .size) v h x) (numbers-are : l1 ≡ numbersAt list s) (L : Leads t t1 h1 (settledNow (mapOf t held) x)) where
   abbrev R : Row
-  R = rowAt v w h x a
+  R = rowFrom v w h list x s a
 
   abbrev n : ℕ
-  n = passes a
+  n = passes (a .arriving)
 
   abbrev m : Map
   m = settledNow (mapOf t held) x
 
-  pub ready : Ready v w1 r1 a t1 h1
+  pub ready : Ready v w1 r1 l1 a t1 h1
   ready =
-      subst (λ (y : List ℕ). Ready v y r1 a t1 h1) (sym walks-are)
-      (subst (λ (y : List ℕ). Ready v (walksAt v w x) y a t1 h1) (sym hops-are)
+      rw (walks-are, hops-are, numbers-are)
       (record {
         order = L .holds .order;
         sound = B .sound;
-        leaves = B .leaves;
+        near = B .near;
         enough = subst (λ (k : Map). Enough R n k) (sym (L .holds .map)) (B .enough);
+        few = subst (λ (k : Map). Few R n k) (sym (L .holds .map)) (B .few);
         inside = subst (λ (k : Map). Inside (length v / 12) k) (sym (L .holds .map)) (settled-inside (length v / 12) (mapOf t held) x (B .standing .low) (B .inside));
-      }))
+      })
 
   -- what was passed is the row of x
-  over-parts : (h2 : List ℕ) (r : Arrived) → Passed v w1 r1 a t1 h1 h2 r → ArrivedIs t1 h2 (passed R n (mapOf t1 h1)) r
+  over-parts : (h2 : List ℕ) (r : Arrived) → Passed v w1 r1 l1 a t1 h1 h2 r → ArrivedIs t1 h2 (passed R n (mapOf t1 h1)) r
   over-parts h2 r p =
-      subst (λ (y : List ℕ). ArrivedIs t1 h2 (passed (rowOf v (walksAt v w x) y a) n (mapOf t1 h1)) r) hops-are
-      (subst (λ (y : List ℕ). ArrivedIs t1 h2 (passed (rowOf v y r1 a) n (mapOf t1 h1)) r) walks-are p)
+      subst (λ (y : List ℕ). ArrivedIs t1 h2 (passed (rowIn v (walksIn (a .courier) v w x) (hopsIn (a .courier) (a .arriving .size) v h x) y a) n (mapOf t1 h1)) r) numbers-are
+      (subst (λ (y : List ℕ). ArrivedIs t1 h2 (passed (rowIn v (walksIn (a .courier) v w x) y l1 a) n (mapOf t1 h1)) r) hops-are
+      (subst (λ (y : List ℕ). ArrivedIs t1 h2 (passed (rowIn v y r1 l1 a) n (mapOf t1 h1)) r) walks-are p))
 
-  pub all-passed : (h2 : List ℕ) (r : Arrived) → Passed v w1 r1 a t1 h1 h2 r → ArrivedIs t h2 (passed R n m) r
+  pub all-passed : (h2 : List ℕ) (r : Arrived) → Passed v w1 r1 l1 a t1 h1 h2 r → ArrivedIs t h2 (passed R n m) r
   all-passed h2 r p = ends-at t t1 h2 (L .room) r (ap (passed R n) (L .holds .map)) (over-parts h2 r p)
 
 module _ (p : Progress) (m : Map) (x d : ℕ) (held′ settled settled′ : List ℕ) where

@@ -12,11 +12,14 @@ use Rattle.worktable.specs.Table.{mapOf, InOrder, Place}
 use Rattle.worktable.specs.declared.Nearest.{Nearest}
 use Rattle.worktable.specs.declared.Table.{Table}
 use Rattle.journeys.specs.Counting.{none}
-use Rattle.passing.specs.Row.{passes, Sound, Leaves}
-use Rattle.passing.specs.declared.Arriving.{Arriving}
-use Rattle.meeting.specs.Passing.{passed, Enough, Inside}
+use Rattle.passing.specs.Row.{Row, passes}
+use Rattle.stretches.specs.declared.Stretch.{Stretch}
+use Rattle.directed.specs.Directed.{rowIn, Passable, Near}
+use Rattle.directed.specs.declared.Directed.{Directed}
+use Rattle.meeting.specs.Passing.{passed, Enough, Few, Inside}
 use Rattle.meeting.specs.Answer.{Leads}
-use Rattle.heldmap.specs.Model.{Standing, walksAt, hopsAt, rowAt, settledNow}
+use Rattle.heldmap.specs.Model.{Standing, settledNow}
+use Rattle.heldmap.specs.RowsOfTables.{numbersAt, walksIn, hopsIn}
 use Rattle.stepping.specs.declared.Progress.{Progress}
 use Rattle.stepping.specs.declared.Stepped.{Stepped}
 use Rattle.stepping.specs.declared.Stepped.the-variants.{Next, Full}
@@ -42,22 +45,30 @@ unfoldable pub StepIs : Progress → Map → ℕ → ℕ → List ℕ → List �
 StepIs p m v d held′ settled settled′ (Next q) = Steps p m v d held′ settled settled′ q
 StepIs p m v d held′ settled settled′ (Full n) = Lacks p m settled n
 
--- What a step at x starts from: x waits at its slot, and the row of the records that arrive at it may be passed when it is settled.
-pub record Begins (v w h : List ℕ) (x slot : ℕ) (a : Arriving) (t : Table) (held : List ℕ) : Type 0 where
+-- the row that a step at x passes, and how many records it has
+abbrev pub rowFrom : List ℕ → List ℕ → List ℕ → List ℕ → ℕ → Stretch → Directed → Row
+rowFrom v w h list x s a = rowIn v (walksIn (a .courier) v w x) (hopsIn (a .courier) (a .arriving .size) v h x) (numbersAt list s) a
+
+-- What a step at x starts from: x waits at its slot, and its row may be passed when it is settled.
+pub record Begins (v w h list : List ℕ) (x slot : ℕ) (s : Stretch) (a : Directed) (t : Table) (held : List ℕ) : Type 0 where
   pub order : InOrder t held
   pub place : Place t held x slot
   pub unsettled : stateOf (mapOf t held x) ≡ 0
   pub some : distanceOf (mapOf t held x) < none
-  pub standing : Standing (a .size) v w h x
-  pub sound : Sound (walksAt v w x) (hopsAt (a .size) v h x) a
-  pub leaves : Leaves v (walksAt v w x) (hopsAt (a .size) v h x) a
-  pub enough : Enough (rowAt v w h x a) (passes a) (settledNow (mapOf t held) x)
+  pub standing : Standing (a .arriving .size) v w h x
+  pub wide : 16 ≤ a .arriving .size
+  pub stretch : s .first + (s .walks + s .hops) ≤ length list / 4
+  pub sound : Passable (walksIn (a .courier) v w x) (hopsIn (a .courier) (a .arriving .size) v h x) (numbersAt list s) a
+  pub near : Near v (walksIn (a .courier) v w x) (hopsIn (a .courier) (a .arriving .size) v h x) (numbersAt list s) a
+  pub enough : Enough (rowFrom v w h list x s a) (passes (a .arriving)) (settledNow (mapOf t held) x)
+  pub few : Few (rowFrom v w h list x s a) (passes (a .arriving)) (settledNow (mapOf t held) x)
   pub inside : Inside (length v / 12) (mapOf t held)
 
 -- the map after it
-abbrev pub mapAfter : List ℕ → List ℕ → List ℕ → ℕ → Arriving → Map → Map
-mapAfter v w h x a m = passed (rowAt v w h x a) (passes a) (settledNow m x)
+abbrev pub mapAfter : List ℕ → List ℕ → List ℕ → List ℕ → ℕ → Stretch → Directed → Map → Map
+mapAfter v w h list x s a m = passed (rowFrom v w h list x s a) (passes (a .arriving)) (settledNow m x)
 
 -- the step from p with that row
-abbrev pub StepMade : List ℕ → List ℕ → List ℕ → ℕ → Arriving → Progress → List ℕ → List ℕ → List ℕ → List ℕ → Stepped → Type 0
-StepMade v w h x a p held held′ settled settled′ r = StepIs p (mapAfter v w h x a (mapOf (p .table) held)) x (a .distance .0) held′ settled settled′ r
+abbrev pub StepMade : List ℕ → List ℕ → List ℕ → List ℕ → ℕ → Stretch → Directed → Progress → List ℕ → List ℕ → List ℕ → List ℕ → Stepped → Type 0
+StepMade v w h list x s a p held held′ settled settled′ r =
+    StepIs p (mapAfter v w h list x s a (mapOf (p .table) held)) x (a .arriving .distance .0) held′ settled settled′ r

@@ -1,21 +1,25 @@
-// One step of the run: the foremost vertex of the working table is settled, and its arriving records are passed.
+// One step of the run, in either direction: the foremost vertex of the working table is settled, and its row is passed, the records that arrive at it or for the courier those that leave it.
 // Promises: the map after the step and the record that it lists, or the lowest number that lacks room.
-// Rests on: the working table (`worktable`), `arrivals`, the readers and writers of `records`.
+// Rests on: the working table (`worktable`), `arrivals`, the readers and writers of `records`, the places of `stretches`.
+use directed::Directed;
 use meeting::Arrived;
 use passing::Arriving;
 use records::Kind;
+use stretches::Stretch;
 use words::Seconds;
 use words::Ticks;
 use worktable::Nearest;
 use worktable::Table;
 ghost use mathlib.Core.Path.{_≡_};
-ghost use Prim.Native.Nat.{_/_, _<_, _≤_};
+ghost use Prim.Native.Nat.{_+_, _/_, _<_, _≤_};
 ghost use lib.ListN.{length, replicate};
 ghost use Rattle.journeys.specs.Counting.{none};
 ghost use Rattle.worktable.specs.Map.{stateOf, distanceOf};
 ghost use Rattle.worktable.specs.Table.{mapOf, InOrder, Place};
 ghost use Rattle.meeting.specs.Answer.{Leads, ArrivedIs};
-ghost use Rattle.heldmap.specs.Model.{Standing, walksAt, hopsAt, arrivingAt, settledNow};
+ghost use Rattle.listing.specs.Places.{Sound};
+ghost use Rattle.heldmap.specs.Model.{Standing, arrivingAt, settledNow};
+ghost use Rattle.heldmap.specs.RowsOfTables.{Lists, stretchIn, numbersAt, walksIn, hopsIn, directedAt};
 ghost use Rattle.stepping.specs.Taken.{NextIs, Begins, mapAfter, StepMade};
 
 // Where the run stands: the table, and how many vertices are listed.
@@ -41,45 +45,86 @@ fn settle_next(held: &mut [u8], t: Table, v: usize, slot: usize) -> Table
     t
 }
 
-// The walks that arrive at x: a part of the walk table.
-fn walks_at<'a>(vertices: &[u8], walks: &'a [u8], hops: &'a [u8], size: usize, x: usize) -> &'a [u8]
+// The walks that the row of x reads: those that arrive at it, a part of the walk table; for the courier the whole table.
+fn walks_at<'a>(
+    vertices: &[u8],
+    walks: &'a [u8],
+    hops: &'a [u8],
+    size: usize,
+    courier: bool,
+    x: usize,
+) -> &'a [u8]
     requires { ⌜ Standing size (now vertices) (now walks) (now hops) x × (16 ≤ size) ⌝ }
-    ensures { λ r. ⌜ now r ≡ walksAt (now (vertices .entry)) (now (walks .entry)) x ⌝ }
+    ensures { λ r. ⌜ now r ≡ walksIn courier (now (vertices .entry)) (now (walks .entry)) x ⌝ }
 {
+    if courier {
+        return walks;
+    }
     let first = records::first_arriving(vertices, Kind::Walks, x);
     let end = records::end_arriving(vertices, Kind::Walks, x, walks.len() / 16);
     records::arriving(walks, hops, size, Kind::Walks, first, end)
 }
 
-// The hops that arrive at x: a part of the hop table.
-fn hops_at<'a>(vertices: &[u8], walks: &'a [u8], hops: &'a [u8], size: usize, x: usize) -> &'a [u8]
+// The hops that it reads.
+fn hops_at<'a>(
+    vertices: &[u8],
+    walks: &'a [u8],
+    hops: &'a [u8],
+    size: usize,
+    courier: bool,
+    x: usize,
+) -> &'a [u8]
     requires { ⌜ Standing size (now vertices) (now walks) (now hops) x × (16 ≤ size) ⌝ }
-    ensures { λ r. ⌜ now r ≡ hopsAt size (now (vertices .entry)) (now (hops .entry)) x ⌝ }
+    ensures { λ r. ⌜ now r ≡ hopsIn courier size (now (vertices .entry)) (now (hops .entry)) x ⌝ }
 {
+    if courier {
+        return hops;
+    }
     let first = records::first_arriving(vertices, Kind::Hops, x);
     let end = records::end_arriving(vertices, Kind::Hops, x, hops.len() / size);
     records::arriving(walks, hops, size, Kind::Hops, first, end)
 }
 
-// The vertex x at its slot is settled, and the records that arrive at it are passed.
+// The numbers of a stretch: a part of the list.
+fn numbers_at(list: &[u8], s: Stretch) -> &[u8]
+    requires { ⌜ s .first + (s .walks + s .hops) ≤ length (now list) / 4 ⌝ }
+    ensures { λ r. ⌜ now r ≡ numbersAt (now (list .entry)) s ⌝ }
+{
+    let end = s.first + (s.walks + s.hops);
+    &list[4 * s.first..4 * end]
+}
+
+// The vertex x at its slot is settled, and its row is passed.
 fn settle_and_pass<'a>(
     vertices: &[u8],
     walks: &'a [u8],
     hops: &'a [u8],
+    list: &[u8],
     held: &mut [u8],
     scratch: &mut [u16],
     t: Table,
     x: usize,
     slot: usize,
-    arriving: Arriving,
+    stretch: Stretch,
+    row: Directed,
 ) -> Arrived
-    requires { ⌜ Begins (now vertices) (now walks) (now hops) x slot arriving t (now held) × (now scratch ≡ replicate 2048 0) ⌝ }
-    ensures { λ r. ⌜ ArrivedIs t (now (held .exit)) (mapAfter (now (vertices .entry)) (now (walks .entry)) (now (hops .entry)) x arriving (mapOf t (now (held .entry)))) r × (now (scratch .exit) ≡ replicate 2048 0) ⌝ }
+    requires { ⌜ Begins (now vertices) (now walks) (now hops) (now list) x slot stretch row t (now held) × (now scratch ≡ replicate 2048 0) ⌝ }
+    ensures { λ r. ⌜ ArrivedIs t (now (held .exit)) (mapAfter (now (vertices .entry)) (now (walks .entry)) (now (hops .entry)) (now (list .entry)) x stretch row (mapOf t (now (held .entry)))) r × (now (scratch .exit) ≡ replicate 2048 0) ⌝ }
 {
     let settled = settle_next(held, t, x, slot);
-    let walked = walks_at(vertices, walks, hops, arriving.size, x);
-    let ridden = hops_at(vertices, walks, hops, arriving.size, x);
-    arrivals::arrive(held, settled, vertices, walked, ridden, arriving, scratch)
+    let walked = walks_at(vertices, walks, hops, row.arriving.size, row.courier, x);
+    let ridden = hops_at(vertices, walks, hops, row.arriving.size, row.courier, x);
+    let numbers = numbers_at(list, stretch);
+    arrivals::arrive(
+        held,
+        settled,
+        vertices,
+        walked,
+        ridden,
+        numbers,
+        row,
+        scratch,
+    )
 }
 
 // One step: x, at its slot, is the next vertex, with the distance d.
@@ -87,17 +132,19 @@ pub fn step<'a>(
     vertices: &[u8],
     walks: &'a [u8],
     hops: &'a [u8],
+    list: &[u8],
     held: &mut [u8],
     settled: &mut [u8],
     scratch: &mut [u16],
     p: Progress,
     x: usize,
     slot: usize,
-    arriving: Arriving,
+    stretch: Stretch,
+    row: Directed,
 ) -> Stepped
-    requires { ⌜ Begins (now vertices) (now walks) (now hops) x slot arriving (p .table) (now held) × (now scratch ≡ replicate 2048 0) ⌝ }
+    requires { ⌜ Begins (now vertices) (now walks) (now hops) (now list) x slot stretch row (p .table) (now held) × (now scratch ≡ replicate 2048 0) ⌝ }
     requires { ⌜ (p .settled ≤ length (now settled) / 8) × (p .settled < 4294967295) ⌝ }
-    ensures { λ r. ⌜ StepMade (now (vertices .entry)) (now (walks .entry)) (now (hops .entry)) x arriving p (now (held .entry)) (now (held .exit)) (now (settled .entry)) (now (settled .exit)) r ⌝ }
+    ensures { λ r. ⌜ StepMade (now (vertices .entry)) (now (walks .entry)) (now (hops .entry)) (now (list .entry)) x stretch row p (now (held .entry)) (now (held .exit)) (now (settled .entry)) (now (settled .exit)) r ⌝ }
     ensures { λ _. ⌜ now (scratch .exit) ≡ replicate 2048 0 ⌝ }
 {
     let table = p.table;
@@ -105,19 +152,21 @@ pub fn step<'a>(
         vertices,
         walks,
         hops,
+        list,
         held,
         scratch,
         table,
         x,
         slot,
-        arriving,
+        stretch,
+        row,
     ) else {
         return Stepped::Full(8);
     };
     if p.settled == settled.len() / 8 {
         return Stepped::Full(9);
     }
-    records::add_settled(settled, p.settled, x as u32, arriving.distance);
+    records::add_settled(settled, p.settled, x as u32, row.arriving.distance);
     let count = p.settled + 1;
     Stepped::Next(Progress {
         table: passed,
@@ -140,7 +189,7 @@ pub fn next(held: &[u8], t: Table, allowed: u32) -> Nearest
 }
 
 // How many records arrive at x, which is settled at d, and what their offers ask.
-pub fn arriving_at(
+fn arriving_at(
     vertices: &[u8],
     walks: &[u8],
     hops: &[u8],
@@ -164,5 +213,81 @@ pub fn arriving_at(
         arrival: arrival,
         speed: speed,
         allowed: allowed,
+    }
+}
+
+// Where the numbers of x stand in the list of records by where they leave; an ordinary row reads none.
+pub fn stretch_at(
+    vertices: &[u8],
+    walks: &[u8],
+    hops: &[u8],
+    hop_size: usize,
+    list: &[u8],
+    courier: bool,
+    x: usize,
+) -> Stretch
+    requires { ⌜ Lists courier «hop_size» (now walks) (now hops) (now list) × Sound «hop_size» (now vertices) (now walks) (now hops) × (x < 4294967296) ⌝ }
+    ensures { λ r. ⌜ r ≡ stretchIn courier «hop_size» (now (walks .entry)) (now (hops .entry)) x ⌝ }
+{
+    if courier {
+        return stretches::find(vertices, walks, hops, hop_size, list, x as u32);
+    }
+    Stretch {
+        first: 0,
+        walks: 0,
+        hops: 0,
+    }
+}
+
+// The row of x, which is settled at d: how many records it has, and what they ask.
+pub fn row_at(
+    vertices: &[u8],
+    walks: &[u8],
+    hops: &[u8],
+    hop_size: usize,
+    stretch: Stretch,
+    courier: bool,
+    x: usize,
+    d: u32,
+    arrival: Seconds,
+    speed: u32,
+    allowed: Ticks,
+) -> Directed
+    requires { ⌜ Standing «hop_size» (now vertices) (now walks) (now hops) x × (0 < «hop_size») ⌝ }
+    ensures { λ r. ⌜ r ≡ directedAt courier «hop_size» (now (vertices .entry)) (now (walks .entry)) (now (hops .entry)) stretch x d arrival speed (allowed .0) ⌝ }
+{
+    let ways = walks.len() / 16;
+    let rides = hops.len() / hop_size;
+    if courier {
+        return Directed {
+            arriving: Arriving {
+                walks: stretch.walks,
+                hops: stretch.hops,
+                size: hop_size,
+                distance: Ticks(d),
+                arrival: arrival,
+                speed: speed,
+                allowed: allowed,
+            },
+            courier: true,
+            ways: ways,
+            rides: rides,
+        };
+    }
+    Directed {
+        arriving: arriving_at(
+            vertices,
+            walks,
+            hops,
+            hop_size,
+            x,
+            d,
+            arrival,
+            speed,
+            allowed,
+        ),
+        courier: false,
+        ways: ways,
+        rides: rides,
     }
 }

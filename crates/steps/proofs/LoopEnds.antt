@@ -4,46 +4,50 @@ use mathlib.Core.Bool.{Bool, true, false}
 use mathlib.Core.List.{List}
 use Prim.Native.Nat.{ℕ, suc, _+_, _/_, _≤_, _<_}
 use native.Mathlib.Omega.{arith}
-use lib.ListN.{length, take, replicate, length-take, length-replicate}
+use mir.Syntax.{w8}
+use mir.Val.{Fits}
+use lib.ListN.{length, getD, take, replicate, length-take, length-replicate}
 use borrow.Author.Tests.{le-leb, lt-leb}
 use Rattle.journeys.specs.Bytes.{clocked}
-use Rattle.journeys.specs.Tables.{Tables, tablesOf}
+use Rattle.journeys.specs.Tables.{Tables, vertexCount, tablesOf}
 use Rattle.journeys.specs.Query as query
 use Rattle.journeys.specs.Query.{allowed}
 use Rattle.journeys.specs.Order.{Settled}
 use Rattle.journeys.specs.Network.{Network, distanceIn}
-use Rattle.journeys.specs.Records.{network}
 use Rattle.journeys.proofs.Tests.{cond-true, cond-false}
 use Rattle.journeys.specs.Valid.{Valid}
 use Rattle.journeys.proofs.Decoding.{vertex-count}
-use Rattle.journeys.proofs.Document.{allowed-low}
-use Rattle.journeys.proofs.OrderLaws.{orderOf, order-is, order-size, all-settled}
+use Rattle.journeys.proofs.Ways.{Ways}
+use Rattle.journeys.proofs.Told.{orderOf, order-is, order-size, all-settled}
 use Rattle.words.specs.declared.Seconds.{Seconds}
-use Rattle.worktable.specs.Map.{Map, Foremost, Waits}
+use Rattle.worktable.specs.Map.{Map, absent, Foremost, Waits}
 use Rattle.worktable.specs.Table.{mapOf, InOrder, Place}
 use Rattle.worktable.specs.declared.Nearest.{Nearest}
 use Rattle.worktable.specs.declared.Table.{Table}
-use Rattle.passing.specs.Row.{passes}
-use Rattle.passing.specs.declared.Arriving.{Arriving}
-use Rattle.meeting.specs.Passing.{Enough}
-use Rattle.intake.specs.Lending.{lent}
-use Rattle.heldmap.specs.Model.{Standing, heldMap, arrivingAt, rowAt, settledNow}
-use Rattle.stepping.specs.Taken.{NextIs, StepIs, Begins, mapAfter, StepMade}
-use Rattle.steps.specs.Running.{WaitsIs, Running, Short, EndedIs, Stands, Ends}
+use Rattle.passing.specs.Row.{Row, passes}
+use Rattle.listing.specs.Places.{Sound}
+use Rattle.listing.proofs.Froms.{sound}
+use Rattle.stretches.specs.declared.Stretch.{Stretch}
+use Rattle.directed.specs.declared.Directed.{Directed}
+use Rattle.meeting.specs.Passing.{passed, Enough}
+use Rattle.heldmap.specs.Directions.{networkIn, distanceFor}
+use Rattle.heldmap.specs.Model.{Standing, heldMap, settledNow}
+use Rattle.heldmap.specs.RowsOfTables.{Lists, stretchIn, directedAt, rowOn}
+use Rattle.stepping.specs.Taken.{NextIs, StepIs, Begins, StepMade}
+use Rattle.steps.specs.Running.{WaitsIs, Running, Short, EndedIs, OrderIn, Stands, Ends}
 use Rattle.stepping.specs.declared.Progress.{Progress}
 use Rattle.stepping.specs.declared.Stepped.{Stepped}
 use Rattle.stepping.specs.declared.Stepped.the-variants.{Next, Full}
 use Rattle.steps.specs.declared.Ended.the-variants.{Done, Refused}
 use Rattle.heldmap.proofs.ArrivingRun.{standing}
-use Rattle.heldmap.proofs.HeldMap.{beyond-none, foremost-next, none-waits}
-use Rattle.heldmap.proofs.StepIsNext.{bounded-is, one-further, enough-next, sound-next, leaves-next}
+use Rattle.heldmap.proofs.HeldMap.{beyond-none, none-waits}
+use Rattle.heldmap.proofs.RowOfNetwork.{IsRow}
+use Rattle.heldmap.proofs.RowsInDirection.{row-in, passable-in, near-in, stretch-in, few-in}
+use Rattle.heldmap.proofs.StepIsNext.{Searched, one-further, next-low, enough-next}
+use Rattle.heldmap.proofs.Directions.{waysIn, searched}
 use Rattle.steps.proofs.RunningNext.{onward, onward-short}
 
 -- what `waits` has from `next`
--- the records that arrive at x, where D is written in another way
-pub arriving-allowed : (size : ℕ) (v w h : List ℕ) (x d : ℕ) (A : Seconds) (speed : ℕ) {D D′ : ℕ} {a : Arriving} → D ≡ D′ → a ≡ arrivingAt size v w h x d A speed D → a ≡ arrivingAt size v w h x d A speed D′
-arriving-allowed size v w h x d A speed q e = e ∙ ap (arrivingAt size v w h x d A speed) q
-
 module _ (t : Table) (b : List ℕ) (D : ℕ) (r : Nearest) (h : NextIs t b D r) where
   pub waits-at : {s v d : ℕ} → r ≡ Nearest.At s v d → WaitsIs t b D true
   unfolding WaitsIs
@@ -53,17 +57,30 @@ module _ (t : Table) (b : List ℕ) (D : ℕ) (r : Nearest) (h : NextIs t b D r)
   unfolding WaitsIs
   waits-not e = subst (NextIs t b D) e h
 
-module _ (size : ℕ) (wide : 16 ≤ size) (v w h : List ℕ) (heldLong settledLong : ℕ) (Q : query.Query) (ok : Valid (tablesOf size v w h) Q) (p : Progress) (held settled : List ℕ) (H : Stands size v w h heldLong settledLong Q p held settled) where
-  abbrev N : Tables
-  N = tablesOf size v w h
-
+module _ (c : Bool) (N : Tables) (heldLong settledLong : ℕ) (Q : query.Query) (ok : Valid N Q) (p : Progress) (held settled : List ℕ) (H : Stands c N heldLong settledLong Q p held settled) where
   abbrev G : Network
-  G = network N Q
+  G = networkIn c N Q
+
+  abbrev W : Ways
+  W = waysIn c N Q
+
+  abbrev far : ℕ → ℕ → Type 0
+  far = distanceFor c N Q
+
+  network-searched : Searched G W far
+  network-searched = searched c N Q ok
 
   -- the order is there, so the run stands somewhere
-  stand : Running (lent v w h size (replicate heldLong 0) (replicate settledLong 0)) Q (orderOf N Q ok) p held settled
+  order : List Settled
+  order = orderOf G W far (network-searched .told)
+
+  order-here : OrderIn c N Q order
+  unfolding order
+  order-here = order-is G W far (network-searched .told)
+
+  stand : Running G (replicate heldLong 0) (replicate settledLong 0) order p held settled
   unfolding Stands
-  stand = H (replicate heldLong 0) (replicate settledLong 0) (length-replicate {A = ℕ} heldLong 0) (length-replicate {A = ℕ} settledLong 0) (orderOf N Q ok) (order-is N Q ok)
+  stand = H (replicate heldLong 0) (replicate settledLong 0) (length-replicate {A = ℕ} heldLong 0) (length-replicate {A = ℕ} settledLong 0) order order-here
 
   pub table-order : InOrder (p .table) held
   table-order = stand .table .order
@@ -72,27 +89,27 @@ module _ (size : ℕ) (wide : 16 ≤ size) (v w h : List ℕ) (heldLong settledL
   pub counts-fit : (p .settled ≤ length settled / 8) × (p .settled < 4294967295)
   counts-fit =
       let room = stand .room (p .settled) (let z : p .settled ≤ p .settled = omega arith in z) in
-      let long : length (take (p .settled) (orderOf N Q ok)) ≡ p .settled = omega (arith, length-take (p .settled) (orderOf N Q ok), stand .made) in
-      let most = order-size N Q ok (order-is N Q ok) in
+      let long : length (take (p .settled) order) ≡ p .settled = omega (arith, length-take (p .settled) order, stand .made) in
+      let most = order-size G W far (network-searched .told) order-here in
       (omega (arith, room .1, long, stand .long), omega (arith, stand .made, most, ok .tables .vertices-few))
 
   -- Nothing waits within D: the whole order is settled.
-  pub whole : (limit : ℕ) → p .settled ≤ limit → NextIs (p .table) held (allowed Q) Nearest.Nothing → Ends size v w h heldLong settledLong Q limit held settled (Done p 1)
+  pub whole : (limit : ℕ) → p .settled ≤ limit → NextIs (p .table) held (allowed Q) Nearest.Nothing → Ends c N heldLong settledLong Q limit held settled (Done p 1)
   unfolding Stands Ends EndedIs NextIs
-  whole limit below n x y a c l O =
-      let R = H x y a c l O in
+  whole limit below n x y a b l O =
+      let R = H x y a b l O in
       let waits : (u e : ℕ) → Waits (heldMap G (distanceIn (take (p .settled) l))) u e → allowed Q < e = λ u e w. n u e (subst (λ (m : Map). Waits m u e) (sym (R .table .map)) w) in
       let all : length l ≤ p .settled =
-      all-settled N Q ok O (p .settled) .0
-      (none-waits G (distanceIn (take (p .settled) l)) (bounded-is N Q ok) (allowed-low N Q ok) waits) in
+      all-settled G W far (network-searched .told) O (p .settled) .0
+      (none-waits G (distanceIn (take (p .settled) l)) (network-searched .bounded) (network-searched .told .few) waits) in
       record { running = R; steps = omega (arith, R .made); finished-is = sym (cond-true 1 0 (le-leb (length l) (p .settled) all)) }
 
   module _ (s x d : ℕ) (n : NextIs (p .table) held (allowed Q) (Nearest.At s x d)) where
-    place : Place (p .table) held x s
+    pub place : Place (p .table) held x s
     unfolding NextIs
     place = n .0
 
-    front : Foremost (mapOf (p .table) held) x d
+    pub front : Foremost (mapOf (p .table) held) x d
     unfolding NextIs
     front = n .1
 
@@ -100,80 +117,126 @@ module _ (size : ℕ) (wide : 16 ≤ size) (v w h : List ℕ) (heldLong settledL
     unfolding NextIs
     near = n .2
 
-    ahead : {y z : List ℕ} {l : List Settled} → Running (lent v w h size y z) Q l p held settled → Foremost (heldMap G (distanceIn (take (p .settled) l))) x d
+    ahead : {y z : List ℕ} {l : List Settled} → Running G y z l p held settled → Foremost (heldMap G (distanceIn (take (p .settled) l))) x d
     ahead R = subst (λ (m : Map). Foremost m x d) (R .table .map) front
 
     -- The limit is reached while a vertex waits within D.
-    pub more-left : (limit : ℕ) → p .settled ≡ limit → Ends size v w h heldLong settledLong Q limit held settled (Done p 0)
+    pub more-left : (limit : ℕ) → p .settled ≡ limit → Ends c N heldLong settledLong Q limit held settled (Done p 0)
     unfolding Stands Ends EndedIs
-    more-left limit e y z a c l O =
-        let R = H y z a c l O in
-        let f = one-further size wide v w h Q ok O (bounded-is N Q ok) (p .settled) (R .made) x d (ahead R) near in
+    more-left limit e y z a b l O =
+        let R = H y z a b l O in
+        let f = one-further G W far network-searched O (p .settled) (R .made) x d (ahead R) near in
         record { running = R; steps = omega (arith, f .0); finished-is = sym (cond-false 1 0 (lt-leb (length l) (p .settled) (f .0))) }
 
-    pub x-low : x < length v / 12
-    x-low = rw (vertex-count size v w h) at (foremost-next G (distanceIn (take (p .settled) (orderOf N Q ok))) (bounded-is N Q ok) x d (ahead stand) near .0 .low)
+    pub x-low : x < vertexCount N
+    x-low = next-low G W far network-searched order-here (p .settled) (stand .made) x d (ahead stand) near
 
-    -- its arriving records are a run of each table
-    pub run-fits : Standing size v w h x
-    run-fits = standing size v w h (ok .tables) x x-low
+    pub inside : (u : ℕ) → vertexCount N ≤ u → mapOf (p .table) held u ≡ absent
+    inside u l = ap (λ (m : Map). m u) (stand .table .map) ∙ beyond-none G (distanceIn (take (p .settled) order)) (network-searched .bounded) u l
 
-    module _ (A : Seconds) (clock : clocked (A .0) ≡ Q .arrival) where
-      abbrev r : Arriving
-      r = arrivingAt size v w h x d A (Q .speed) (allowed Q)
-
-      -- the step may begin
-      pub begins : Begins v w h x s r (p .table) held
-      unfolding arrivingAt
-      begins =
-          record {
-            order = table-order;
-            place = place;
-            unsettled = front .waits .unsettled;
-            some = omega (arith, front .waits .at, front .waits .some);
-            standing = run-fits;
-            sound = sound-next size wide v w h Q ok (order-is N Q ok) (bounded-is N Q ok) (p .settled) (stand .made) x d (ahead stand) near A clock;
-            leaves = leaves-next size wide v w h Q ok (order-is N Q ok) (bounded-is N Q ok) (p .settled) (stand .made) x d (ahead stand) near A clock;
-            enough =
-                subst (λ (m : Map). Enough (rowAt v w h x r) (passes r) (settledNow m x)) (sym (stand .table .map))
-                (enough-next size wide v w h Q ok (order-is N Q ok) (bounded-is N Q ok) (p .settled) (stand .made) x d (ahead stand) near A clock);
-            inside = λ u far. ap (λ (m : Map). m u) (stand .table .map) ∙ beyond-none G (distanceIn (take (p .settled) (orderOf N Q ok))) (bounded-is N Q ok) u (omega (arith, far, vertex-count size v w h));
-          }
+    -- the records of the network that lead to x, as a row
+    module _ (R : Row) (m : ℕ) (I : IsRow G x d R m) where
+      pub enough : Enough R m (settledNow (mapOf (p .table) held) x)
+      enough =
+          subst (λ (z : Map). Enough R m (settledNow z x)) (sym (stand .table .map))
+          (enough-next G W far network-searched order-here (p .settled) (stand .made) x d (ahead stand) near R m I)
 
       abbrev M : Map
-      M = mapAfter v w h x r (mapOf (p .table) held)
-
-      pub begins-as : (a : Arriving) → a ≡ r → Begins v w h x s a (p .table) held
-      begins-as a e = subst (λ (z : Arriving). Begins v w h x s z (p .table) held) (sym e) begins
+      M = passed R m (settledNow (mapOf (p .table) held) x)
 
       module _ (held′ settled′ : List ℕ) where
-        -- one step, with the arriving records written in the code's way
-        pub step-as : (a : Arriving) → a ≡ r → (y : Stepped) → StepMade v w h x a p held held′ settled settled′ y → StepIs p M x d held′ settled settled′ y
-        unfolding arrivingAt
-        step-as a e y T = subst (λ (z : Arriving). StepMade v w h x z p held held′ settled settled′ y) e T
-
         pub one-counted : (q : Progress) → StepIs p M x d held′ settled settled′ (Next q) → q .settled ≡ p .settled + 1
         unfolding StepIs
         one-counted q T = T .count
 
-        pub stands-on : (q : Progress) → StepIs p M x d held′ settled settled′ (Next q) → Stands size v w h heldLong settledLong Q q held′ settled′
+        pub stands-on : (q : Progress) → StepIs p M x d held′ settled settled′ (Next q) → Stands c N heldLong settledLong Q q held′ settled′
         unfolding Stands StepIs
-        stands-on q T y z a c l O = onward (lent v w h size y z) wide Q ok O (bounded-is N Q ok) p held settled (H y z a c l O) x d front near A clock held′ settled′ q T
+        stands-on q T y z a b l O = onward G W far network-searched (ok .tables .vertices-few) O y z p held settled (H y z a b l O) x d front near R m I held′ settled′ q T
 
-        pub stops : (limit n′ : ℕ) → p .settled < limit → StepIs p M x d held′ settled settled′ (Full n′) → Ends size v w h heldLong settledLong Q limit held′ settled′ (Refused n′ (p .settled + 1))
+        pub stops : (limit n′ : ℕ) → p .settled < limit → StepIs p M x d held′ settled settled′ (Full n′) → Ends c N heldLong settledLong Q limit held′ settled′ (Refused n′ (p .settled + 1))
         unfolding Stands StepIs Ends EndedIs
-        stops limit n′ below T y z a c l O =
-            subst (λ (j : ℕ). Short (lent v w h size y z) Q l limit n′ j) (let e : suc (p .settled) ≡ p .settled + 1 = omega arith in e)
-            (onward-short (lent v w h size y z) wide Q ok O (bounded-is N Q ok) p held settled (H y z a c l O) x d front near A clock held′ settled′ limit n′ below T)
+        stops limit n′ below T y z a b l O =
+            subst (λ (j : ℕ). Short G y z l limit n′ j) (let e : suc (p .settled) ≡ p .settled + 1 = omega arith in e)
+            (onward-short G W far network-searched (ok .tables .vertices-few) O y z p held settled (H y z a b l O) x d front near R m I held′ settled′ limit n′ below T)
 
   -- The limit is reached, and `waits` tells whether a vertex waits within D.
-  module _ (D : ℕ) (q : D ≡ allowed Q) (r : Bool) (W : WaitsIs (p .table) held D r) (limit : ℕ) where
-    pub some-wait : p .settled ≡ limit → r ≡ true → Ends size v w h heldLong settledLong Q limit held settled (Done p 0)
+  module _ (D : ℕ) (q : D ≡ allowed Q) (r : Bool) (K : WaitsIs (p .table) held D r) (limit : ℕ) where
+    pub some-wait : p .settled ≡ limit → r ≡ true → Ends c N heldLong settledLong Q limit held settled (Done p 0)
     unfolding WaitsIs
     some-wait e t =
-        let n = subst (λ (z : ℕ). WaitsIs (p .table) held z true) q (subst (WaitsIs (p .table) held D) t W) in
+        let n = subst (λ (z : ℕ). WaitsIs (p .table) held z true) q (subst (WaitsIs (p .table) held D) t K) in
         more-left (n .0) (n .1) (n .2) (n .3) limit e
 
-    pub none-wait : p .settled ≤ limit → r ≡ false → Ends size v w h heldLong settledLong Q limit held settled (Done p 1)
+    pub none-wait : p .settled ≤ limit → r ≡ false → Ends c N heldLong settledLong Q limit held settled (Done p 1)
     unfolding WaitsIs
-    none-wait below t = whole limit below (subst (λ (z : ℕ). WaitsIs (p .table) held z false) q (subst (WaitsIs (p .table) held D) t W))
+    none-wait below t = whole limit below (subst (λ (z : ℕ). WaitsIs (p .table) held z false) q (subst (WaitsIs (p .table) held D) t K))
+
+-- ---- the row as it is read from the tables
+-- in the code's way: from the stretch as it was found, and D as it was worked out
+pub row-is : (c : Bool) (size : ℕ) (v w h : List ℕ) (x d : ℕ) (A : Seconds) (speed : ℕ) {D D′ : ℕ} {s t : Stretch} {a : Directed} → D ≡ D′ → s ≡ t → a ≡ directedAt c size v w h s x d A speed D → a ≡ directedAt c size v w h t x d A speed D′
+row-is c size v w h x d A speed {D} {D′} {s} {t} q e f = f ∙ ap (λ (y : Stretch). directedAt c size v w h y x d A speed D) e ∙ ap (directedAt c size v w h t x d A speed) q
+
+module _ (c : Bool) (size : ℕ) (wide : 16 ≤ size) (v w h list : List ℕ) (lists : Lists c size w h list) (heldLong settledLong : ℕ) (Q : query.Query) (ok : Valid (tablesOf size v w h) Q) (p : Progress) (held settled : List ℕ)
+    (H : Stands c (tablesOf size v w h) heldLong settledLong Q p held settled) (s x d : ℕ) (n : NextIs (p .table) held (allowed Q) (Nearest.At s x d)) where
+  abbrev T : Tables
+  T = tablesOf size v w h
+
+  low : x < length v / 12
+  low = rw (vertex-count size v w h) at (x-low c T heldLong settledLong Q ok p held settled H s x d n)
+
+  -- its arriving records are a run of each table
+  pub run-fits : Standing size v w h x
+  run-fits = standing size v w h (ok .tables) x low
+
+  -- and its stretch may be searched for
+  pub may-find : Lists c size w h list × Sound size v w h × (x < 4294967296)
+  may-find = (lists, sound size v w h (ok .tables) (omega arith), omega (arith, low, vertex-count size v w h, ok .tables .vertices-few))
+
+  module _ (A : Seconds) (clock : clocked (A .0) ≡ Q .arrival) where
+    abbrev stretch : Stretch
+    stretch = stretchIn c size w h x
+
+    abbrev r : Directed
+    r = directedAt c size v w h stretch x d A (Q .speed) (allowed Q)
+
+    abbrev R : Row
+    R = rowOn c size v w h list x r
+
+    close : d ≤ allowed Q
+    close = near c T heldLong settledLong Q ok p held settled H s x d n
+
+    pub row-here : IsRow (networkIn c T Q) x d R (passes (r .arriving))
+    row-here = row-in size wide v w h list Q ok x d low close A clock c lists
+
+    may-pass : Enough R (passes (r .arriving)) (settledNow (mapOf (p .table) held) x)
+    may-pass = enough c T heldLong settledLong Q ok p held settled H s x d n R (passes (r .arriving)) row-here
+
+    -- the step may begin
+    pub begins : ((i : ℕ) → Fits w8 (getD v i 0)) → Begins v w h list x s stretch r (p .table) held
+    unfolding directedAt
+    begins bytes =
+        let f = front c T heldLong settledLong Q ok p held settled H s x d n in
+        record {
+          order = table-order c T heldLong settledLong Q ok p held settled H;
+          place = place c T heldLong settledLong Q ok p held settled H s x d n;
+          unsettled = f .waits .unsettled;
+          some = omega (arith, f .waits .at, f .waits .some);
+          standing = run-fits;
+          wide = wide;
+          stretch = stretch-in size wide v w h list Q ok x d low close A clock c lists;
+          sound = passable-in size wide v w h list Q ok x d low close A clock c lists;
+          near = near-in size wide v w h list Q ok x d low close A clock c lists;
+          enough = may-pass;
+          few = few-in size wide v w h list Q ok x d low close A clock bytes c lists (settledNow (mapOf (p .table) held) x) may-pass;
+          inside = λ u b. inside c T heldLong settledLong Q ok p held settled H s x d n u (omega (arith, b, vertex-count size v w h));
+        }
+
+    pub begins-as : ((i : ℕ) → Fits w8 (getD v i 0)) → (t : Stretch) → t ≡ stretch → (a : Directed) → a ≡ r → Begins v w h list x s t a (p .table) held
+    begins-as bytes t e a f = subst (λ (y : Stretch). Begins v w h list x s y a (p .table) held) (sym e) (subst (λ (z : Directed). Begins v w h list x s stretch z (p .table) held) (sym f) (begins bytes))
+
+    -- one step, with the row written in the code's way
+    pub step-as : (held′ settled′ : List ℕ) (t : Stretch) → t ≡ stretch → (a : Directed) → a ≡ r → (y : Stepped) → StepMade v w h list x t a p held held′ settled settled′ y
+        → StepIs p (passed R (passes (r .arriving)) (settledNow (mapOf (p .table) held) x)) x d held′ settled settled′ y
+    unfolding directedAt
+    step-as held′ settled′ t e a f y S =
+        subst (λ (z : Stretch). StepMade v w h list x z r p held held′ settled settled′ y) e (subst (λ (z : Directed). StepMade v w h list x t z p held held′ settled settled′ y) f S)

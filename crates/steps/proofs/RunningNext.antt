@@ -9,48 +9,40 @@ use lib.Dec.{leb}
 use lib.ListN.{length, take, drop, length-append, length-take}
 use lib.Seq.{take-at, length-take-le}
 use borrow.Author.Tests.{le-leb, lt-leb}
-use Rattle.journeys.specs.Bytes.{clocked}
-use Rattle.journeys.specs.Tables.{Tables, vertexCount}
-use Rattle.journeys.specs.Query.{Query, allowed}
 use Rattle.journeys.specs.Order as order
-use Rattle.journeys.specs.Order.{Settled, IsOrder}
+use Rattle.journeys.specs.Order.{Settled, Order}
 use Rattle.journeys.specs.Network.{Network, distanceIn}
-use Rattle.journeys.specs.Records.{network}
 use Rattle.journeys.specs.Refusals.{Refusal}
-use Rattle.journeys.specs.Answers.{Lent, tables, heldAfter, settledBytes, roomAt, Room}
+use Rattle.journeys.specs.Answers.{settledBytes}
+use Rattle.journeys.specs.RunAnswers.{heldFor, RoomFor, roomFor}
+use Rattle.journeys.proofs.Ways.{Ways}
 use Rattle.journeys.proofs.Tests.{le-or-lt}
 use Rattle.journeys.proofs.Counting.{flat-snoc}
-use Rattle.journeys.specs.Valid.{Valid}
 use Rattle.journeys.proofs.Fits.{held-most}
 use Rattle.words.specs.Written.{written}
-use Rattle.words.specs.declared.Seconds.{Seconds}
 use Rattle.words.proofs.Written.{length-written}
 use Rattle.records.proofs.RecordBytes.{length-settled}
 use Rattle.worktable.specs.Map.{Map, size, Foremost}
 use Rattle.worktable.specs.Table.{mapOf}
-use Rattle.passing.specs.declared.Arriving.{Arriving}
-use Rattle.heldmap.specs.Model.{heldMap, arrivingAt}
-use Rattle.stepping.specs.Taken.{Steps, Lacks, mapAfter}
+use Rattle.passing.specs.Row.{Row}
+use Rattle.meeting.specs.Passing as passing
+use Rattle.heldmap.specs.Model.{heldMap, settledNow}
+use Rattle.stepping.specs.Taken.{Steps, Lacks}
 use Rattle.steps.specs.Running.{Running, Short}
 use Rattle.stepping.specs.declared.Progress.{Progress}
-use Rattle.heldmap.proofs.HeldMap.{Bounded, size-held}
+use Rattle.heldmap.proofs.HeldMap.{size-held}
 use Rattle.intake.proofs.FirstFault.{failed, passed, last-failed}
-use Rattle.heldmap.proofs.StepIsNext.{one-further, map-next}
+use Rattle.heldmap.proofs.RowOfNetwork.{IsRow}
+use Rattle.heldmap.proofs.StepIsNext.{Searched, one-further, map-next}
 
 -- what stands at the front when bytes are written behind it
 front-next : (d p : List ℕ) (at n : ℕ) → at ≤ length d → at + length p ≡ n → take n (written d at p) ≡ take at d ++ p
 unfolding written
 front-next d p at n h e = take-at (take at d ++ p) (drop (at + length p) d) n (omega (arith, length-append (take at d) p, length-take-le at d h))
 
-module _ (b : Lent) (wide : 16 ≤ b .hopSize) (Q : Query) (ok : Valid (tables b) Q) {l : List Settled} (O : IsOrder (tables b) Q l) (bounded : Bounded (network (tables b) Q))
-    (p : Progress) (held settled : List ℕ) (H : Running b Q l p held settled) (x d : ℕ) (F : Foremost (mapOf (p .table) held) x d) (near : d ≤ allowed Q)
-    (A : Seconds) (clock : clocked (A .0) ≡ Q .arrival) where
-  abbrev N : Tables
-  N = tables b
-
-  abbrev G : Network
-  G = network N Q
-
+module _ (G : Network) (W : Ways) (distance : ℕ → ℕ → Type 0) (searched : Searched G W distance) (vertices-few : G .vertices ≤ 65536) {l : List Settled} (O : Order G distance (G .allowed) l)
+    (heldLent settledLent : List ℕ) (p : Progress) (held settled : List ℕ) (H : Running G heldLent settledLent l p held settled) (x d : ℕ) (F : Foremost (mapOf (p .table) held) x d) (near : d ≤ G .allowed)
+    (R : Row) (n : ℕ) (I : IsRow G x d R n) where
   abbrev k : ℕ
   k = p .settled
 
@@ -58,22 +50,17 @@ module _ (b : Lent) (wide : 16 ≤ b .hopSize) (Q : Query) (ok : Valid (tables b
   F′ = subst (λ (m : Map). Foremost m x d) (H .table .map) F
 
   further : (k < length l) × (take (suc k) l ≡ take k l ++ order.settled x d ∷ [])
-  further = one-further (b .hopSize) wide (b .vertices) (b .walks) (b .hops) Q ok O bounded k (H .made) x d F′ near
-
-  abbrev r : Arriving
-  r = arrivingAt (b .hopSize) (b .vertices) (b .walks) (b .hops) x d A (Q .speed) (allowed Q)
+  further = one-further G W distance searched O k (H .made) x d F′ near
 
   -- the map that the step makes
   abbrev M : Map
-  M = mapAfter (b .vertices) (b .walks) (b .hops) x r (mapOf (p .table) held)
+  M = passing.passed R n (settledNow (mapOf (p .table) held) x)
 
   M-is : M ≡ heldMap G (distanceIn (take (suc k) l))
-  M-is =
-      ap (λ (m : Map). mapAfter (b .vertices) (b .walks) (b .hops) x r m) (H .table .map)
-      ∙ map-next (b .hopSize) wide (b .vertices) (b .walks) (b .hops) Q ok O bounded k (H .made) x d F′ near A clock
+  M-is = ap (λ (m : Map). passing.passed R n (settledNow m x)) (H .table .map) ∙ map-next G W distance searched O k (H .made) x d F′ near R n I
 
-  size-M : size M ≡ length (heldAfter b Q l (suc k))
-  size-M = ap size M-is ∙ size-held G (distanceIn (take (suc k) l)) bounded (ok .tables .vertices-few)
+  size-M : size M ≡ length (heldFor G l (suc k))
+  size-M = ap size M-is ∙ size-held G (distanceIn (take (suc k) l)) (searched .bounded) vertices-few
 
   -- what the step writes
   abbrev entry : List ℕ
@@ -88,10 +75,10 @@ module _ (b : Lent) (wide : 16 ≤ b .hopSize) (Q : Query) (ok : Valid (tables b
   module _ (held′ settled′ : List ℕ) where
     -- There is room: the run stands one step further.
     module _ (q : Progress) (T : Steps p M x d held′ settled settled′ q) where
-      room-next : Room b Q l (suc k)
+      room-next : RoomFor G heldLent settledLent l (suc k)
       room-next = (omega (arith, size-M, T .fits, H .slots), omega (arith, next-long, T .room, H .long))
 
-      long-next : length settled′ ≡ length (b .settled)
+      long-next : length settled′ ≡ length settledLent
       long-next = ap length (T .listed) ∙ length-written settled (8 * k) entry (omega (arith, length-settled (order.settled x d), T .room)) ∙ H .long
 
       front : take (8 * suc k) settled′ ≡ flatMap settledBytes (take (suc k) l)
@@ -101,7 +88,7 @@ module _ (b : Lent) (wide : 16 ≤ b .hopSize) (Q : Query) (ok : Valid (tables b
           ∙ ap (λ (z : List ℕ). z ++ entry) (H .listed)
           ∙ sym listed-next
 
-      pub onward : Running b Q l q held′ settled′
+      pub onward : Running G heldLent settledLent l q held′ settled′
       onward =
           let e : suc k ≡ q .settled = omega (arith, T .count) in
           record {
@@ -110,28 +97,28 @@ module _ (b : Lent) (wide : 16 ≤ b .hopSize) (Q : Query) (ok : Valid (tables b
             slots = T .table .room ∙ H .slots;
             long = long-next;
             listed = subst (λ (n : ℕ). take (8 * n) settled′ ≡ flatMap settledBytes (take n l)) e front;
-            room = λ j h. ⊎-elim (λ (o : j ≤ k). H .room j o) (λ (o : k < j). subst (Room b Q l) (let z : suc k ≡ j = omega arith in z) room-next) (le-or-lt j k);
+            room = λ j h. ⊎-elim (λ (o : j ≤ k). H .room j o) (λ (o : k < j). subst (RoomFor G heldLent settledLent l) (let z : suc k ≡ j = omega arith in z) room-next) (le-or-lt j k);
           }
 
-    few : size M ≤ min (vertexCount N) 65536
-    few = omega (arith, size-M, held-most G (distanceIn (take (suc k) l)), ok .tables .vertices-few)
+    few : size M ≤ min (G .vertices) 65536
+    few = omega (arith, size-M, held-most G (distanceIn (take (suc k) l)), vertices-few)
 
     abbrev at : ℕ → Refusal
     at n = record { number = n; place = suc k }
 
-    held-over : p .table .room < size M → leb (length (heldAfter b Q l (suc k))) (length (b .held) / 16) ≡ false
-    held-over h = lt-leb (length (heldAfter b Q l (suc k))) (length (b .held) / 16) (omega (arith, size-M, H .slots, few))
+    held-over : p .table .room < size M → leb (length (heldFor G l (suc k))) (length heldLent / 16) ≡ false
+    held-over h = lt-leb (length (heldFor G l (suc k))) (length heldLent / 16) (omega (arith, size-M, H .slots, few))
 
-    held-fits : size M ≤ p .table .room → leb (length (heldAfter b Q l (suc k))) (length (b .held) / 16) ≡ true
-    held-fits h = le-leb (length (heldAfter b Q l (suc k))) (length (b .held) / 16) (omega (arith, size-M, H .slots))
+    held-fits : size M ≤ p .table .room → leb (length (heldFor G l (suc k))) (length heldLent / 16) ≡ true
+    held-fits h = le-leb (length (heldFor G l (suc k))) (length heldLent / 16) (omega (arith, size-M, H .slots))
 
     -- the number is that of the first of the two that lacks room
-    refused : (n : ℕ) → Lacks p M settled n → roomAt b Q l (suc k) ≡ at n
-    unfolding roomAt
+    refused : (n : ℕ) → Lacks p M settled n → roomFor G heldLent settledLent l (suc k) ≡ at n
+    unfolding roomFor
     refused n (inl a) = failed _ 8 (suc k) _ (omega arith) (held-over (a .1)) ∙ ap at (sym (a .0))
     refused n (inr a) =
         passed _ 8 (suc k) _ (held-fits (a .1))
-        ∙ last-failed _ 9 (suc k) (lt-leb (length (take (suc k) l)) (length (b .settled) / 8) (omega (arith, next-long, H .long, a .2)))
+        ∙ last-failed _ 9 (suc k) (lt-leb (length (take (suc k) l)) (length settledLent / 8) (omega (arith, next-long, H .long, a .2)))
         ∙ ap at (sym (a .0))
 
     some : (n : ℕ) → Lacks p M settled n → 0 < n
@@ -139,5 +126,5 @@ module _ (b : Lent) (wide : 16 ≤ b .hopSize) (Q : Query) (ok : Valid (tables b
     some n (inr a) = omega (arith, a .0)
 
     -- There is none: the refusal of this step.
-    pub onward-short : (limit n : ℕ) → k < limit → Lacks p M settled n → Short b Q l limit n (suc k)
+    pub onward-short : (limit n : ℕ) → k < limit → Lacks p M settled n → Short G heldLent settledLent l limit n (suc k)
     onward-short limit n below L = record { made = omega (arith, further .0); refusal = refused n L; some = some n L; before = λ j h. H .room j (omega arith) }

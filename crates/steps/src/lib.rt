@@ -1,4 +1,4 @@
-// The steps of a run behind step 0, up to its limit.
+// The steps of a run behind step 0, up to its limit, in either direction.
 // Promises: as many steps as the limit and the order of settling allow, and whether that is all; or the first step that lacks room.
 // Rests on: one step (`stepping`), what it means for the held map (`heldmap`).
 use records::Query;
@@ -14,6 +14,7 @@ ghost use Rattle.journeys.specs.Tables.{tablesOf};
 ghost use Rattle.journeys.specs.Query as query;
 ghost use Rattle.worktable.specs.Table.{InOrder};
 ghost use Rattle.records.specs.Asked.{queryOf};
+ghost use Rattle.heldmap.specs.RowsOfTables.{Lists};
 ghost use Rattle.steps.specs.Running.{WaitsIs, Stands, Ends};
 ghost use Rattle.journeys.specs.Valid.{Valid};
 
@@ -40,17 +41,20 @@ pub fn steps<'a>(
     walks: &'a [u8],
     hops: &'a [u8],
     hop_size: usize,
+    list: &[u8],
     held: &mut [u8],
     settled: &mut [u8],
     scratch: &mut [u16],
     start: Progress,
     q: Query,
+    courier: bool,
     allowed: Ticks,
     limit: u32,
 ) -> Ended
     requires { ⌜ Valid (tablesOf «hop_size» (now vertices) (now walks) (now hops)) (queryOf q) × (allowed .0 ≡ query.allowed (queryOf q)) × (now scratch ≡ replicate 2048 0) × (start .settled ≡ 0) × (16 ≤ «hop_size») ⌝ }
-    requires { ⌜ Stands «hop_size» (now vertices) (now walks) (now hops) (length (now held)) (length (now settled)) (queryOf q) start (now held) (now settled) ⌝ }
-    ensures { λ r. ⌜ Ends «hop_size» (now (vertices .entry)) (now (walks .entry)) (now (hops .entry)) (length (now (held .entry))) (length (now (settled .entry))) (queryOf q) limit (now (held .exit)) (now (settled .exit)) r ⌝ }
+    requires { ⌜ Lists courier «hop_size» (now walks) (now hops) (now list) ⌝ }
+    requires { ⌜ Stands courier (tablesOf «hop_size» (now vertices) (now walks) (now hops)) (length (now held)) (length (now settled)) (queryOf q) start (now held) (now settled) ⌝ }
+    ensures { λ r. ⌜ Ends courier (tablesOf «hop_size» (now (vertices .entry)) (now (walks .entry)) (now (hops .entry))) (length (now (held .entry))) (length (now (settled .entry))) (queryOf q) limit (now (held .exit)) (now (settled .exit)) r ⌝ }
     ensures { λ _. ⌜ now (scratch .exit) ≡ replicate 2048 0 ⌝ }
 {
     let mut p = start;
@@ -59,11 +63,14 @@ pub fn steps<'a>(
         let Nearest::At(slot, x, d) = stepping::next(held, table, allowed.0) else {
             return Ended::Done(p, 1);
         };
-        let arriving = stepping::arriving_at(
+        let stretch = stepping::stretch_at(vertices, walks, hops, hop_size, list, courier, x);
+        let row = stepping::row_at(
             vertices,
             walks,
             hops,
             hop_size,
+            stretch,
+            courier,
             x,
             d,
             q.arrival,
@@ -74,13 +81,15 @@ pub fn steps<'a>(
             vertices,
             walks,
             hops,
+            list,
             held,
             settled,
             scratch,
             p,
             x,
             slot,
-            arriving,
+            stretch,
+            row,
         ) {
             Stepped::Next(more) => p = more,
             Stepped::Full(n) => return Ended::Refused(n, p.settled + 1),

@@ -34,7 +34,7 @@ returns c =
     )
 
 returns-2 : tie.Need-returns-2
-returns-2 c = (ends-as _ _ _ _ _ _ _ _ _ _ _ _ (c .before .before .before .before .before .before .before .before .before .before .before .before .before .before .held .given) (c .before .before .before .before .before .before .steps .ensures .0), c .before .before .before .before .before .before .steps .ensures .1)
+returns-2 c = (ends-as _ _ _ _ _ _ _ _ _ _ (c .before .before .before .before .before .before .before .before .before .before .before .before .before .before .held .given) (c .before .before .before .before .before .before .steps .ensures .0), c .before .before .before .before .before .before .steps .ensures .1)
 
 pub all-steps-spec : {M : Type 1} → statement M
 all-steps-spec =

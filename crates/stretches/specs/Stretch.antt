@@ -1,0 +1,21 @@
+-- Where the records of a vertex stand in the right list. Assumes nothing.
+use mathlib.Core.Path.{_≡_}
+use mathlib.Core.List.{List}
+use Prim.Native.Nat.{ℕ, _-_, _*_, _<_}
+use Rattle.journeys.specs.Bytes.{be32}
+use Rattle.records.specs.Columns.{recordsIn}
+use Rattle.listing.specs.Places.{total, fromOf, below, same, rank}
+use Rattle.stretches.specs.declared.Stretch.{Stretch}
+
+-- F tells where each of n records leaves: every record stands in its place
+pub record Right (F : ℕ → ℕ) (n : ℕ) (list : List ℕ) : Type 0 where
+  pub stands : (x : ℕ) → x < n → be32 list (4 * rank F n x) ≡ x
+
+-- behind the records of the vertices before v; its walks, then its hops
+abbrev pub stretchOf : ℕ → List ℕ → List ℕ → ℕ → Stretch
+stretchOf size w h v =
+    record {
+      first = below (fromOf size w h) v (total size w h);
+      walks = same (fromOf size w h) v (recordsIn 16 w);
+      hops = same (fromOf size w h) v (total size w h) - same (fromOf size w h) v (recordsIn 16 w);
+    }
