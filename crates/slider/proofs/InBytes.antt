@@ -17,7 +17,7 @@ use Rattle.journeys.proofs.Counting.{flat-append}
 use Rattle.journeys.proofs.Firsts.{follows-each}
 use Rattle.records.proofs.RecordBytes.{length-settled, settled-back}
 use Rattle.covering.proofs.OwnList.{own-length}
-use Rattle.siltbrow.proofs.RecordsInBytes.{Stands, be32-behind, one-of}
+use Rattle.answered.proofs.RecordsInBytes.{Stands, be32-behind, one-of}
 use Rattle.slider.specs.Longer.{Longer}
 use Rattle.slider.specs.Directions.{Direction, Finished}
 use Rattle.slider.proofs.Lawful.{Lawful}
