@@ -5,3 +5,4 @@ pub mod Beginning
 pub mod InBytes
 pub mod Slides
 pub mod Calls
+pub mod CourierCalls
