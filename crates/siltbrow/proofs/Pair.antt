@@ -22,7 +22,7 @@ use Rattle.siltbrow.specs.PartsRan.{partsAnswerBytes}
 use Rattle.siltbrow.specs.Call.{Call, Completed, refusal, settledCount, read, Orders, steps, S}
 use Rattle.siltbrow.specs.PartsCall.{PartsCall, PartsCompleted, partsRefusal, partsCount}
 use Rattle.siltbrow.specs.Pair.{Follows, oneBytes}
-use Rattle.siltbrow.proofs.Demands.{refusal-read, settled-read}
+use Rattle.answered.proofs.Answers.{refusal-read, settled-read}
 use Rattle.siltbrow.proofs.PartsDemands as demands
 
 -- the part count of the second answer in the place of the first one's, which is 0

@@ -17,7 +17,7 @@ use Rattle.records.proofs.RecordBytes.{length-part, part-back}
 use Rattle.siltbrow.specs.Call.{Call, Completed, refusal, finished, read, Orders, S}
 use Rattle.siltbrow.specs.PartsCall.{PartsCall, PartsCompleted, partsRefusal, partsCount}
 use Rattle.siltbrow.specs.Pair.{Follows}
-use Rattle.siltbrow.proofs.RecordsInBytes.{Stands, stands-front, record-listed, listed-record}
+use Rattle.answered.proofs.RecordsInBytes.{Stands, stands-front, record-listed, listed-record}
 use Rattle.siltbrow.proofs.Demands.{valid, theOrder, is-order, finished-whole}
 use Rattle.siltbrow.proofs.Pair.{parts-are}
 

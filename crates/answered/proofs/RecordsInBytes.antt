@@ -12,7 +12,7 @@ use Rattle.journeys.specs.Counting.{In}
 use Rattle.journeys.specs.Bytes.{be32, filled}
 
 -- 32 bits behind other bytes, and before them
-be32-behind : (p l : List ℕ) (j : ℕ) → be32 (p ++ l) (length p + j) ≡ be32 l j
+pub be32-behind : (p l : List ℕ) (j : ℕ) → be32 (p ++ l) (length p + j) ≡ be32 l j
 unfolding be32
 be32-behind p l j =
     let e1 : length p + j + 1 ≡ length p + (j + 1) = omega arith in
@@ -58,7 +58,7 @@ module _ {A : Type 0} (written : A → List ℕ) (size : ℕ) (long : (x : A) �
       ∙ be32-behind (written y) (flatMap written xs ++ rest) (size * i + j)
       ∙ s j h l
 
-  one-of : (xs : List A) (rest : List ℕ) (i : ℕ) → i < length xs → (x : A) × In x xs × Stands (flatMap written xs ++ rest) i x
+  pub one-of : (xs : List A) (rest : List ℕ) (i : ℕ) → i < length xs → (x : A) × In x xs × Stands (flatMap written xs ++ rest) i x
   one-of [] rest i h = absurd (omega arith)
   one-of (y ∷ ys) rest zero h = (y, inl refl, first y ys rest)
   one-of (y ∷ ys) rest (suc i) h = let z = one-of ys rest i (omega arith) in (z .0, inr (z .1), later y (z .0) ys rest i (z .2))

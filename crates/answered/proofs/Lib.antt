@@ -1,0 +1,4 @@
+pub mod RecordsInBytes
+pub mod Answers
+pub mod Vertices
+pub mod Held
