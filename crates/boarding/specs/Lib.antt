@@ -1,0 +1,4 @@
+pub mod Rides
+pub mod RideJourneys
+pub mod RideOrder
+pub mod RideAnswers
