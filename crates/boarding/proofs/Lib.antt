@@ -1,3 +1,4 @@
 pub mod Links
 pub mod Boards
 pub mod Rides
+pub mod RideOrder
