@@ -2,3 +2,5 @@ pub mod Links
 pub mod Boards
 pub mod Rides
 pub mod RideOrder
+pub mod RideAnswers
+pub mod RideCases

@@ -37,7 +37,7 @@ True N Q M S = (x : Settled) → In x S → RideDistance N Q M (x .vertex) (x .d
 
 -- ---- where the same vertices may follow true lists, the order is the same
 module _ (N : Tables) (Q : Query) (M : Mode) (G : Network)
-  (agree : (S : List Settled) → True N Q M S → (x : Settled) → RideEligible N Q M S x ↔ Eligible G (RideDistance N Q M) (allowed Q) S x) where
+    (agree : (S : List Settled) → True N Q M S → (x : Settled) → RideEligible N Q M S x ↔ Eligible G (RideDistance N Q M) (allowed Q) S x) where
   true-snoc : (S : List Settled) (x : Settled) → True N Q M S → RideDistance N Q M (x .vertex) (x .distance) → True N Q M (S ++ x ∷ [])
   true-snoc S x t d y i = go (in-snoc S x y i)
     where

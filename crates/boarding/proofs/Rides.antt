@@ -45,8 +45,8 @@ abbrev pub waysBy : Tables → Query → Mode → (ℕ → Bool) → Ways
 waysBy N Q M aboard = record { Ends = document.End N Q; Leads = λ r. Passes Q (rideLink N Q M aboard r) }
 
 module _ (N : Tables) (Q : Query) (M : Mode) (ok : Valid N Q) (aboard : ℕ → Bool)
-  (sound : (j : ℕ) → j < hopCount N → aboard j ≡ true → Aboard N Q M j)
-  (full : (j : ℕ) → j < hopCount N → Aboard N Q M j → aboard j ≡ true) where
+    (sound : (j : ℕ) → j < hopCount N → aboard j ≡ true → Aboard N Q M j)
+    (full : (j : ℕ) → j < hopCount N → Aboard N Q M j → aboard j ≡ true) where
   abbrev G : Network
   G = networkBy N Q M aboard
 

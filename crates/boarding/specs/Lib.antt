@@ -2,3 +2,4 @@ pub mod Rides
 pub mod RideJourneys
 pub mod RideOrder
 pub mod RideAnswers
+pub mod RideCases
