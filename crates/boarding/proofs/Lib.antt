@@ -4,3 +4,4 @@ pub mod Rides
 pub mod RideOrder
 pub mod RideAnswers
 pub mod RideCases
+pub mod Changing
