@@ -5,3 +5,4 @@ pub mod RideOrder
 pub mod RideAnswers
 pub mod RideCases
 pub mod Changing
+pub mod SameList
