@@ -16,7 +16,7 @@ use Rattle.journeys.specs.Query.{Query, before, asked, walkTicks, fromTicks, to
 use Rattle.journeys.specs.Settled.{Settled}
 use Rattle.journeys.specs.Network.{Network, distanceIn}
 use Rattle.journeys.specs.Records.{seed}
-use Rattle.journeys.specs.Valid.{Valid}
+use Rattle.journeys.specs.Valid.{Valid, ValidTables}
 use Rattle.journeys.proofs.Tests.{split, and-both, and-true, cond-true, cond-false, le-or-lt, same-or-below}
 use Rattle.journeys.proofs.Ways.{Ways, Arrives, ends, leads, Laws, arrives-up}
 use Rattle.journeys.proofs.Gates.{seeds-are}
@@ -56,6 +56,11 @@ is-stays N M i j s =
 pub first-low : {N : Tables} {M : Mode} {j k : ℕ} → Ride N M j k → j < hopCount N
 first-low (alone j l) = l
 first-low (onward j l s r) = l
+
+-- A ride ends no earlier than its first hop arrives, and that hop leaves no later.
+pub ride-spans : {N : Tables} {M : Mode} → ValidTables N → {i k : ℕ} → Ride N M i k → (hop N i .departure ≤ hop N i .arrival) × (hop N i .arrival ≤ hop N k .arrival)
+ride-spans {N} ok (alone j l) = (good-hop N ok j l .rides, omega arith)
+ride-spans {N} ok (onward i l s r) = let h = ride-spans ok r in (good-hop N ok i l .rides, omega (arith, s .in-time, h .0, h .1))
 
 -- ---- the links by their numbers: walks, then for each hop one to stay for every hop, one to board it and one to alight
 pub data Road : Type 0 where

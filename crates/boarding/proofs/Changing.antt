@@ -19,13 +19,12 @@ use Rattle.journeys.specs.Valid.{Valid}
 use Rattle.journeys.proofs.Tests.{and-both, and-true, cond-true}
 use Rattle.journeys.proofs.Gates.{gate-is}
 use Rattle.journeys.proofs.Firsts.{order-same}
-use Rattle.journeys.proofs.Valid.{good-hop}
 use Rattle.journeys.proofs.Document as document
 use Rattle.journeys.proofs.Document.{Numbered, of-walk, of-hop, numbered, walk-record, hop-record}
 use Rattle.boarding.specs.Rides.{Mode, Stays, Ride, alone, onward}
 use Rattle.boarding.specs.RideJourneys.{boardTicks, standing, RideJourney, from-end, to-end, at-to, by-walk, by-ride, RideDistance, Aboard}
 use Rattle.boarding.specs.RideOrder.{RideOffers, RideEligible, IsRideOrder}
-use Rattle.boarding.proofs.Boards.{before-mono}
+use Rattle.boarding.proofs.Boards.{before-mono, ride-spans}
 use Rattle.boarding.proofs.RideOrder.{True, orders-alike, stop-journey, order-each, order-all, distance-exists}
 
 -- ---- no boarding time
@@ -44,14 +43,9 @@ module _ (N : Tables) (Q : Query) (M : Mode) (ok : Valid N Q) (no-time : M .boar
       RideJourney.wait z (by-ride (alone i l) a (journey-rides j))
   journey-rides (Journey.wait h j) = RideJourney.wait h (journey-rides j)
 
-  -- every hop of a ride arrives by T if the last one does
+  -- the first hop of a ride arrives by T if the last one does
   first-in-time : {i k : ℕ} → Ride N M i k → hop N k .arrival ≤ Q .arrival → hop N i .arrival ≤ Q .arrival
-  first-in-time (alone i l) a = a
-  first-in-time (onward i l s r) a = omega (arith, s .in-time, departs r a)
-    where
-      departs : {j k : ℕ} → Ride N M j k → hop N k .arrival ≤ Q .arrival → hop N j .departure ≤ Q .arrival
-      departs (alone j l) a = omega (arith, good-hop N (ok .tables) j l .rides)
-      departs (onward j l s r) a = omega (arith, good-hop N (ok .tables) j l .rides, s .in-time, departs r a)
+  first-in-time r a = omega (arith, ride-spans (ok .tables) r .1)
 
   by-hops : {i k : ℕ} → Ride N M i k → hop N k .arrival ≤ Q .arrival → Journey N Q (hop N k .to) (before Q (hop N k .arrival)) → Journey N Q (hop N i .from) (before Q (hop N i .departure))
   by-hops (alone i l) a j = Journey.by-hop i l a j

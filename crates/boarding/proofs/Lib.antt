@@ -6,3 +6,4 @@ pub mod RideAnswers
 pub mod RideCases
 pub mod Changing
 pub mod SameList
+pub mod Marks
