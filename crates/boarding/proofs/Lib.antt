@@ -7,3 +7,4 @@ pub mod RideCases
 pub mod Changing
 pub mod SameList
 pub mod Marks
+pub mod OneMark
