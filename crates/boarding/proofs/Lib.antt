@@ -1,0 +1,10 @@
+pub mod Links
+pub mod Boards
+pub mod Rides
+pub mod RideOrder
+pub mod RideAnswers
+pub mod RideCases
+pub mod Changing
+pub mod SameList
+pub mod Marks
+pub mod OneMark
