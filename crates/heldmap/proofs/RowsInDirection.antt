@@ -1,5 +1,5 @@
 -- The row that is read from the tables is the row of the network, in either direction. Assumes nothing.
-use mathlib.Core.Path.{_≡_, refl, subst}
+use mathlib.Core.Path.{_≡_, refl, subst, _∙_}
 use mathlib.Core.Bool.{Bool, true, false}
 use mathlib.Core.List.{List}
 use Prim.Native.Nat.{ℕ, _+_, _*_, _/_, _≤_, _<_}
@@ -10,18 +10,19 @@ use lib.Dec.{eqb}
 use lib.ListN.{length, getD}
 use borrow.Author.Tests.{lt-ltb}
 use Rattle.journeys.specs.Bytes.{be16, clocked}
-use Rattle.journeys.specs.Tables.{vertexAt, tablesOf}
+use Rattle.journeys.specs.Tables.{vertexAt, vertexCount, tablesOf}
 use Rattle.journeys.specs.Query.{Query, allowed}
 use Rattle.journeys.specs.Valid.{Valid}
-use Rattle.journeys.proofs.Tests.{never, cond-true}
+use Rattle.journeys.proofs.Tests.{never, cond-true, cond-false}
 use Rattle.journeys.proofs.Counting.{count-most}
+use Rattle.journeys.proofs.Held as held
 use Rattle.listing.specs.Places.{departingOf}
 use Rattle.listing.proofs.Froms.{departs}
 use Rattle.worktable.specs.Map.{Entry, Map}
 use Rattle.meeting.specs.Passing.{left, leaving, Enough, Few}
 use Rattle.words.specs.declared.Seconds.{Seconds}
 use Rattle.passing.specs.Row.{passes}
-use Rattle.directed.specs.Directed.{Passable, Near}
+use Rattle.directed.specs.Directed.{dueOf, Passable, Near}
 use Rattle.directed.specs.declared.Directed.{Directed}
 use Rattle.directed.proofs.Either.{ordinary-passable, ordinary-near}
 use Rattle.heldmap.specs.Directions.{networkIn}
@@ -34,6 +35,12 @@ use Rattle.heldmap.proofs.CourierRow as courier
 two-bytes : (v : List ℕ) → ((i : ℕ) → Fits w8 (getD v i 0)) → (u : ℕ) → vertexAt v u .departing < 65536
 unfolding vertexAt be16
 two-bytes v h u = omega (arith, h (12 * u + 8), h (12 * u + 8 + 1))
+
+-- What is due to a vertex in all is what the network has.
+pub due-in : (c : Bool) (size : ℕ) (v w h : List ℕ) (Q : Query) → Valid (tablesOf size v w h) Q → (a : Directed) → a .courier ≡ c → a .ways ≡ length w / 16 → a .rides ≡ length h / size
+    → (u : ℕ) → u < vertexCount (tablesOf size v w h) → dueOf v a u ≡ held.departs (networkIn c (tablesOf size v w h) Q) u
+due-in true size v w h Q ok a e ways rides u l = cond-true _ _ e ∙ courier.due-arrives size v w h Q ok a ways rides u l
+due-in false size v w h Q ok a e ways rides u l = cond-false _ _ e ∙ ordinary.due-departs size v w h Q ok u l
 
 module _ (size : ℕ) (wide : 16 ≤ size) (v w h list : List ℕ) (Q : Query) (ok : Valid (tablesOf size v w h) Q) (x d : ℕ) (low : x < length v / 12) (near : d ≤ allowed Q) (A : Seconds) (clock : clocked (A .0) ≡ Q .arrival) where
   abbrev pub rowFor : Bool → Directed

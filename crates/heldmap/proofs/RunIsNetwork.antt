@@ -41,6 +41,12 @@ pub departs-field : (N : Tables) (Q : Query) (u : ℕ) → departs (records.netw
 unfolding departs departing
 departs-field N Q u = refl
 
+-- what leaves u is what the vertex table says
+pub due-departs : (size : ℕ) (v w h : List ℕ) (Q : Query) → Valid (tablesOf size v w h) Q → (u : ℕ) → u < vertexCount (tablesOf size v w h) → vertexAt v u .departing ≡ departs (records.network (tablesOf size v w h) Q) u
+due-departs size v w h Q ok u l =
+    let N = tablesOf size v w h in
+    ap (λ z. z .departing) (sym (vertex-at size v w h u (rw (vertex-count size v w h) at l))) ∙ good-vertex N (ok .tables) u l .departs ∙ sym (departs-field N Q u)
+
 -- an offer asks no more of a query than its arrival and its speed
 pub same-offer : (Q : Query) (x : Record) (d : ℕ) → offer (asking (Q .arrival) (Q .speed)) x d ≡ offer Q x d
 unfolding offer
@@ -116,10 +122,6 @@ module _ (size : ℕ) (wide : 16 ≤ size) (v w h : List ℕ) (Q : Query) (ok : 
   offer-of : (y : Record) → offer (asking (clocked (A .0)) (Q .speed)) y d ≡ offer Q y d
   offer-of y = ap (λ (a : ℕ). offer (asking a (Q .speed)) y d) clock ∙ same-offer Q y d
 
-  departs-of : (u : ℕ) → u < vertexCount N → R .departing u ≡ departs G u
-  departs-of u l =
-      ap (λ z. z .departing) (sym (vertex-at size v w h u (rw (vertex-count size v w h) at l))) ∙ good-vertex N (ok .tables) u l .departs ∙ sym (departs-field N Q u)
-
   walk-to : (i : ℕ) → i < walkCount N → G .to i ≡ walk N i .to
   walk-to i l = ap records.to (walk-record N i l)
 
@@ -176,7 +178,7 @@ module _ (size : ℕ) (wide : 16 ≤ size) (v w h : List ℕ) (Q : Query) (ok : 
         from = λ j l. ap records.from (of-number j l);
         offer = λ j l. offer-of (recordOf (walksAt v w x) (hopsAt size v h x) r j) ∙ ap (λ (y : Record). offer Q y d) (of-number j l);
         small = λ j l. fits (offer-fits N Q ok (number j) d (number-low j l) near);
-        departing = departs-of;
+        departing = due-departs size v w h Q ok;
         allowed = refl;
       }
     where

@@ -5,22 +5,12 @@ use mathlib.Core.Bool.{Bool, true, false, cond}
 use mathlib.Core.List.{List}
 use Prim.Native.Nat.{ℕ, zero, suc, _+_, _*_, _≤_, _<_}
 use native.Mathlib.Omega.{arith}
-use lib.ListN.{getD}
-use mir.Syntax.{w8}
-use mir.Val.{Fits}
-use Rattle.journeys.specs.Bytes.{be16}
-use Rattle.journeys.specs.Tables.{vertexAt}
 use Rattle.worktable.specs.Map.{Entry, absent, known, Map, empty, put, remainingLimit, Figure, one, sizeTo, size}
 use Rattle.worktable.specs.Table.{mapOf, InOrder, Holds, Gives}
 use Rattle.worktable.specs.declared.Table.{Table}
 use Rattle.worktable.proofs.MapLaws.{put-other, size-put}
 use Rattle.opening.specs.Seeds.{seedMap, SeededIs}
 use Rattle.opening.specs.declared.Seeded.the-variants.{At, NoRoom}
-
--- ---- a departing field
-pub field-low : (v : List ℕ) (u n : ℕ) → n ≡ be16 v (12 * u + 8) → ((i : ℕ) → Fits w8 (getD v i 0)) → (n ≡ vertexAt v u .departing) × (n < 65536)
-unfolding be16 vertexAt
-field-low v u n e h = (e, omega (arith, e, h (12 * u + 8), h (12 * u + 8 + 1)))
 
 -- ---- the seeds
 size-empty : (n : ℕ) → sizeTo n empty ≡ 0
