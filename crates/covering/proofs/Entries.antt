@@ -11,13 +11,19 @@ use Rattle.journeys.specs.Tables.{vertexAt}
 use Rattle.journeys.specs.Parts.{Part}
 use Rattle.records.specs.Arriving.{firstOf, endOf}
 use Rattle.records.specs.declared.Kind.the-variants.{Walks}
-use Rattle.parts.specs.Listing.{firstOn, partsOn, Behind, Overfull, ListedIs}
+use Rattle.parts.specs.Listing.{partsOn, runOn, aheadsOn, Behind, Overfull, ListedIs}
 use Rattle.parts.specs.declared.Listed.{Listed}
 use Rattle.parts.specs.declared.Listed.the-variants.{Fits, NoRoom}
 use Rattle.parts.specs.declared.Road.{Road}
 use Rattle.journeys.proofs.Tests.{le-or-lt}
-use Rattle.parts.proofs.Laws.{behind-none, behind-more, over-more, listed-length}
-use Rattle.covering.specs.Covering.{Sound, firstAt, endAt, entryOn, listedOn, FullAt, CoveredIs}
+use Rattle.records.specs.Columns.{recordsIn}
+use Rattle.listing.specs.Places.{total, fromOf, below, same}
+use Rattle.listing.proofs.PlaceLaws.{below-next, below-most, same-grows}
+use Rattle.stretches.specs.Stretch.{stretchOf}
+use Rattle.stretches.specs.declared.Stretch.{Stretch}
+use Rattle.stretches.proofs.Numbers.{stretch-walks}
+use Rattle.parts.proofs.Laws.{behind-none, behind-more, over-more, listed-as, listed-length}
+use Rattle.covering.specs.Covering.{Sound, Leaving, firstAt, endAt, entryOn, entryAhead, listedIn, FullAt, CoveredIs}
 use Rattle.covering.specs.declared.Covered.the-variants.{All, Full}
 
 -- ---- one entry, in the code's terms
@@ -40,48 +46,84 @@ module _ (v w list : List ℕ) (allowed i x : ℕ) (s : Sound v w list allowed i
   unfolding entryOn
   entry-listed road first end d count b b′ r q f g l = rw (q, first-is first f, end-is end g) at l
 
+-- the same for the courier: u is the vertex of the entry, s its stretch
+module _ (size : ℕ) (v w h r list : List ℕ) (ok : Leaving size v w h r) (i u : ℕ) (s : Stretch) (e : s ≡ stretchOf size w h u) where
+  abbrev F : ℕ → ℕ
+  F = fromOf size w h
+
+  abbrev n : ℕ
+  n = total size w h
+
+  begins : s .first ≡ below (fromOf size w h) u (total size w h)
+  begins = ap (λ (x : Stretch). x .first) e
+
+  many : s .walks ≡ same (fromOf size w h) u (recordsIn 16 w)
+  many = ap (λ (x : Stretch). x .walks) e
+
+  pub stretch-in : s .first + s .walks ≤ total size w h
+  stretch-in = omega (arith, begins, many, same-grows F u (recordsIn 16 w) n (omega arith), below-next F u n, below-most F (suc u) n)
+
+  pub stretch-fits : (s .first ≤ s .first + s .walks) × (s .first + s .walks ≤ length r / 4) × ((j : ℕ) → s .first ≤ j → j < s .first + s .walks → be32 r (4 * j) < length w / 16)
+  stretch-fits = (
+    omega arith,
+    omega (arith, stretch-in, ok .long),
+    λ j l m.
+        let k : below F u n + (j - s .first) ≡ j = omega (arith, begins) in
+        subst (λ (z : ℕ). be32 r (4 * z) < length w / 16) k (stretch-walks (ok .right) u (recordsIn 16 w) (j - s .first) (omega arith) (omega (arith, many))),
+  )
+
+  pub ahead-listed : (road : Road) (allowed d count : ℕ) (b b′ : List ℕ) (x : Listed) → u ≡ be32 list (8 * i) → d ≡ be32 list (8 * i + 4)
+      → ListedIs count (aheadsOn w road (allowed - d) r (s .first) (s .first + s .walks - s .first)) b b′ x → ListedIs count (entryAhead size w h r list road allowed i) b b′ x
+  unfolding entryAhead
+  ahead-listed road allowed d count b b′ x p q l =
+      let z : s .first + s .walks - s .first ≡ s .walks = omega arith in
+      listed-as count _ _ b b′ x
+      (ap (aheadsOn w road (allowed - d) r (s .first)) z
+      ∙ ap (λ (y : ℕ). aheadsOn w road (allowed - y) r (s .first) (s .walks)) q
+      ∙ ap (λ (y : Stretch). aheadsOn w road (allowed - be32 list (8 * i + 4)) r (y .first) (y .walks)) (e ∙ ap (stretchOf size w h) p)) l
+
 pub over-same : (count : ℕ) (ps : List Part) (b b′ : List ℕ) → ListedIs count ps b b′ NoRoom → length b′ ≡ length b
 unfolding ListedIs
 over-same count ps b b′ x = x .same
 
 -- ---- entry by entry: b₁ is the buffer behind step 0, b₂ behind i entries
-pub record Going (v w list : List ℕ) (e : Road) (allowed : ℕ) (b₁ : List ℕ) (first : ℕ) (b₂ : List ℕ) (count i : ℕ) : Type 0 where
-  pub behind : Behind first (joined (entryOn v w list e allowed) i) b₁ b₂ count
-  pub room : (j : ℕ) → j ≤ i → first + length (joined (entryOn v w list e allowed) j) ≤ length b₁ / 12
+pub record Going (entry : ℕ → List Part) (b₁ : List ℕ) (first : ℕ) (b₂ : List ℕ) (count i : ℕ) : Type 0 where
+  pub behind : Behind first (joined entry i) b₁ b₂ count
+  pub room : (j : ℕ) → j ≤ i → first + length (joined entry j) ≤ length b₁ / 12
 
-module _ (v w list : List ℕ) (e : Road) (allowed : ℕ) where
+module _ (step₀ : List Part) (entry : ℕ → List Part) where
   abbrev f : ℕ → List Part
-  f = listedOn v w list e allowed
+  f = listedIn step₀ entry
 
   abbrev more : ℕ → List Part
-  more = joined (entryOn v w list e allowed)
+  more = joined entry
 
   -- Step 0 alone has no room.
-  pub no-first : (n : ℕ) (b b₁ : List ℕ) → ListedIs 0 (firstOn e allowed) b b₁ NoRoom → CoveredIs f n b b₁ (Full 0)
-  unfolding ListedIs CoveredIs listedOn joined
+  pub no-first : (n : ℕ) (b b₁ : List ℕ) → ListedIs 0 step₀ b b₁ NoRoom → CoveredIs f n b b₁ (Full 0)
+  unfolding ListedIs CoveredIs listedIn joined
   no-first n b b₁ x =
-      record { made = omega arith; over = omega (arith, x .over, ap length (append-nil (firstOn e allowed))); before = λ j l. absurd (omega arith); same = x .same }
+      record { made = omega arith; over = omega (arith, x .over, ap length (append-nil step₀)); before = λ j l. absurd (omega arith); same = x .same }
 
-  module _ (b b₁ : List ℕ) (first : ℕ) (F : ListedIs 0 (firstOn e allowed) b b₁ (Fits first)) where
-    opened : Behind 0 (firstOn e allowed) b b₁ first
+  module _ (b b₁ : List ℕ) (first : ℕ) (F : ListedIs 0 step₀ b b₁ (Fits first)) where
+    opened : Behind 0 step₀ b b₁ first
     unfolding ListedIs
     opened = F
 
     same₁ : length b₁ ≡ length b
-    same₁ = listed-length 0 (firstOn e allowed) b b₁ first F
+    same₁ = listed-length 0 step₀ b b₁ first F
 
     long : (k : ℕ) → length (f k) ≡ first + length (more k)
-    unfolding listedOn
-    long k = omega (arith, length-append (firstOn e allowed) (more k), opened .counted)
+    unfolding listedIn
+    long k = omega (arith, length-append step₀ (more k), opened .counted)
 
-    pub go-start : Going v w list e allowed b₁ first b₁ first 0
+    pub go-start : Going entry b₁ first b₁ first 0
     unfolding joined
     go-start = record {
       behind = behind-none first b₁ (omega (arith, opened .room, same₁));
       room = λ j h. let z : j ≡ 0 = omega arith in rw z (omega (arith, opened .room, same₁));
     }
 
-    module _ (b₂ : List ℕ) (count i : ℕ) (G : Going v w list e allowed b₁ first b₂ count i) where
+    module _ (b₂ : List ℕ) (count i : ℕ) (G : Going entry b₁ first b₂ count i) where
       low : first ≤ length b₁ / 12
       low = omega (arith, opened .room, same₁)
 
@@ -95,17 +137,17 @@ module _ (v w list : List ℕ) (e : Road) (allowed : ℕ) where
       pub go-room : count ≤ length b₂ / 12
       go-room = omega (arith, G .behind .room, ap (λ (k : ℕ). k / 12) kept)
 
-      pub go-next : (count′ : ℕ) (b₃ : List ℕ) → ListedIs count (entryOn v w list e allowed i) b₂ b₃ (Fits count′) → Going v w list e allowed b₁ first b₃ count′ (i + 1)
+      pub go-next : (count′ : ℕ) (b₃ : List ℕ) → ListedIs count (entry i) b₂ b₃ (Fits count′) → Going entry b₁ first b₃ count′ (i + 1)
       unfolding ListedIs joined
       go-next count′ b₃ x =
           let q : i + 1 ≡ suc i = omega arith in
           let y : Behind first (more (suc i)) b₁ b₃ count′ = behind-more low (G .behind) x in
-          subst (λ (k : ℕ). Going v w list e allowed b₁ first b₃ count′ k) (sym q) (record {
+          subst (λ (k : ℕ). Going entry b₁ first b₃ count′ k) (sym q) (record {
             behind = y;
             room = λ j h. ⊎-elim (λ (z : j ≤ i). G .room j z) (λ (z : i < j). let s : j ≡ suc i = omega arith in rw s (omega (arith, y .counted, y .room))) (le-or-lt j i);
           })
 
-      pub go-full : (n : ℕ) (b₃ : List ℕ) → i < n → ListedIs count (entryOn v w list e allowed i) b₂ b₃ NoRoom → CoveredIs f n b b₃ (Full (i + 1))
+      pub go-full : (n : ℕ) (b₃ : List ℕ) → i < n → ListedIs count (entry i) b₂ b₃ NoRoom → CoveredIs f n b b₃ (Full (i + 1))
       unfolding ListedIs CoveredIs joined
       go-full n b₃ l x =
           let y : Overfull first (more (suc i)) b₁ b₃ = over-more low (G .behind) x in
@@ -119,7 +161,7 @@ module _ (v w list : List ℕ) (e : Road) (allowed : ℕ) where
           }
 
       pub go-done : (n : ℕ) → i ≡ n → CoveredIs f n b b₂ (All count)
-      unfolding CoveredIs listedOn
+      unfolding CoveredIs listedIn
       go-done n q =
           let y : Behind 0 (f i) b b₂ count = behind-more (omega arith) opened (G .behind) in (
             subst (λ (k : ℕ). Behind 0 (f k) b b₂ count) q y,

@@ -1,14 +1,16 @@
 -- Refusal 1, places 4 and 5, and 21: each return is the first test that fails. Assumes nothing.
 use mathlib.Core.Path.{_≡_, sym, ap, _∙_}
-use mathlib.Core.List.{List}
+use mathlib.Core.List.{List, [], _∷_}
 use Prim.Native.Nat.{ℕ, _/_, _%_}
 use native.Mathlib.Omega.{arith}
+use native.Mathlib.Decide.{ℕ-discrete}
 use lib.ListN.{length}
 use borrow.Author.Tests.{eq-eqb, ne-eqb}
 use Rattle.journeys.specs.Tables.{vertexCount, tablesOf}
-use Rattle.journeys.specs.Refusals.{Refusal, fine, wholeOf}
+use Rattle.journeys.specs.Refusals.{Refusal, fine, orElse, chain, wholeOf}
 use Rattle.journeys.specs.Lists.{listRefusal}
 use Rattle.journeys.specs.PartAnswers.{listLengths}
+use Rattle.journeys.proofs.Refusals.{or-first, or-next}
 use Rattle.journeys.proofs.Decoding.{vertex-count}
 use Rattle.lists.specs.Lists.{told}
 use Rattle.lists.specs.declared.Judged.{Judged}
@@ -41,3 +43,14 @@ module _ (r : Judged) {x : Refusal} (e : told 21 r ≡ x) where
 -- the judge is told the number of vertices and D as the code has them
 pub list-as : (size : ℕ) (v w h : List ℕ) (D : ℕ) {E : ℕ} → D ≡ E → (list : List ℕ) → listRefusal 8 (length v / 12) D list ≡ listRefusal 8 (vertexCount (tablesOf size v w h)) E list
 list-as size v w h D e list = ap (λ (n : ℕ). listRefusal 8 n D list) (sym (vertex-count size v w h)) ∙ ap (λ (d : ℕ). listRefusal 8 (vertexCount (tablesOf size v w h)) d list) e
+
+-- ---- three reasons that are one test stand in a chain as three
+or-assoc : (a b c : Refusal) → orElse (orElse a b) c ≡ orElse a (orElse b c)
+or-assoc a b c = go (ℕ-discrete (a .number) 0)
+  where
+    go : Dec (a .number ≡ 0) → orElse (orElse a b) c ≡ orElse a (orElse b c)
+    go (yes e) = ap (λ (x : Refusal). orElse x c) (or-next a b e) ∙ sym (or-next a (orElse b c) e)
+    go (no n) = ap (λ (x : Refusal). orElse x c) (or-first a b n) ∙ or-first a c n ∙ sym (or-first a (orElse b c) n)
+
+pub three-then : (a b c d : Refusal) → orElse (chain (a ∷ b ∷ c ∷ [])) d ≡ chain (a ∷ b ∷ c ∷ d ∷ [])
+three-then a b c d = or-assoc a (orElse b c) d ∙ ap (orElse a) (or-assoc b c d)

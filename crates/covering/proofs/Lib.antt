@@ -1,9 +1,11 @@
 pub mod PartsOfRoad
+pub mod AheadOfRoad
 pub mod Entries
 pub mod ListIsParts
 pub mod ListDistinct
 pub mod FirstFault
 pub mod Answered
+pub mod Accepting
 pub mod OwnList
 pub mod Pair
 pub mod Determined

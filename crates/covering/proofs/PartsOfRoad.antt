@@ -19,7 +19,7 @@ use Rattle.journeys.proofs.Valid.{good-walk, paired}
 use Rattle.journeys.specs.Valid.{Valid}
 use Rattle.records.specs.Arriving.{firstOf, endOf}
 use Rattle.records.specs.declared.Kind.the-variants.{Walks}
-use Rattle.parts.specs.Listing.{pastOn, roadOf, backStart, nearOn, firstOn, partOn, partsOn}
+use Rattle.parts.specs.Listing.{pastOn, roadOf, backStart, nearOn, pairOn, firstOn, partOn, partsOn, runOn}
 use Rattle.parts.specs.declared.Road.{Road}
 use Rattle.parts.proofs.Laws.{past-is}
 use Rattle.heldmap.proofs.ArrivingRun as arriving
@@ -58,13 +58,13 @@ module _ (size : ℕ) (v w h : List ℕ) (Q : Query) (ok : Valid (tablesOf size 
   abbrev road : Road
   road = roadOf w Q
 
-  low : {i : ℕ} → i < walkCount N → i < length w / 16
+  pub low : {i : ℕ} → i < walkCount N → i < length w / 16
   low l = rw (walk-count size v w h) at l
 
-  asked-is : asked N Q ≡ walkAt w (Q .walk)
+  pub asked-is : asked N Q ≡ walkAt w (Q .walk)
   asked-is = walk-at size v w h (Q .walk) (low (ok .query .walk-low))
 
-  near-is : (i : ℕ) → near N Q i ≡ nearOn road i
+  pub near-is : (i : ℕ) → near N Q i ≡ nearOn road i
   unfolding near nearOn
   near-is i = ap (λ (x : Walk). cond (eqb i (Q .walk)) (Q .offset) (cond (eqb i (x .twin)) (x .len - Q .offset) 0)) asked-is
 
@@ -75,7 +75,7 @@ module _ (size : ℕ) (v w h : List ℕ) (Q : Query) (ok : Valid (tablesOf size 
   -- At a settled vertex the run of its arriving walks has all its parts.
   pub parts-here : (x d : ℕ) → x < length v / 12
       → partsAt N Q (settled x d) ≡ partsOn w road (allowed Q - d) (firstOf Walks (vertexAt v x)) (endOf Walks v (length w / 16) x - firstOf Walks (vertexAt v x))
-  unfolding partsAt partsOn
+  unfolding partsAt runOn
   parts-here x d l =
       joined-run (λ i. cond (eqb (walk N i .to) x) (partAt N Q d i) []) (λ k. partOn w road (allowed Q - d) (first + k)) first (end - first) (walkCount N)
       (omega (arith, wr .order, wr .fit))
@@ -98,11 +98,11 @@ module _ (size : ℕ) (v w h : List ℕ) (Q : Query) (ok : Valid (tablesOf size 
       let p = paired N (ok .tables) (Q .walk) (ok .query .walk-low) n .1 in
       good-walk N (ok .tables) (Q .walk) (ok .query .walk-low) .apart (sym (p .to) ∙ ap (λ (i : ℕ). walk N i .to) e)
 
-  near-twin : asked N Q .twin ≢ none → near N Q (asked N Q .twin) ≡ asked N Q .len - Q .offset
+  pub near-twin : asked N Q .twin ≢ none → near N Q (asked N Q .twin) ≡ asked N Q .len - Q .offset
   unfolding near
   near-twin n = cond-false _ _ (ne-eqb (asked N Q .twin) (Q .walk) (twin-other n)) ∙ cond-true _ _ (eq-eqb (asked N Q .twin) (asked N Q .twin) refl)
 
-  near-walk : near N Q (Q .walk) ≡ Q .offset
+  pub near-walk : near N Q (Q .walk) ≡ Q .offset
   unfolding near
   near-walk = cond-true _ _ (eq-eqb (Q .walk) (Q .walk) refl)
 
@@ -112,7 +112,7 @@ module _ (size : ℕ) (v w h : List ℕ) (Q : Query) (ok : Valid (tablesOf size 
   first-is i place e = ap₂ (λ (o p : ℕ). part i (o - (allowed Q - p)) o) e (ap (pastTicks Q (walk N i)) e ∙ past-is size v w h Q i place)
 
   pub parts-first : firstParts N Q ≡ firstOn road (allowed Q)
-  unfolding firstParts firstOn
+  unfolding firstParts pairOn
   parts-first =
       ap₂ (λ (x y : List Part). x ++ y) (first-is (Q .walk) (Q .offset) near-walk)
       (ap (λ (x : Walk). cond (eqb (x .twin) none) [] (firstPart N Q (x .twin))) asked-is ∙ go (split (eqb (walkAt w (Q .walk) .twin) none)))

@@ -10,6 +10,8 @@ use Rattle.parts.specs.declared.Listed.the-variants.{Fits, NoRoom}
 use Rattle.parts.proofs.read_road.Reads as read-road
 use Rattle.parts.proofs.list_first.Reads as list-first
 use Rattle.parts.proofs.list_arriving.Reads as list-arriving
+use Rattle.parts.proofs.list_ahead.Reads as list-ahead
+use Rattle.parts.proofs.list_departing.Reads as list-departing
 
 -- How many are listed, or that there is no room, follows from what is there and what is to be listed.
 listed-one : (count : ℕ) (ps : List Part) (b c d : List ℕ) (x y : Listed) → ListedIs count ps b c x → ListedIs count ps b d y → x ≡ y
@@ -32,3 +34,9 @@ one-first κs a z z′ e e′ p q = listed-one _ _ _ _ _ z z′ p q
 
 pub one-arriving : (κs : _) (a : _) (z z′ : _) (e e′ : _) → list-arriving.Post κs a z e → list-arriving.Post κs a z′ e′ → z ≡ z′
 one-arriving κs a z z′ e e′ p q = listed-one _ _ _ _ _ z z′ p q
+
+pub one-ahead : (κs : _) (a : _) (z z′ : _) (e e′ : _) → list-ahead.Post κs a z e → list-ahead.Post κs a z′ e′ → z ≡ z′
+one-ahead κs a z z′ e e′ p q = listed-one _ _ _ _ _ z z′ p q
+
+pub one-departing : (κs : _) (a : _) (z z′ : _) (e e′ : _) → list-departing.Post κs a z e → list-departing.Post κs a z′ e′ → z ≡ z′
+one-departing κs a z z′ e e′ p q = listed-one _ _ _ _ _ z z′ p q

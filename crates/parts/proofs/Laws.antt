@@ -3,7 +3,7 @@ use mathlib.Core.Path.{_≡_, refl, sym, ap, ap₂, subst, _∙_}
 use mathlib.Core.Logic.{_⊎_, inl, inr}
 use mathlib.Core.Bool.{Bool, true, false, cond}
 use mathlib.Core.List.{List, [], _∷_, _++_, flatMap, append-nil, append-assoc}
-use Prim.Native.Nat.{ℕ, zero, suc, _+_, _-_, _*_, _/_, _≤_, _<_, max}
+use Prim.Native.Nat.{ℕ, zero, suc, _+_, _-_, _*_, _/_, _≤_, _<_, max, min}
 use native.Mathlib.Omega.{arith}
 use lib.Dec.{eqb, ltb}
 use lib.ListN.{length, take, drop, take-append-drop, length-append, List·getD-eq-default}
@@ -24,7 +24,7 @@ use Rattle.records.specs.Meaning.{offsetOf, walkOf}
 use Rattle.records.specs.declared.Walk as read
 use Rattle.records.proofs.RecordBytes.{length-part}
 use Rattle.words.proofs.Written.{length-written, written-next}
-use Rattle.parts.specs.Listing.{Behind, Overfull, ListedIs, pastOn, roadOf, nearOn, nearStart, backStart, firstOn, partOn, partsOn}
+use Rattle.parts.specs.Listing.{Behind, Overfull, ListedIs, pastOn, roadOf, nearOn, pairOn, partOn, runOn, reachOn, aheadOn}
 use Rattle.parts.specs.declared.Listed.{Listed}
 use Rattle.parts.specs.declared.Listed.the-variants.{Fits, NoRoom}
 use Rattle.parts.specs.declared.Road.{Road}
@@ -117,19 +117,19 @@ module _ (count : ℕ) (ps : List Part) (b b′ : List ℕ) (h : count ≤ lengt
   listed-end c x = subst (λ (q : List Part). ListedIs count q b b′ (Fits c)) (sym (append-nil ps)) x
 
 -- step 0 without and with a twin
-pub first-alone : (e : Road) (allowed : ℕ) → e .twin ≡ none → part (e .walk) (nearStart e allowed) (e .near .0) ++ [] ≡ firstOn e allowed
-unfolding firstOn
-first-alone e allowed q = rw (eq-eqb (e .twin) none q)
+module _ (e : Road) (a z a′ z′ : ℕ) where
+  pub first-alone : e .twin ≡ none → part (e .walk) a z ++ [] ≡ pairOn e a z a′ z′
+  unfolding pairOn
+  first-alone q = rw (eq-eqb (e .twin) none q)
 
-pub first-both : (e : Road) (allowed : ℕ) → (e .twin ≡ none → ⊥)
-    → part (e .walk) (nearStart e allowed) (e .near .0) ++ part (e .twin) (backStart e allowed) (e .back .0) ≡ firstOn e allowed
-unfolding firstOn
-first-both e allowed q = rw (ne-eqb (e .twin) none q)
+  pub first-both : (e .twin ≡ none → ⊥) → part (e .walk) a z ++ part (e .twin) a′ z′ ≡ pairOn e a z a′ z′
+  unfolding pairOn
+  first-both q = rw (ne-eqb (e .twin) none q)
 
--- whatever comes behind, the first part alone is too much
-pub first-over : (e : Road) (allowed : ℕ) (b b′ : List ℕ) → ListedIs 0 (part (e .walk) (nearStart e allowed) (e .near .0)) b b′ NoRoom → ListedIs 0 (firstOn e allowed) b b′ NoRoom
-unfolding firstOn
-first-over e allowed b b′ x = listed-over 0 (part (e .walk) (nearStart e allowed) (e .near .0)) (cond (eqb (e .twin) none) [] (part (e .twin) (backStart e allowed) (e .back .0))) b b′ x
+  -- whatever comes behind, the first part alone is too much
+  pub first-over : (b b′ : List ℕ) → ListedIs 0 (part (e .walk) a z) b b′ NoRoom → ListedIs 0 (pairOn e a z a′ z′) b b′ NoRoom
+  unfolding pairOn
+  first-over b b′ x = listed-over 0 (part (e .walk) a z) (cond (eqb (e .twin) none) [] (part (e .twin) a′ z′)) b b′ x
 
 joined-add : (f : ℕ → List Part) (m n : ℕ) → (ps : List Part) × (joined f (m + n) ≡ joined f m ++ ps)
 unfolding joined
@@ -139,22 +139,22 @@ joined-add f m (suc n) =
     let e : m + suc n ≡ suc (m + n) = omega arith in
     (r .0 ++ f (m + n), ap (joined f) e ∙ ap (λ (x : List Part). x ++ f (m + n)) (r .1) ∙ append-assoc (joined f m) (r .0) (f (m + n)))
 
--- one walk more
-pub parts-more : (w : List ℕ) (e : Road) (left first i : ℕ) → first ≤ i → partsOn w e left first (i - first) ++ partOn w e left i ≡ partsOn w e left first (i + 1 - first)
-unfolding partsOn joined
-parts-more w e left first i h =
+-- one number more
+pub parts-more : (g : ℕ → List Part) (first i : ℕ) → first ≤ i → runOn g first (i - first) ++ g i ≡ runOn g first (i + 1 - first)
+unfolding runOn joined
+parts-more g first i h =
     let n : i + 1 - first ≡ suc (i - first) = omega arith in
     let k : first + (i - first) ≡ i = omega arith in
-    ap (λ (x : ℕ). joined (λ k. partOn w e left (first + k)) (i - first) ++ partOn w e left x) (sym k)
-    ∙ ap (joined (λ k. partOn w e left (first + k))) (sym n)
+    ap (λ (x : ℕ). joined (λ k. g (first + k)) (i - first) ++ g x) (sym k)
+    ∙ ap (joined (λ k. g (first + k))) (sym n)
 
--- the walks that are left may only be too many
-pub parts-over : (w : List ℕ) (e : Road) (left first i end : ℕ) → first ≤ i → i < end → (ps : List Part) × (partsOn w e left first (end - first) ≡ partsOn w e left first (i + 1 - first) ++ ps)
-unfolding partsOn
-parts-over w e left first i end h l = go (end - (i + 1)) (let z : (i + 1 - first) + (end - (i + 1)) ≡ end - first = omega arith in z)
+-- those that are left may only be too many
+pub parts-over : (g : ℕ → List Part) (first i end : ℕ) → first ≤ i → i < end → (ps : List Part) × (runOn g first (end - first) ≡ runOn g first (i + 1 - first) ++ ps)
+unfolding runOn
+parts-over g first i end h l = go (end - (i + 1)) (let z : (i + 1 - first) + (end - (i + 1)) ≡ end - first = omega arith in z)
   where
     f : ℕ → List Part
-    f k = partOn w e left (first + k)
+    f k = g (first + k)
 
     go : (n : ℕ) → (i + 1 - first) + n ≡ end - first → (ps : List Part) × (joined f (end - first) ≡ joined f (i + 1 - first) ++ ps)
     go n e = let r = joined-add f (i + 1 - first) n in (r .0, ap (joined f) (sym e) ∙ r .1)
@@ -168,18 +168,18 @@ pub part-on : (w : List ℕ) (e : Road) (left i bits : ℕ) (len : Offset) (wait
 unfolding partOn walkAt
 part-on w e left i bits len wait rest a near start b p t l q r s = rw (s, q, r, l, t, p, b)
 
--- before the first walk
-pub parts-start : (w : List ℕ) (e : Road) (left first count : ℕ) (b : List ℕ) → count ≤ length b / 12 → ListedIs count (partsOn w e left first (first - first)) b b (Fits count)
-unfolding partsOn joined ListedIs
-parts-start w e left first count b h = let z : first - first ≡ 0 = omega arith in rw z (behind-none count b h)
+-- before the first
+pub parts-start : (g : ℕ → List Part) (first count : ℕ) (b : List ℕ) → count ≤ length b / 12 → ListedIs count (runOn g first (first - first)) b b (Fits count)
+unfolding runOn joined ListedIs
+parts-start g first count b h = let z : first - first ≡ 0 = omega arith in rw z (behind-none count b h)
 
--- too many with walk i are too many with all
-pub parts-full : (w : List ℕ) (e : Road) (left first i end count : ℕ) (b b′ : List ℕ) → first ≤ i → i < end
-    → ListedIs count (partsOn w e left first (i - first) ++ partOn w e left i) b b′ NoRoom → ListedIs count (partsOn w e left first (end - first)) b b′ NoRoom
-parts-full w e left first i end count b b′ h l x =
-    let o = parts-over w e left first i end h l in
-    let y = listed-as count _ _ b b′ NoRoom (parts-more w e left first i h) x in
-    listed-as count _ _ b b′ NoRoom (sym (o .1)) (listed-over count (partsOn w e left first (i + 1 - first)) (o .0) b b′ y)
+-- too many with i are too many with all
+pub parts-full : (g : ℕ → List Part) (first i end count : ℕ) (b b′ : List ℕ) → first ≤ i → i < end
+    → ListedIs count (runOn g first (i - first) ++ g i) b b′ NoRoom → ListedIs count (runOn g first (end - first)) b b′ NoRoom
+parts-full g first i end count b b′ h l x =
+    let o = parts-over g first i end h l in
+    let y = listed-as count _ _ b b′ NoRoom (parts-more g first i h) x in
+    listed-as count _ _ b b′ NoRoom (sym (o .1)) (listed-over count (runOn g first (i + 1 - first)) (o .0) b b′ y)
 
 pub listed-is : (count : ℕ) (ps : List Part) (b b′ : List ℕ) (r r′ : Listed) → r ≡ r′ → ListedIs count ps b b′ r → ListedIs count ps b b′ r′
 listed-is count ps b b′ r r′ e x = subst (λ (z : Listed). ListedIs count ps b b′ z) e x
@@ -191,30 +191,39 @@ listed-length count ps b b′ c x =
     let fit : 12 * count + length (flatMap partBytes ps) ≤ length b = omega (arith, flat-length partBytes 12 length-part ps, x .counted, x .room) in
     ap length (x .bytes) ∙ length-written b (12 * count) (flatMap partBytes ps) fit
 
-module _ (e : Road) (allowed rest x : ℕ) (l : rest ≡ allowed - e .past .0) (q : x ≡ e .near .0 - rest) (b b′ : List ℕ) (r : Listed) (one : ListedIs 0 (part (e .walk) x (e .near .0)) b b′ r) where
-  first-as : ListedIs 0 (part (e .walk) (nearStart e allowed) (e .near .0)) b b′ r
-  first-as = listed-as 0 _ _ b b′ r (ap (λ (z : ℕ). part (e .walk) z (e .near .0)) (q ∙ ap (λ (z : ℕ). e .near .0 - z) l)) one
+-- a part of the record is listed, or there is no room for it
+module _ (e : Road) (a z a′ z′ : ℕ) (b b′ : List ℕ) (r : Listed) (one : ListedIs 0 (part (e .walk) a z) b b′ r) where
+  pub first-full : r ≡ NoRoom → ListedIs 0 (pairOn e a z a′ z′) b b′ NoRoom
+  first-full s = first-over e a z a′ z′ b b′ (listed-is 0 _ b b′ r NoRoom s one)
 
-  pub first-full : r ≡ NoRoom → ListedIs 0 (firstOn e allowed) b b′ NoRoom
-  first-full s = first-over e allowed b b′ (listed-is 0 _ b b′ r NoRoom s first-as)
-
-  pub first-room : (c : ℕ) → r ≡ Fits c → c ≤ length b′ / 12
-  first-room c s = listed-room 0 _ b b′ (omega arith) c (listed-is 0 _ b b′ r (Fits c) s first-as)
-
-  pub first-one : (c : ℕ) → r ≡ Fits c → e .twin ≡ none → ListedIs 0 (firstOn e allowed) b b′ (Fits c)
+  pub first-one : (c : ℕ) → r ≡ Fits c → e .twin ≡ none → ListedIs 0 (pairOn e a z a′ z′) b b′ (Fits c)
   first-one c s t =
-      listed-as 0 _ _ b b′ (Fits c) (first-alone e allowed t) (listed-end 0 _ b b′ (omega arith) c (listed-is 0 _ b b′ r (Fits c) s first-as))
+      listed-as 0 _ _ b b′ (Fits c) (first-alone e a z a′ z′ t) (listed-end 0 _ b b′ (omega arith) c (listed-is 0 _ b b′ r (Fits c) s one))
 
-  pub first-two : (c : ℕ) → r ≡ Fits c → (e .twin ≡ none → ⊥) → (more y : ℕ) → more ≡ allowed - e .«past_back» .0 → y ≡ e .back .0 - more → (b″ : List ℕ) (r′ : Listed) → ListedIs c (part (e .twin) y (e .back .0)) b′ b″ r′
-      → ListedIs 0 (firstOn e allowed) b b″ r′
-  first-two c s t more y m p b″ r′ two =
-      listed-as 0 _ _ b b″ r′ (first-both e allowed t)
-      (listed-more 0 _ b b′ (omega arith) c _ b″ r′ (listed-is 0 _ b b′ r (Fits c) s first-as)
-      (listed-as c _ _ b′ b″ r′ (ap (λ (z : ℕ). part (e .twin) z (e .back .0)) (p ∙ ap (λ (z : ℕ). e .back .0 - z) m)) two))
+  pub first-two : (c : ℕ) → r ≡ Fits c → (e .twin ≡ none → ⊥) → (b″ : List ℕ) (r′ : Listed) → ListedIs c (part (e .twin) a′ z′) b′ b″ r′ → ListedIs 0 (pairOn e a z a′ z′) b b″ r′
+  first-two c s t b″ r′ two =
+      listed-as 0 _ _ b b″ r′ (first-both e a z a′ z′ t) (listed-more 0 _ b b′ (omega arith) c _ b″ r′ (listed-is 0 _ b b′ r (Fits c) s one) two)
 
-pub parts-end : (w : List ℕ) (e : Road) (left first i end count : ℕ) (b b′ : List ℕ) (r : Listed) → i ≡ end → ListedIs count (partsOn w e left first (i - first)) b b′ r
-    → ListedIs count (partsOn w e left first (end - first)) b b′ r
-parts-end w e left first i end count b b′ r q x = subst (λ (k : ℕ). ListedIs count (partsOn w e left first (k - first)) b b′ r) q x
+pub first-room : (i a z : ℕ) (b b′ : List ℕ) (r : Listed) → ListedIs 0 (part i a z) b b′ r → (c : ℕ) → r ≡ Fits c → c ≤ length b′ / 12
+first-room i a z b b′ r one c s = listed-room 0 _ b b′ (omega arith) c (listed-is 0 _ b b′ r (Fits c) s one)
+
+-- the same pair by equal numbers
+pub pair-as : (e : Road) {a z a′ z′ x y x′ y′ : ℕ} (b b′ : List ℕ) (r : Listed) → a ≡ x → z ≡ y → a′ ≡ x′ → z′ ≡ y′ → ListedIs 0 (pairOn e a z a′ z′) b b′ r → ListedIs 0 (pairOn e x y x′ y′) b b′ r
+pair-as e {a} {z} {a′} {z′} {x} {y} {x′} {y′} b b′ r p q p′ q′ l =
+    listed-as 0 _ _ b b′ r (ap₂ (λ (i j : ℕ). pairOn e i j a′ z′) p q ∙ ap₂ (pairOn e x y) p′ q′) l
+
+pub parts-end : (g : ℕ → List Part) (first i end count : ℕ) (b b′ : List ℕ) (r : Listed) → i ≡ end → ListedIs count (runOn g first (i - first)) b b′ r
+    → ListedIs count (runOn g first (end - first)) b b′ r
+parts-end g first i end count b b′ r q x = subst (λ (k : ℕ). ListedIs count (runOn g first (k - first)) b b′ r) q x
+
+-- the courier's part of a walk, as its bits are read
+pub ahead-on : (w : List ℕ) (e : Road) (left i bits : ℕ) (len : Offset) (reach most end : ℕ) → bits ≡ be32 w (16 * i + 8) → len ≡ offsetOf (lenOf bits) → reach ≡ reachOn e i (len .0) → most ≡ min (len .0) reach → end ≡ 0 + min most left
+    → part i 0 end ≡ aheadOn w e left i
+unfolding aheadOn walkAt
+ahead-on w e left i bits len reach most end b p t m q =
+    let same : walkAt w i .len ≡ len .0 = sym (ap (λ (x : Offset). x .0) p ∙ ap lenOf b) in
+    let is : end ≡ min (min (len .0) left) (reachOn e i (len .0)) = omega (arith, q, m, t) in
+    ap (part i 0) (is ∙ ap (λ (l : ℕ). min (min l left) (reachOn e i l)) (sym same))
 
 -- ---- what is waited for a place of a record, as its bits are read
 module _ (w : List ℕ) (speed i place : ℕ) where

@@ -1,4 +1,4 @@
-// The covered parts of walk records, listed in the part buffer vertex by vertex.
+// The covered parts of walk records, listed in the part buffer vertex by vertex: those that lead to the query place, and those that the courier reaches from it.
 // Promises: the parts of step 0, and those at a listed vertex, stand behind the ones already there, or the buffer has no room for all of them.
 // Rests on: the readers and the part writer of `records`, which is lent the unfilled rest of the buffer.
 use records::Query;
@@ -8,12 +8,13 @@ use words::Offset;
 use words::Ticks;
 use words::word_at;
 ghost use mathlib.Core.Path.{_≡_};
-ghost use Prim.Native.Nat.{_-_, _*_, _/_, _<_, _≤_, max};
+ghost use Prim.Native.Nat.{ℕ, _+_, _-_, _*_, _/_, _<_, _≤_, max, min};
 ghost use lib.ListN.{length};
+ghost use Rattle.journeys.specs.Bytes.{be32};
 ghost use Rattle.journeys.specs.Tables.{waitOf, walkAt};
 ghost use Rattle.journeys.specs.Parts.{part};
 ghost use Rattle.records.specs.Asked.{queryOf};
-ghost use Rattle.parts.specs.Listing.{pastOn, roadOf, nearOn, firstOn, partOn, partsOn, ListedIs};
+ghost use Rattle.parts.specs.Listing.{pastOn, roadOf, nearOn, pairOn, firstOn, partOn, partsOn, reachOn, firstAhead, aheadOn, aheadsOn, ListedIs};
 
 // The query's road: its record, its twin, the offset of the query place on each of the two, and what is waited for the place there; and the speed
 // that makes ticks of waits.
@@ -134,7 +135,27 @@ fn near_on(e: Road, i: u32) -> Offset
     Offset(0)
 }
 
-// Step 0: up to the query place on its record, and on the twin, if any.
+// Step 0: a part on the query's record, and one on the twin, if any.
+fn list_pair(
+    parts: &mut [u8],
+    e: Road,
+    start: Offset,
+    end: Offset,
+    start_back: Offset,
+    end_back: Offset,
+) -> Listed
+    ensures { λ r. ⌜ ListedIs 0 (pairOn e (start .0) (end .0) («start_back» .0) («end_back» .0)) (now (parts .entry)) (now (parts .exit)) r ⌝ }
+{
+    let Listed::Fits(count) = list_part(parts, 0, e.walk, start, end) else {
+        return Listed::NoRoom;
+    };
+    if e.twin == words::NONE {
+        return Listed::Fits(count);
+    }
+    list_part(parts, count, e.twin, start_back, end_back)
+}
+
+// Up to the query place.
 pub fn list_first(parts: &mut [u8], e: Road, allowed: Ticks) -> Listed
     ensures { λ r. ⌜ ListedIs 0 (firstOn e (allowed .0)) (now (parts .entry)) (now (parts .exit)) r ⌝ }
 {
@@ -142,17 +163,11 @@ pub fn list_first(parts: &mut [u8], e: Road, allowed: Ticks) -> Listed
     let back = e.back;
     let past = e.past;
     let past_back = e.past_back;
-    let start = walked_back(near, after_wait(allowed, past));
-    let Listed::Fits(count) = list_part(parts, 0, e.walk, start, near) else {
-        return Listed::NoRoom;
-    };
-    if e.twin == words::NONE {
-        return Listed::Fits(count);
-    }
-    list_part(
+    list_pair(
         parts,
-        count,
-        e.twin,
+        e,
+        walked_back(near, after_wait(allowed, past)),
+        near,
         walked_back(back, after_wait(allowed, past_back)),
         back,
     )
@@ -196,6 +211,95 @@ pub fn list_arriving(
         };
         listed = more;
         i += 1;
+    }
+    Listed::Fits(listed)
+}
+
+// So many ticks of walking on from a place, at most as far as there is room.
+fn walked_on(place: Offset, room: Offset, spent: Ticks) -> Offset
+    requires { ⌜ place .0 + room .0 < 4294967296 ⌝ }
+    ensures { λ r. ⌜ r .0 ≡ place .0 + min (room .0) (spent .0) ⌝ }
+{
+    if spent.0 < room.0 {
+        Offset(place.0 + spent.0)
+    } else {
+        Offset(place.0 + room.0)
+    }
+}
+
+fn smaller(a: Offset, b: Offset) -> Offset
+    ensures { λ r. ⌜ r .0 ≡ min (a .0) (b .0) ⌝ }
+{
+    if b.0 < a.0 { b } else { a }
+}
+
+// The courier's step 0: from the query place on, at most to the end of the road.
+pub fn list_ahead(parts: &mut [u8], e: Road, allowed: Ticks) -> Listed
+    requires { ⌜ e .near .0 + e .back .0 < 4294967296 ⌝ }
+    ensures { λ r. ⌜ ListedIs 0 (firstAhead e (allowed .0)) (now (parts .entry)) (now (parts .exit)) r ⌝ }
+{
+    let near = e.near;
+    let back = e.back;
+    list_pair(
+        parts,
+        e,
+        near,
+        walked_on(near, back, allowed),
+        back,
+        walked_on(back, near, allowed),
+    )
+}
+
+// How far the courier's part on walk i may reach: to the query place where that lies on it.
+fn reach_on(e: Road, i: u32, len: Offset) -> Offset
+    ensures { λ r. ⌜ r .0 ≡ reachOn e i (len .0) ⌝ }
+{
+    if (i == e.walk) | (i == e.twin) {
+        return near_on(e, i);
+    }
+    len
+}
+
+// The courier's part of walk i, at whose start `left` ticks are left.
+fn list_walk_ahead(
+    parts: &mut [u8],
+    count: usize,
+    walks: &[u8],
+    i: u32,
+    e: Road,
+    left: Ticks,
+) -> Listed
+    requires { ⌜ (count ≤ length (now parts) / 12) × (i < length (now walks) / 16) ⌝ }
+    ensures { λ r. ⌜ ListedIs count (aheadOn (now (walks .entry)) e (left .0) i) (now (parts .entry)) (now (parts .exit)) r ⌝ }
+{
+    let len = length_of(word_at(walks, 16 * (i as usize) + 8));
+    let end = smaller(len, reach_on(e, i, len));
+    list_part(parts, count, i, Offset(0), walked_on(Offset(0), end, left))
+}
+
+// At a listed vertex: its departing walks, ascending, whose numbers stand in `records` from `first` up to `end`.
+pub fn list_departing(
+    parts: &mut [u8],
+    count: usize,
+    walks: &[u8],
+    records: &[u8],
+    first: usize,
+    end: usize,
+    e: Road,
+    left: Ticks,
+) -> Listed
+    requires { ⌜ (count ≤ length (now parts) / 12) × (first ≤ end) × (end ≤ length (now records) / 4) × ((j : ℕ) → first ≤ j → j < end → be32 (now records) (4 * j) < length (now walks) / 16) ⌝ }
+    ensures { λ r. ⌜ ListedIs count (aheadsOn (now (walks .entry)) e (left .0) (now (records .entry)) first (end - first)) (now (parts .entry)) (now (parts .exit)) r ⌝ }
+{
+    let mut listed = count;
+    let mut j = first;
+    while j < end {
+        let i = word_at(records, 4 * j);
+        let Listed::Fits(more) = list_walk_ahead(parts, listed, walks, i, e, left) else {
+            return Listed::NoRoom;
+        };
+        listed = more;
+        j += 1;
     }
     Listed::Fits(listed)
 }

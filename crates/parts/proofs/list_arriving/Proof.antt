@@ -16,7 +16,7 @@ abbrev μ-loop : tie.MeasureT-loop
 μ-loop parts₀ count walks first end e left listed₀ i₀ parts listed i = end - i
 
 loop-holds : tie.Need-loop-holds Inv-loop μ-loop
-loop-holds c = (parts-start _ _ _ _ _ _ (c .before .before .pre .0), omega arith, c .before .before .pre .1)
+loop-holds c = (parts-start _ _ _ _ (c .before .before .pre .0), omega arith, c .before .before .pre .1)
 
 list-walk-requires : tie.Need-list-walk-requires Inv-loop μ-loop
 list-walk-requires c κs =
@@ -31,14 +31,14 @@ same-length c =
 returns : tie.Need-returns Inv-loop μ-loop
 returns c =
     let i = c .before .before .before .before .before .before .before .loop .inv in
-    parts-full _ _ _ _ _ _ _ _ _ (i .1) (c .before .before .before .before .before .before .loop-test .taken)
+    parts-full _ _ _ _ _ _ _ (i .1) (c .before .before .before .before .before .before .loop-test .taken)
     (listed-more _ _ _ _ (c .before .before .before .before .before .before .before .before .before .before .pre .0) _ _ _ _ (i .0) (listed-is _ _ _ _ _ _ (c .enum-told .given .1) (c .before .before .before .before .list-walk .ensures)))
 
 loop-again : tie.Need-loop-again Inv-loop μ-loop
 loop-again c =
     let i = c .before .before .before .before .before .before .before .before .loop .inv in
     let l = c .before .before .before .before .before .before .before .loop-test .taken in (
-      listed-as _ _ _ _ _ _ (parts-more _ _ _ _ _ (i .1))
+      listed-as _ _ _ _ _ _ (parts-more _ _ _ (i .1))
           (listed-more _ _ _ _ (c .before .before .before .before .before .before .before .before .before .before .before .pre .0) _ _ _ _ (i .0) (listed-is _ _ _ _ _ _ (c .before .more .given .1) (c .before .before .before .before .before .list-walk .ensures))),
       omega arith,
       omega arith,
@@ -50,7 +50,7 @@ same-length-2 c = omega (arith, listed-length _ _ _ _ _ (c .before .loop .inv .0
 returns-2 : tie.Need-returns-2 Inv-loop μ-loop
 returns-2 c =
     let i = c .before .loop .inv in
-    parts-end _ _ _ _ _ _ _ _ _ _ (omega (arith, i .2, c .loop-test .left)) (i .0)
+    parts-end _ _ _ _ _ _ _ _ (omega (arith, i .2, c .loop-test .left)) (i .0)
 
 pub list-arriving-spec : {M : Type 1} → statement M
 list-arriving-spec =
