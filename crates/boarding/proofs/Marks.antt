@@ -1,8 +1,8 @@
 -- What a search may know of the rides while S is settled: hops are marked from which a ride alights at a settled vertex in time. The least that these offer is the next of the
 -- order, though a stop may be settled before all rides through it are known. Assumes nothing.
-use mathlib.Core.Path.{_≡_, refl, sym, ap, subst, _∙_}
+use mathlib.Core.Path.{_≡_, sym, ap, subst, _∙_}
 use mathlib.Core.Logic.{_⊎_, inl, inr, ⊎-elim, _↔_}
-use mathlib.Core.Bool.{Bool, true, false}
+use mathlib.Core.Bool.{Bool, true}
 use mathlib.Core.List.{List, [], _∷_, _++_}
 use Prim.Native.Nat.{ℕ, suc, _+_, _-_, _≤_, _<_}
 use native.Mathlib.Omega.{arith}
@@ -12,21 +12,22 @@ use Rattle.journeys.specs.Tables.{Tables, hop, vertexCount, walkCount, hopCount
 use Rattle.journeys.specs.Query.{Query, allowed, before}
 use Rattle.journeys.specs.Settled.{Settled, settled}
 use Rattle.journeys.specs.Network.{Network, distanceIn, known}
-use Rattle.journeys.specs.Records.{Record, from, to, recordAt, recordCount}
+use Rattle.journeys.specs.Records.{Record, to, recordAt}
 use Rattle.journeys.specs.Valid.{Valid}
 use Rattle.journeys.proofs.Tests.{le-or-lt}
+use Rattle.journeys.proofs.Counting.{in-left}
 use Rattle.journeys.proofs.Ways.{Ways, Arrives, Dist, Laws}
 use Rattle.journeys.proofs.Place.{key, key-up, key-same}
-use Rattle.journeys.proofs.Known.{Right, Bound, Next, Into, By, known-most, known-seed, known-record, known-by, beyond, next-low}
+use Rattle.journeys.proofs.Known.{Bound, Next, By, known-most, known-seed, known-record, known-by, beyond, next-low}
 use Rattle.journeys.proofs.Firsts.{distance-in}
 use Rattle.journeys.proofs.Greedy.{State, found}
 use Rattle.journeys.proofs.Told as theory
 use Rattle.journeys.proofs.Document as document
 use Rattle.journeys.proofs.Document.{Numbered, of-walk, of-hop, numbered}
 use Rattle.boarding.specs.Rides.{Mode, Stays, Ride, alone, onward}
-use Rattle.boarding.specs.RideJourneys.{boardTicks, standing, RideJourney, RideDistance, Aboard}
+use Rattle.boarding.specs.RideJourneys.{standing, RideJourney, RideDistance, Aboard}
 use Rattle.boarding.specs.RideOrder.{IsRideOrder}
-use Rattle.boarding.proofs.Links.{Link, Passes, pass-is}
+use Rattle.boarding.proofs.Links.{Passes, pass-is}
 use Rattle.boarding.proofs.Boards.{boarded, aboardIn, aboard-is, is-aboard, before-mono, ride-spans}
 use Rattle.boarding.proofs.Rides.{linkBy, rideLink, networkBy, journey-arrives}
 use Rattle.boarding.proofs.RideOrder.{True, rideNetwork, rideWays, ride-told, ride-order}
@@ -56,6 +57,17 @@ module _ (N : Tables) (Q : Query) (M : Mode) where
       go : {i k : ℕ} → Ride N M i k → hop N k .arrival ≤ Q .arrival → In (settled (hop N k .to) (m .figure)) S → m .figure ≤ before Q (hop N k .arrival) → mark i ≡ true
       go (alone i l) a x h = base i (m .figure) l x a h
       go (onward i {j = n} l s r) a x h = closed i n l s (go r a x h)
+
+  -- The three ways in which a hop comes to be marked: one alights there, one stays for a marked hop, and it was marked before the last vertex was settled.
+  pub mark-alights : (S : List Settled) (j x : ℕ) → j < hopCount N → In (settled (hop N j .to) x) S → hop N j .arrival ≤ Q .arrival → x ≤ before Q (hop N j .arrival) → Marked N Q M S j
+  mark-alights S j x l i a h = record { last = j; figure = x; ride = alone j l; in-time = a; there = i; soon = h }
+
+  pub mark-stays : (S : List Settled) (i j : ℕ) → i < hopCount N → Stays N M i j → Marked N Q M S j → Marked N Q M S i
+  mark-stays S i j l s m = record { last = m .last; figure = m .figure; ride = onward i l s (m .ride); in-time = m .in-time; there = m .there; soon = m .soon }
+
+  pub mark-more : (S : List Settled) (x : Settled) (j : ℕ) → Marked N Q M S j → Marked N Q M (S ++ x ∷ []) j
+  mark-more S x j m =
+      record { last = m .last; figure = m .figure; ride = m .ride; in-time = m .in-time; there = in-left S (x ∷ []) (settled (hop N (m .last) .to) (m .figure)) (m .there); soon = m .soon }
 
   -- An earlier hop of the same known trip to the same vertex is marked, too: of one vertex and one trip the marked hops are those up to an arrival.
   pub marked-earlier : (S : List Settled) (i j : ℕ) → i < hopCount N → hop N i .to ≡ hop N j .to → M .trip i ≡ M .trip j → hop N i .arrival ≤ hop N j .arrival

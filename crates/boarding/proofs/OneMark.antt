@@ -1,15 +1,15 @@
 -- One hop more is marked: what is known changes for the vertex that it leaves, if it leads into S. With `Step.known-step` that is all a step of the search has to tell. Assumes nothing.
-use mathlib.Core.Path.{_≡_, refl, sym, ap, subst, _∙_}
+use mathlib.Core.Path.{_≡_, refl, sym, ap, _∙_}
 use mathlib.Core.Logic.{⊎-elim, _≢_}
 use mathlib.Core.Bool.{Bool, true, false, cond, _&&_}
 use Prim.Native.Nat.{ℕ, _+_, _-_, _≤_, _<_, min}
 use native.Mathlib.Omega.{arith}
 use lib.Dec.{eqb, leb}
-use borrow.Author.Tests.{eqb-true, le-leb, eq-eqb, ne-eqb}
+use borrow.Author.Tests.{le-leb, eq-eqb, ne-eqb}
 use Rattle.journeys.specs.Counting.{none, least}
 use Rattle.journeys.specs.Tables.{Tables, hop, walkCount, hopCount}
 use Rattle.journeys.specs.Query.{Query}
-use Rattle.journeys.specs.Network.{Network, within, into, offered, known}
+use Rattle.journeys.specs.Network.{within, into, offered, known}
 use Rattle.journeys.specs.Records.{Record, from, to, recordAt, recordCount}
 use Rattle.journeys.proofs.Tests.{Test, same, other, test, cond-true, cond-false, le-or-lt}
 use Rattle.journeys.proofs.Counting.{least-none, least-le, least-is, least-min}

@@ -1,6 +1,6 @@
 -- The order of settling with rides is that of a network: there is one and only one, and it lists who can be there in time. Assumes nothing.
-use mathlib.Core.Path.{_≡_, refl, sym, ap, subst, _∙_}
-use mathlib.Core.Logic.{_⊎_, inl, inr, ⊎-elim, _↔_}
+use mathlib.Core.Path.{_≡_, sym, ap, subst, _∙_}
+use mathlib.Core.Logic.{_⊎_, inl, inr, _↔_}
 use mathlib.Core.Bool.{Bool, true, _&&_}
 use mathlib.Core.List.{List, [], _∷_, _++_}
 use Prim.Native.Nat.{ℕ, _+_, _-_, _≤_, _<_}
@@ -9,12 +9,12 @@ use lib.Dec.{leb}
 use lib.ListN.{length}
 use borrow.Author.Tests.{leb-true, le-leb}
 use Rattle.journeys.specs.Counting.{none, In}
-use Rattle.journeys.specs.Tables.{Tables, walk, hop, vertexCount, walkCount, hopCount}
-use Rattle.journeys.specs.Query.{Query, allowed, before, walkTicks}
+use Rattle.journeys.specs.Tables.{Tables, hop, vertexCount, walkCount}
+use Rattle.journeys.specs.Query.{Query, allowed, before}
 use Rattle.journeys.specs.Settled.{Settled, settled}
 use Rattle.journeys.specs.Order.{Offers, Eligible, Follows, Order}
 use Rattle.journeys.specs.Network.{Network}
-use Rattle.journeys.specs.Records.{Record, from, to, recordAt}
+use Rattle.journeys.specs.Records.{Record, from, to}
 use Rattle.journeys.specs.Valid.{Valid}
 use Rattle.journeys.proofs.Tests.{and-both, and-true, cond-true}
 use Rattle.journeys.proofs.Counting.{in-snoc}
