@@ -9,7 +9,7 @@ use lib.Dec.{leb}
 use lib.ListN.{length}
 use borrow.Author.Tests.{leb-true, le-leb}
 use Rattle.journeys.specs.Counting.{none, In}
-use Rattle.journeys.specs.Tables.{Tables, hop, vertexCount, walkCount}
+use Rattle.journeys.specs.Tables.{Tables, hop, vertexCount, walkCount, hopCount}
 use Rattle.journeys.specs.Query.{Query, allowed, before}
 use Rattle.journeys.specs.Settled.{Settled, settled}
 use Rattle.journeys.specs.Order.{Offers, Eligible, Follows, Order}
@@ -24,7 +24,7 @@ use Rattle.journeys.proofs.Greedy.{run, dist-exists}
 use Rattle.journeys.proofs.Told as theory
 use Rattle.journeys.proofs.Document as document
 use Rattle.journeys.proofs.Document.{Numbered, of-walk, of-hop, numbered, walk-record, hop-record}
-use Rattle.boarding.specs.Rides.{Mode, Ride, alone, onward}
+use Rattle.boarding.specs.Rides.{Mode, Stays, Ride, alone, onward}
 use Rattle.boarding.specs.RideJourneys.{standing, RideJourney, by-ride, RideDistance, Aboard}
 use Rattle.boarding.specs.RideOrder.{RideOffers, RideEligible, RideFollows, IsRideOrder}
 use Rattle.boarding.proofs.Links.{Link, gate, pass}
@@ -72,6 +72,21 @@ stop-journey N Q M j a = go (a .ride) (a .in-time) (a .on)
     go (onward i {j = m} l s r) t on =
         let z : standing Q M (hop N m .departure) ≤ standing Q M (hop N i .arrival) = omega (arith, before-mono Q (hop N i .arrival) (hop N m .departure) (s .in-time)) in
         RideJourney.wait z (rw (← s .there) at (by-ride r t on))
+
+-- A hop is on board in time exactly if one can alight at its "to" in time, or another that is on board in time may follow it.
+pub aboard-exactly : (N : Tables) (Q : Query) (M : Mode) (i : ℕ) → i < hopCount N
+    → Aboard N Q M i
+    ↔ (((hop N i .arrival ≤ Q .arrival) × RideJourney N Q M (hop N i .to) (before Q (hop N i .arrival))) ⊎ ((j : ℕ) × Stays N M i j × Aboard N Q M j))
+aboard-exactly N Q M i l = (λ a. there (a .ride) (a .in-time) (a .on), back)
+  where
+    there : {i k : ℕ} → Ride N M i k → hop N k .arrival ≤ Q .arrival → RideJourney N Q M (hop N k .to) (before Q (hop N k .arrival))
+        → ((hop N i .arrival ≤ Q .arrival) × RideJourney N Q M (hop N i .to) (before Q (hop N i .arrival))) ⊎ ((j : ℕ) × Stays N M i j × Aboard N Q M j)
+    there (alone _ _) t on = inl (t, on)
+    there (onward _ {j = j} {k = k} _ s r) t on = inr (j, s, record { last = k; ride = r; in-time = t; on = on })
+
+    back : ((hop N i .arrival ≤ Q .arrival) × RideJourney N Q M (hop N i .to) (before Q (hop N i .arrival))) ⊎ ((j : ℕ) × Stays N M i j × Aboard N Q M j) → Aboard N Q M i
+    back (inl x) = record { last = i; ride = alone i l; in-time = x .0; on = x .1 }
+    back (inr x) = let a = x .2 in record { last = a .last; ride = onward i l (x .1) (a .ride); in-time = a .in-time; on = a .on }
 
 -- what a gate gives below none is its figure
 gate-figure : (Q : Query) (t : Bool) (x y d b : ℕ) → b < none → pass Q (gate t x y) d ≡ b → (t ≡ true) × (d ≤ x) × (y ≡ b)
