@@ -50,7 +50,7 @@ opened true true m t y h = rw (h refl) (go m)
     go false = omega arith
 
 module _ (N : Tables) (Q : Query) (M : Mode) (mark : ℕ → Bool) (far : ℕ → ℕ) (j : ℕ) (l : j < hopCount N)
-  (near : far (hop N j .to) < none → far (hop N j .to) ≤ standing Q M (hop N j .arrival)) where
+    (near : far (hop N j .to) < none → far (hop N j .to) ≤ standing Q M (hop N j .arrival)) where
   -- what hop j offers u
   abbrev pub byHop : ℕ → ℕ
   byHop u = cond (eqb (hop N j .from) u && within far (hop N j .to)) (standing Q M (hop N j .departure)) none
