@@ -1,21 +1,22 @@
 -- What a search may know of the rides while S is settled: hops are marked from which a ride alights at a settled vertex in time. The least that these offer is the next of the
 -- order, though a stop may be settled before all rides through it are known. Assumes nothing.
-use mathlib.Core.Path.{_≡_, sym, ap, subst, fun-ext, _∙_}
+use mathlib.Core.Path.{_≡_, refl, sym, ap, subst, fun-ext, _∙_}
 use mathlib.Core.Logic.{_⊎_, inl, inr, ⊎-elim, _↔_, _≢_}
-use mathlib.Core.Bool.{Bool, true}
+use mathlib.Core.Bool.{Bool, true, false, cond, _&&_}
 use mathlib.Core.List.{List, [], _∷_, _++_}
 use Prim.Native.Nat.{ℕ, suc, _+_, _-_, _≤_, _<_, min}
 use native.Mathlib.Omega.{arith}
+use lib.Dec.{eqb}
 use lib.ListN.{length, take}
 use Rattle.journeys.specs.Counting.{none, least, In}
 use Rattle.journeys.specs.Tables.{Tables, hop, vertexCount, walkCount, hopCount}
 use Rattle.journeys.specs.Query.{Query, allowed, before}
 use Rattle.journeys.specs.Settled.{Settled, settled}
-use Rattle.journeys.specs.Network.{Network, distanceIn, known}
-use Rattle.journeys.specs.Records.{Record, to, recordAt, recordCount}
+use Rattle.journeys.specs.Network.{Network, distanceIn, within, into, offered, known}
+use Rattle.journeys.specs.Records.{Record, from, to, recordAt, recordCount, seed}
 use Rattle.journeys.specs.Valid.{Valid}
 use Rattle.journeys.proofs.Tests.{le-or-lt}
-use Rattle.journeys.proofs.Counting.{in-left}
+use Rattle.journeys.proofs.Counting.{least-empty, least-skip, in-left}
 use Rattle.journeys.proofs.Ways.{Ways, Arrives, Dist, Laws}
 use Rattle.journeys.proofs.Place.{key, key-up, key-same}
 use Rattle.journeys.proofs.Known.{Bound, Next, By, known-most, known-seed, known-record, known-by, beyond, next-low}
@@ -69,6 +70,19 @@ module _ (N : Tables) (Q : Query) (M : Mode) where
   pub mark-more : (S : List Settled) (x : Settled) (j : ℕ) → Marked N Q M S j → Marked N Q M (S ++ x ∷ []) j
   mark-more S x j m =
       record { last = m .last; figure = m .figure; ride = m .ride; in-time = m .in-time; there = in-left S (x ∷ []) (settled (hop N (m .last) .to) (m .figure)) (m .there); soon = m .soon }
+
+  -- Where nothing is settled no hop is marked,
+  pub none-marked : (j : ℕ) → ¬ Marked N Q M [] j
+  none-marked j m = m .there
+
+  -- and only the seeds are known.
+  pub known-first : (mark : ℕ → Bool) (v : ℕ) → known (networkBy N Q M mark) (distanceIn []) v ≡ min (seed N Q v) none
+  unfolding known offered into within distanceIn
+  known-first mark v = ap (min (seed N Q v)) (least-skip (offered (networkBy N Q M mark) (distanceIn []) v) 0 (recordCount N) (omega arith) (λ r a b. omega (arith, nothing (eqb (from (recordAt N r)) v) (networkBy N Q M mark .offer r none))) ∙ least-empty _)
+    where
+      nothing : (t : Bool) (x : ℕ) → cond (t && false) x none ≡ none
+      nothing true x = refl
+      nothing false x = refl
 
   -- An earlier hop of the same known trip to the same vertex is marked, too: of one vertex and one trip the marked hops are those up to an arrival.
   pub marked-earlier : (S : List Settled) (i j : ℕ) → i < hopCount N → hop N i .to ≡ hop N j .to → M .trip i ≡ M .trip j → hop N i .arrival ≤ hop N j .arrival
