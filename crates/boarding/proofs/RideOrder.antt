@@ -35,9 +35,22 @@ use Rattle.boarding.proofs.Rides.{linkBy, networkBy, waysBy, hop-link, 
 abbrev pub True : Tables → Query → Mode → List Settled → Type 0
 True N Q M S = (x : Settled) → In x S → RideDistance N Q M (x .vertex) (x .distance)
 
--- ---- where the same vertices may follow true lists, the order is the same
-module _ (N : Tables) (Q : Query) (M : Mode) (G : Network)
-    (agree : (S : List Settled) → True N Q M S → (x : Settled) → RideEligible N Q M S x ↔ Eligible G (RideDistance N Q M) (allowed Q) S x) where
+-- ---- where true lists offer the same by a network, the order is the same
+module _ (N : Tables) (Q : Query) (M : Mode) (ok : Valid N Q) (G : Network)
+    (offers-there : (S : List Settled) → True N Q M S → (v d : ℕ) → RideOffers N Q M S v d → Offers G S v d)
+    (offers-back : (S : List Settled) → True N Q M S → (v d : ℕ) → d < none → Offers G S v d → RideOffers N Q M S v d) where
+  agree : (S : List Settled) → True N Q M S → (x : Settled) → RideEligible N Q M S x ↔ Eligible G (RideDistance N Q M) (allowed Q) S x
+  agree S t x = (
+    λ c. record { unsettled = c .unsettled; is = c .is; low = c .low; offered = offers-there S t (x .vertex) (x .distance) (c .offered) },
+    λ c.
+        record {
+          unsettled = c .unsettled;
+          is = c .is;
+          low = c .low;
+          offered = offers-back S t (x .vertex) (x .distance) (omega (arith, c .low, document.allowed-low N Q ok)) (c .offered);
+        },
+  )
+
   true-snoc : (S : List Settled) (x : Settled) → True N Q M S → RideDistance N Q M (x .vertex) (x .distance) → True N Q M (S ++ x ∷ [])
   true-snoc S x t d y i = go (in-snoc S x y i)
     where
@@ -146,20 +159,8 @@ module _ (N : Tables) (Q : Query) (M : Mode) (ok : Valid N Q) where
     offers-back v d h (inl e) = inl e
     offers-back v d h (inr (r, x, l, f, m, e)) = by-record v d r x (numbered N r l) h f m e
 
-    agree : (x : Settled) → RideEligible N Q M S x ↔ Eligible rideNetwork (RideDistance N Q M) (allowed Q) S x
-    agree x = (
-      λ c. record { unsettled = c .unsettled; is = c .is; low = c .low; offered = offers-there (x .vertex) (x .distance) (c .offered) },
-      λ c.
-          record {
-            unsettled = c .unsettled;
-            is = c .is;
-            low = c .low;
-            offered = offers-back (x .vertex) (x .distance) (omega (arith, c .low, document.allowed-low N Q ok)) (c .offered);
-          },
-    )
-
   pub ride-order : {l : List Settled} → IsRideOrder N Q M l ↔ Order rideNetwork (RideDistance N Q M) (allowed Q) l
-  ride-order = orders-alike N Q M rideNetwork agree
+  ride-order = orders-alike N Q M ok rideNetwork offers-there offers-back
 
   -- There is an order of settling.
   unfoldable pub orderOf : List Settled
