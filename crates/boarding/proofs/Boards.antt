@@ -5,7 +5,7 @@ use mathlib.Core.Logic.{_⊎_, inl, inr, ⊎-elim, _↔_, _≢_}
 use mathlib.Core.Bool.{Bool, true, false, not, cond, _&&_}
 use mathlib.Core.List.{List, []}
 use Prim.Native.Nat.{ℕ, suc, _+_, _-_, _*_, _/_, _%_, _≤_, _<_}
-use native.Mathlib.Nat.{mul-le-mul, mul-le-mul-right, mod-lt, div-lt-iff-lt-mul}
+use native.Mathlib.Nat.{mul-le-mul, mul-le-mul-right, div-lt-iff-lt-mul}
 use native.Mathlib.Omega.{arith}
 use lib.Arith.{digits-div, digits-mod}
 use lib.Dec.{eqb, leb, ltb}
@@ -17,7 +17,7 @@ use Rattle.journeys.specs.Settled.{Settled}
 use Rattle.journeys.specs.Network.{Network, distanceIn}
 use Rattle.journeys.specs.Records.{seed}
 use Rattle.journeys.specs.Valid.{Valid, ValidTables}
-use Rattle.journeys.proofs.Tests.{split, and-both, and-true, cond-true, cond-false, le-or-lt, same-or-below}
+use Rattle.journeys.proofs.Tests.{split, and-both, and-true, cond-true, cond-false, le-or-lt}
 use Rattle.journeys.proofs.Ways.{Ways, Arrives, ends, leads, Laws, arrives-up}
 use Rattle.journeys.proofs.Gates.{seeds-are}
 use Rattle.journeys.proofs.Known.{ended}
@@ -25,7 +25,7 @@ use Rattle.journeys.proofs.Greedy.{Ran, run, run-ran, all-known, empty}
 use Rattle.journeys.proofs.Valid.{good-walk, good-hop}
 use Rattle.journeys.proofs.Document as document
 use Rattle.boarding.specs.Rides.{Mode, Stays, Ride, alone, onward}
-use Rattle.boarding.specs.RideJourneys.{boardTicks, standing, RideJourney, from-end, to-end, at-to, by-walk, by-ride, Aboard}
+use Rattle.boarding.specs.RideJourneys.{standing, RideJourney, from-end, to-end, at-to, by-walk, by-ride, Aboard}
 use Rattle.boarding.proofs.Links.{Link, foot, gate, pass, Passes, Forward, pass-up, pass-down, pass-le, pass-is}
 
 -- ---- staying, as a test

@@ -1,7 +1,7 @@
 -- What a boarding time does: with none the order is that of the ordinary run, and a longer one lists nobody more. Assumes nothing.
-use mathlib.Core.Path.{_≡_, refl, sym, ap, subst, _∙_}
+use mathlib.Core.Path.{_≡_, sym, ap, _∙_}
 use mathlib.Core.Logic.{inl, inr, _↔_}
-use mathlib.Core.Bool.{true, _&&_}
+use mathlib.Core.Bool.{_&&_}
 use mathlib.Core.List.{List}
 use Prim.Native.Nat.{ℕ, _+_, _*_, _≤_, _<_}
 use native.Mathlib.Nat.{mul-le-mul-right}
@@ -9,21 +9,21 @@ use native.Mathlib.Omega.{arith}
 use lib.Dec.{leb}
 use borrow.Author.Tests.{leb-true, le-leb}
 use Rattle.journeys.specs.Counting.{none, In}
-use Rattle.journeys.specs.Tables.{Tables, hop, walkCount, hopCount}
-use Rattle.journeys.specs.Query.{Query, allowed, before}
+use Rattle.journeys.specs.Tables.{Tables, hop, walkCount}
+use Rattle.journeys.specs.Query.{Query, before}
 use Rattle.journeys.specs.Journeys.{Journey, Distance}
 use Rattle.journeys.specs.Settled.{Settled, settled}
-use Rattle.journeys.specs.Order.{Offers, Eligible, IsOrder}
-use Rattle.journeys.specs.Records.{Record, from, to, offer, recordAt, network}
+use Rattle.journeys.specs.Order.{Offers, IsOrder}
+use Rattle.journeys.specs.Records.{Record, from, to, offer, network}
 use Rattle.journeys.specs.Valid.{Valid}
 use Rattle.journeys.proofs.Tests.{and-both, and-true, cond-true}
 use Rattle.journeys.proofs.Gates.{gate-is}
 use Rattle.journeys.proofs.Firsts.{order-same}
 use Rattle.journeys.proofs.Document as document
 use Rattle.journeys.proofs.Document.{Numbered, of-walk, of-hop, numbered, walk-record, hop-record}
-use Rattle.boarding.specs.Rides.{Mode, Stays, Ride, alone, onward}
-use Rattle.boarding.specs.RideJourneys.{boardTicks, standing, RideJourney, from-end, to-end, at-to, by-walk, by-ride, RideDistance, Aboard}
-use Rattle.boarding.specs.RideOrder.{RideOffers, RideEligible, IsRideOrder}
+use Rattle.boarding.specs.Rides.{Mode, Ride, alone, onward}
+use Rattle.boarding.specs.RideJourneys.{boardTicks, standing, RideJourney, from-end, to-end, at-to, by-walk, by-ride, RideDistance}
+use Rattle.boarding.specs.RideOrder.{RideOffers, IsRideOrder}
 use Rattle.boarding.proofs.Boards.{before-mono, ride-spans}
 use Rattle.boarding.proofs.RideOrder.{True, orders-alike, stop-journey, order-each, order-all, distance-exists}
 
@@ -105,23 +105,11 @@ module _ (N : Tables) (Q : Query) (M : Mode) (ok : Valid N Q) (no-time : M .boar
     offers-back v d h (inl e) = inl e
     offers-back v d h (inr (r, x, l, f, m, e)) = by-record v d r x (numbered N r l) h f m e
 
-    agree : (x : Settled) → RideEligible N Q M S x ↔ Eligible (network N Q) (RideDistance N Q M) (allowed Q) S x
-    agree x = (
-      λ c. record { unsettled = c .unsettled; is = c .is; low = c .low; offered = offers-there (x .vertex) (x .distance) (c .offered) },
-      λ c.
-          record {
-            unsettled = c .unsettled;
-            is = c .is;
-            low = c .low;
-            offered = offers-back (x .vertex) (x .distance) (omega (arith, c .low, document.allowed-low N Q ok)) (c .offered);
-          },
-    )
-
   -- and so is the order of settling: rides of no minutes among them.
   pub no-time-order : {l : List Settled} → IsRideOrder N Q M l ↔ IsOrder N Q l
   no-time-order {l} = (
-    λ O. order-same (network N Q) rides-distance distance-rides (orders-alike N Q M (network N Q) agree .0 O),
-    λ O. orders-alike N Q M (network N Q) agree .1 (order-same (network N Q) distance-rides rides-distance O),
+    λ O. order-same (network N Q) rides-distance distance-rides (orders-alike N Q M ok (network N Q) offers-there offers-back .0 O),
+    λ O. orders-alike N Q M ok (network N Q) offers-there offers-back .1 (order-same (network N Q) distance-rides rides-distance O),
   )
 
 -- ---- two boarding times

@@ -8,3 +8,4 @@ pub mod Changing
 pub mod SameList
 pub mod Marks
 pub mod OneMark
+pub mod RideFits

@@ -1,15 +1,15 @@
 -- One hop more is marked: what is known changes for the vertex that it leaves, if it leads into S. With `Step.known-step` that is all a step of the search has to tell. Assumes nothing.
-use mathlib.Core.Path.{_≡_, refl, sym, ap, subst, _∙_}
+use mathlib.Core.Path.{_≡_, refl, sym, ap, _∙_}
 use mathlib.Core.Logic.{⊎-elim, _≢_}
 use mathlib.Core.Bool.{Bool, true, false, cond, _&&_}
 use Prim.Native.Nat.{ℕ, _+_, _-_, _≤_, _<_, min}
 use native.Mathlib.Omega.{arith}
 use lib.Dec.{eqb, leb}
-use borrow.Author.Tests.{eqb-true, le-leb, eq-eqb, ne-eqb}
+use borrow.Author.Tests.{le-leb, eq-eqb, ne-eqb}
 use Rattle.journeys.specs.Counting.{none, least}
 use Rattle.journeys.specs.Tables.{Tables, hop, walkCount, hopCount}
 use Rattle.journeys.specs.Query.{Query}
-use Rattle.journeys.specs.Network.{Network, within, into, offered, known}
+use Rattle.journeys.specs.Network.{within, into, offered, known}
 use Rattle.journeys.specs.Records.{Record, from, to, recordAt, recordCount}
 use Rattle.journeys.proofs.Tests.{Test, same, other, test, cond-true, cond-false, le-or-lt}
 use Rattle.journeys.proofs.Counting.{least-none, least-le, least-is, least-min}
@@ -50,7 +50,7 @@ opened true true m t y h = rw (h refl) (go m)
     go false = omega arith
 
 module _ (N : Tables) (Q : Query) (M : Mode) (mark : ℕ → Bool) (far : ℕ → ℕ) (j : ℕ) (l : j < hopCount N)
-  (near : far (hop N j .to) < none → far (hop N j .to) ≤ standing Q M (hop N j .arrival)) where
+    (near : far (hop N j .to) < none → far (hop N j .to) ≤ standing Q M (hop N j .arrival)) where
   -- what hop j offers u
   abbrev pub byHop : ℕ → ℕ
   byHop u = cond (eqb (hop N j .from) u && within far (hop N j .to)) (standing Q M (hop N j .departure)) none

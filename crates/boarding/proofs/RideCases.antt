@@ -2,7 +2,6 @@
 use mathlib.Core.Path.{_≡_, refl, ap, _∙_}
 use mathlib.Core.Bool.{Bool, true}
 use mathlib.Core.List.{List}
-use Prim.Native.Nat.{ℕ}
 use Rattle.journeys.specs.Counting.{In}
 use Rattle.journeys.proofs.Cases.{every, same, same-is, tested, each-passes}
 use Rattle.boarding.specs.Rides.{tripAt}

@@ -1,6 +1,6 @@
 -- The order of settling with rides is that of a network: there is one and only one, and it lists who can be there in time. Assumes nothing.
-use mathlib.Core.Path.{_≡_, refl, sym, ap, subst, _∙_}
-use mathlib.Core.Logic.{_⊎_, inl, inr, ⊎-elim, _↔_}
+use mathlib.Core.Path.{_≡_, sym, ap, subst, _∙_}
+use mathlib.Core.Logic.{_⊎_, inl, inr, _↔_}
 use mathlib.Core.Bool.{Bool, true, _&&_}
 use mathlib.Core.List.{List, [], _∷_, _++_}
 use Prim.Native.Nat.{ℕ, _+_, _-_, _≤_, _<_}
@@ -9,12 +9,12 @@ use lib.Dec.{leb}
 use lib.ListN.{length}
 use borrow.Author.Tests.{leb-true, le-leb}
 use Rattle.journeys.specs.Counting.{none, In}
-use Rattle.journeys.specs.Tables.{Tables, walk, hop, vertexCount, walkCount, hopCount}
-use Rattle.journeys.specs.Query.{Query, allowed, before, walkTicks}
+use Rattle.journeys.specs.Tables.{Tables, hop, vertexCount, walkCount, hopCount}
+use Rattle.journeys.specs.Query.{Query, allowed, before}
 use Rattle.journeys.specs.Settled.{Settled, settled}
 use Rattle.journeys.specs.Order.{Offers, Eligible, Follows, Order}
 use Rattle.journeys.specs.Network.{Network}
-use Rattle.journeys.specs.Records.{Record, from, to, recordAt}
+use Rattle.journeys.specs.Records.{Record, from, to}
 use Rattle.journeys.specs.Valid.{Valid}
 use Rattle.journeys.proofs.Tests.{and-both, and-true, cond-true}
 use Rattle.journeys.proofs.Counting.{in-snoc}
@@ -24,7 +24,7 @@ use Rattle.journeys.proofs.Greedy.{run, dist-exists}
 use Rattle.journeys.proofs.Told as theory
 use Rattle.journeys.proofs.Document as document
 use Rattle.journeys.proofs.Document.{Numbered, of-walk, of-hop, numbered, walk-record, hop-record}
-use Rattle.boarding.specs.Rides.{Mode, Ride, alone, onward}
+use Rattle.boarding.specs.Rides.{Mode, Stays, Ride, alone, onward}
 use Rattle.boarding.specs.RideJourneys.{standing, RideJourney, by-ride, RideDistance, Aboard}
 use Rattle.boarding.specs.RideOrder.{RideOffers, RideEligible, RideFollows, IsRideOrder}
 use Rattle.boarding.proofs.Links.{Link, gate, pass}
@@ -35,9 +35,22 @@ use Rattle.boarding.proofs.Rides.{linkBy, networkBy, waysBy, hop-link, 
 abbrev pub True : Tables → Query → Mode → List Settled → Type 0
 True N Q M S = (x : Settled) → In x S → RideDistance N Q M (x .vertex) (x .distance)
 
--- ---- where the same vertices may follow true lists, the order is the same
-module _ (N : Tables) (Q : Query) (M : Mode) (G : Network)
-    (agree : (S : List Settled) → True N Q M S → (x : Settled) → RideEligible N Q M S x ↔ Eligible G (RideDistance N Q M) (allowed Q) S x) where
+-- ---- where true lists offer the same by a network, the order is the same
+module _ (N : Tables) (Q : Query) (M : Mode) (ok : Valid N Q) (G : Network)
+    (offers-there : (S : List Settled) → True N Q M S → (v d : ℕ) → RideOffers N Q M S v d → Offers G S v d)
+    (offers-back : (S : List Settled) → True N Q M S → (v d : ℕ) → d < none → Offers G S v d → RideOffers N Q M S v d) where
+  agree : (S : List Settled) → True N Q M S → (x : Settled) → RideEligible N Q M S x ↔ Eligible G (RideDistance N Q M) (allowed Q) S x
+  agree S t x = (
+    λ c. record { unsettled = c .unsettled; is = c .is; low = c .low; offered = offers-there S t (x .vertex) (x .distance) (c .offered) },
+    λ c.
+        record {
+          unsettled = c .unsettled;
+          is = c .is;
+          low = c .low;
+          offered = offers-back S t (x .vertex) (x .distance) (omega (arith, c .low, document.allowed-low N Q ok)) (c .offered);
+        },
+  )
+
   true-snoc : (S : List Settled) (x : Settled) → True N Q M S → RideDistance N Q M (x .vertex) (x .distance) → True N Q M (S ++ x ∷ [])
   true-snoc S x t d y i = go (in-snoc S x y i)
     where
@@ -72,6 +85,21 @@ stop-journey N Q M j a = go (a .ride) (a .in-time) (a .on)
     go (onward i {j = m} l s r) t on =
         let z : standing Q M (hop N m .departure) ≤ standing Q M (hop N i .arrival) = omega (arith, before-mono Q (hop N i .arrival) (hop N m .departure) (s .in-time)) in
         RideJourney.wait z (rw (← s .there) at (by-ride r t on))
+
+-- A hop is on board in time exactly if one can alight at its "to" in time, or another that is on board in time may follow it.
+pub aboard-exactly : (N : Tables) (Q : Query) (M : Mode) (i : ℕ) → i < hopCount N
+    → Aboard N Q M i
+    ↔ (((hop N i .arrival ≤ Q .arrival) × RideJourney N Q M (hop N i .to) (before Q (hop N i .arrival))) ⊎ ((j : ℕ) × Stays N M i j × Aboard N Q M j))
+aboard-exactly N Q M i l = (λ a. there (a .ride) (a .in-time) (a .on), back)
+  where
+    there : {i k : ℕ} → Ride N M i k → hop N k .arrival ≤ Q .arrival → RideJourney N Q M (hop N k .to) (before Q (hop N k .arrival))
+        → ((hop N i .arrival ≤ Q .arrival) × RideJourney N Q M (hop N i .to) (before Q (hop N i .arrival))) ⊎ ((j : ℕ) × Stays N M i j × Aboard N Q M j)
+    there (alone _ _) t on = inl (t, on)
+    there (onward _ {j = j} {k = k} _ s r) t on = inr (j, s, record { last = k; ride = r; in-time = t; on = on })
+
+    back : ((hop N i .arrival ≤ Q .arrival) × RideJourney N Q M (hop N i .to) (before Q (hop N i .arrival))) ⊎ ((j : ℕ) × Stays N M i j × Aboard N Q M j) → Aboard N Q M i
+    back (inl x) = record { last = i; ride = alone i l; in-time = x .0; on = x .1 }
+    back (inr x) = let a = x .2 in record { last = a .last; ride = onward i l (x .1) (a .ride); in-time = a .in-time; on = a .on }
 
 -- what a gate gives below none is its figure
 gate-figure : (Q : Query) (t : Bool) (x y d b : ℕ) → b < none → pass Q (gate t x y) d ≡ b → (t ≡ true) × (d ≤ x) × (y ≡ b)
@@ -131,20 +159,8 @@ module _ (N : Tables) (Q : Query) (M : Mode) (ok : Valid N Q) where
     offers-back v d h (inl e) = inl e
     offers-back v d h (inr (r, x, l, f, m, e)) = by-record v d r x (numbered N r l) h f m e
 
-    agree : (x : Settled) → RideEligible N Q M S x ↔ Eligible rideNetwork (RideDistance N Q M) (allowed Q) S x
-    agree x = (
-      λ c. record { unsettled = c .unsettled; is = c .is; low = c .low; offered = offers-there (x .vertex) (x .distance) (c .offered) },
-      λ c.
-          record {
-            unsettled = c .unsettled;
-            is = c .is;
-            low = c .low;
-            offered = offers-back (x .vertex) (x .distance) (omega (arith, c .low, document.allowed-low N Q ok)) (c .offered);
-          },
-    )
-
   pub ride-order : {l : List Settled} → IsRideOrder N Q M l ↔ Order rideNetwork (RideDistance N Q M) (allowed Q) l
-  ride-order = orders-alike N Q M rideNetwork agree
+  ride-order = orders-alike N Q M ok rideNetwork offers-there offers-back
 
   -- There is an order of settling.
   unfoldable pub orderOf : List Settled

@@ -4,10 +4,8 @@ use mathlib.Core.Logic.{inl, inr}
 use mathlib.Core.Bool.{Bool, true}
 use Prim.Native.Nat.{ℕ, _+_, _-_, _≤_, _<_}
 use native.Mathlib.Omega.{arith}
-use Rattle.journeys.specs.Counting.{none}
 use Rattle.journeys.specs.Tables.{Tables, walk, hop, vertexCount, walkCount, hopCount}
-use Rattle.journeys.specs.Query.{Query, allowed, before, asked, walkTicks, fromTicks, toTicks}
-use Rattle.journeys.specs.Settled.{Settled}
+use Rattle.journeys.specs.Query.{Query, allowed, before, walkTicks, fromTicks, toTicks}
 use Rattle.journeys.specs.Network.{Network}
 use Rattle.journeys.specs.Records.{Record, walked, ridden, from, to, recordCount, recordAt, seed}
 use Rattle.journeys.specs.Valid.{Valid}
@@ -17,9 +15,9 @@ use Rattle.journeys.proofs.Valid.{good-hop}
 use Rattle.journeys.proofs.Document as document
 use Rattle.journeys.proofs.Document.{Numbered, of-walk, of-hop, numbered, walk-record, hop-record}
 use Rattle.boarding.specs.Rides.{Mode, Ride, alone, onward}
-use Rattle.boarding.specs.RideJourneys.{boardTicks, standing, RideJourney, from-end, to-end, at-to, by-walk, by-ride, RideDistance, Aboard}
+use Rattle.boarding.specs.RideJourneys.{standing, RideJourney, from-end, to-end, at-to, by-walk, by-ride, RideDistance, Aboard}
 use Rattle.boarding.proofs.Links.{Link, foot, gate, pass, Passes, Forward, pass-up, pass-down, pass-le, pass-is}
-use Rattle.boarding.proofs.Boards.{boarded, aboardIn, aboard-is, is-aboard, seed-are, before-mono, end-rides, first-low}
+use Rattle.boarding.proofs.Boards.{seed-are, before-mono, end-rides}
 
 -- The link of a record; of a hop its number is given, too. Its "to" is within the boarding time of its arrival, as the proof shows.
 abbrev pub linkBy : Query → Mode → (ℕ → Bool) → ℕ → Record → Link

@@ -1,5 +1,5 @@
 -- With no boarding time an accepted ordinary run and the mode give the same settled list, byte for byte, whatever the trips are. Assumes nothing.
-use mathlib.Core.Path.{_≡_, refl, sym, ap, _∙_}
+use mathlib.Core.Path.{_≡_, refl, sym, ap, ap₂, _∙_}
 use mathlib.Core.List.{List}
 use Prim.Native.Nat.{ℕ, _+_, _*_, _/_, _≤_, min}
 use native.Mathlib.Omega.{arith}
@@ -11,6 +11,9 @@ use Rattle.journeys.specs.Query.{Query}
 use Rattle.journeys.specs.Settled.{Settled}
 use Rattle.journeys.specs.Refusals.{Refusal, unless, orElse, wholeOf, tableLengths, bufferLengths, contents, queryRefusal}
 use Rattle.journeys.specs.Answers.{Lent, Answer, tables, early, roomUpTo, acceptedAfter, Allowed}
+use Rattle.journeys.specs.PartAnswers.{partsAnswer}
+use Rattle.journeys.specs.OneRun.{ownList}
+use Rattle.journeys.specs.Marked.{partsOver}
 use Rattle.journeys.proofs.Tests.{cond-true}
 use Rattle.journeys.proofs.Refusals.{or-fine, or-next, from-none, unless-good, room-exactly}
 use Rattle.journeys.proofs.Valid.{early-valid}
@@ -70,3 +73,11 @@ module _ (b : Lent) (scratch : List ℕ) (Q : Query) where
         ap (λ (z : RideAnswer). z .finished) is ∙ sym (ap (λ (z : Answer). z .finished) (x .is)),
         ap (λ (z : RideAnswer). z .settled) is ∙ sym (ap (λ (z : Answer). z .settled) (x .is)),
       )
+
+  -- So are the parts that are made of the two lists, in any part buffer.
+  pub no-time-parts : (limit : ℕ) (a : Answer) → Allowed b Q limit a → a .refusal ≡ 0 → 4 * hopCount (tables b) ≤ length scratch
+      → (c : RideAnswer) → RideAllowed (withScratch b scratch) Q 0 limit c → (parts : List ℕ)
+      → partsAnswer (partsOver b (take (8 * c .settledCount) (c .settled)) parts) Q ≡ partsAnswer (partsOver b (ownList a) parts) Q
+  no-time-parts limit a A r h c C parts =
+      let e = no-time-answer limit a A r h c C in
+      ap (λ (l : List ℕ). partsAnswer (partsOver b l parts) Q) (ap₂ (λ (n : ℕ) (x : List ℕ). take (8 * n) x) (e .1) (e .3))
