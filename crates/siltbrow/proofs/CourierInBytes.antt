@@ -30,7 +30,7 @@ use Rattle.answered.proofs.Answers as answers
 use Rattle.answered.proofs.Answers.{Complete}
 use Rattle.answered.proofs.Vertices as vertices
 use Rattle.answered.proofs.Held as holds
-use Rattle.siltbrow.specs.CourierCall.{CourierCall, CourierCompleted, refusal, place, settledCount, partCount, heldCount, finished, read, Orders, steps, S}
+use Rattle.siltbrow.specs.CourierRun.{CourierCall, CourierCompleted, refusal, place, settledCount, partCount, heldCount, finished, read, Orders, steps, S}
 
 -- the call as a search over the courier's network
 abbrev pub searchOf : CourierCall → Search

@@ -8,4 +8,4 @@ pub mod PartsRan
 pub mod PartsCall
 pub mod Pair
 pub mod JudgeCall
-pub mod CourierCall
+pub mod CourierRun

@@ -2,7 +2,6 @@
 // Promises: the numbers of RULES 13, for every byte string of every length; the tables are only read.
 // Rests on: `audit`, whose scratch it lends, `search`, which has the run, `queries`, which has many runs, `patients`, which has an evening of them, `covering`, which has the parts, `frame`, `moves`, `vendors`, and `timetable`.
 mod asking;
-mod couriering;
 mod framing;
 mod hourly;
 mod judging;

@@ -10,7 +10,7 @@ use Rattle.journeys.specs.Tables.{Tables}
 use Rattle.journeys.specs.Query.{allowed}
 use Rattle.journeys.specs.Order.{Settled}
 use Rattle.journeys.specs.Answers.{settledBytes}
-use Rattle.siltbrow.specs.CourierCall.{CourierCall, CourierCompleted, refusal, settledCount, finished, read}
+use Rattle.siltbrow.specs.CourierRun.{CourierCall, CourierCompleted, refusal, settledCount, finished, read}
 use Rattle.siltbrow.proofs.CourierInBytes.{valid, theOrder, is-order, settled-are, finished-whole}
 use Rattle.slider.specs.Longer.{Longer}
 use Rattle.slider.specs.Directions.{couriers, Finished}
