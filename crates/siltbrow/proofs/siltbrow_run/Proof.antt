@@ -1,4 +1,6 @@
 use denote.Ref.{now}
+use Rattle.journeys.specs.Answers.{Allowed}
+use Rattle.records.specs.Asked.{queryBy}
 use Rattle.intake.specs.Lending.{lent}
 use mir.Syntax.{w32}
 use mir.Val.{toZ, ofZ}
@@ -15,7 +17,8 @@ returns c = record { untouched = λ n. (refl, refl, refl, refl); answered = λ e
 returns-2 : tie.Need-returns-2
 returns-2 c =
     let a = c .before .before .before .before .before .before .before .before .before .before .before .before .before .before .before .before .before .before in
-    ran (lent (now (a .args .vertices)) (now (a .args .walks)) (now (a .args .hops)) (a .args .hop-size) (now (a .args .held)) (now (a .args .settled))) (a .args .record-number) (a .args .offset) (a .args .arrival) (toZ w32 (ofZ w32 (a .args .arrival))) (a .args .duration) (a .args .speed) (a .args .limit) (now (a .args .answer)) _ _ _ _ (toZ-ofZ w32 (a .args .arrival) (a .fits .arrival)) (c .before .before .before .before .before .before .before .before .before .before .before .if1 .left) (c .before .before .before .before .before .before .before .before .run .ensures) (c .before .before .put-answer .ensures)
+    ran (λ z. Allowed (lent (now (a .args .vertices)) (now (a .args .walks)) (now (a .args .hops)) (a .args .hop-size) (now (a .args .held)) (now (a .args .settled))) (queryBy (a .args .record-number) (a .args .offset) z (a .args .duration) (a .args .speed)) (a .args .limit))
+    (a .args .arrival) (toZ w32 (ofZ w32 (a .args .arrival))) (now (a .args .held)) (now (a .args .settled)) (now (a .args .answer)) _ _ _ _ (toZ-ofZ w32 (a .args .arrival) (a .fits .arrival)) (c .before .before .before .before .before .before .before .before .before .before .before .if1 .left) (c .before .before .before .before .before .before .before .before .run .ensures) (c .before .before .put-answer .ensures)
 
 pub siltbrow-run-spec : {M : Type 1} → statement M
 siltbrow-run-spec =
