@@ -1,7 +1,7 @@
 -- A call of `siltbrow_courier` by name: what it is lent, and what it leaves. The theorems of the three demands speak of it. Assumes nothing.
 use mathlib.Core.Path.{_≡_}
 use mathlib.Core.List.{List}
-use Prim.Native.Nat.{ℕ, min}
+use Prim.Native.Nat.{ℕ, _*_, min}
 use lib.ListN.{length, take}
 use Rattle.journeys.specs.Bytes.{be32}
 use Rattle.journeys.specs.Tables.{Tables}
@@ -10,7 +10,9 @@ use Rattle.journeys.specs.Order.{Settled}
 use Rattle.journeys.specs.Answers.{tables}
 use Rattle.journeys.specs.CourierOrder.{IsCourierOrder}
 use Rattle.journeys.specs.CourierAnswers.{CourierLent}
+use Rattle.covering.specs.Lending.{courierPartsLent}
 use Rattle.siltbrow.specs.Ran.{CourierRan}
+use Rattle.siltbrow.specs.CourierCall.{CourierPartsCall}
 
 pub record CourierCall : Type 0 where
   -- before the call: the tables, the list by "from" and the two buffers, the query, the step limit, the answer slice
@@ -61,3 +63,9 @@ steps c l = min (c .limit) (length l)
 
 abbrev pub S : CourierCall → List Settled → List Settled
 S c l = take (steps c l) l
+
+-- The second call has the tables, the list by "from" and the query of the first; its settled list is the counted records of the settled bytes, and the zero tail stays behind.
+pub record CourierFollows (c : CourierCall) (p : CourierPartsCall) : Type 0 where
+  pub lent : p .lent
+      ≡ courierPartsLent (c .lent .lent .vertices) (c .lent .lent .walks) (c .lent .lent .hops) (c .lent .lent .hopSize) (c .lent .records) (take (8 * settledCount c) (c .settled)) (p .lent .lent .parts)
+  pub query : p .query ≡ c .query
