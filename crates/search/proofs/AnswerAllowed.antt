@@ -18,7 +18,12 @@ use Rattle.journeys.specs.Refusals.{unless, wholeOf, tableLengths, bufferLength
 use Rattle.journeys.specs.Answers as answers
 use Rattle.journeys.specs.Answers.{Lent, tables, early, refusedEarly, heldBytes, settledBytes, Allowed}
 use Rattle.journeys.specs.RunAnswers.{lateFor, heldFor, RoomFor, roomFor, roomUpToFor, acceptedFor, answerFor}
-use Rattle.journeys.proofs.Tests.{cond-true, cond-false}
+use Rattle.journeys.specs.CourierAnswers.{CourierLent, courierEarly, CourierAllowed}
+use Rattle.journeys.proofs.Tests.{never, cond-true, cond-false}
+use Rattle.journeys.proofs.CourierAnswers.{courier-links}
+use Rattle.listing.proofs.Froms.{total-is, sound}
+use Rattle.stretches.proofs.Numbers.{right-list}
+use Rattle.making.proofs.InOrder.{length-is}
 use Rattle.journeys.proofs.Valid.{early-valid, size-fits}
 use Rattle.journeys.specs.Valid.{Valid}
 use Rattle.journeys.proofs.Refusals.{or-fine, unless-fine, roomFor-is, roomFor-exactly, roomFor-first, ordinary-run}
@@ -28,6 +33,7 @@ use Rattle.worktable.specs.Table.{mapOf, InOrder}
 use Rattle.words.specs.Told.{told}
 use Rattle.words.specs.declared.Refusal as audit
 use Rattle.heldmap.specs.Directions.{networkIn, distanceFor}
+use Rattle.heldmap.specs.RowsOfTables.{Lists}
 use Rattle.steps.specs.Running.{Over, Short, EndedIs, OrderIn, Ends}
 use Rattle.ending.specs.Left.{Concluded, GivenUp}
 use Rattle.search.specs.Outcome.{answerOf, AnsweredIn}
@@ -43,6 +49,11 @@ use Rattle.heldmap.proofs.Directions.{waysIn, searched}
 filled-as : (d d′ bytes : List ℕ) → length d ≡ length d′ → filled d bytes ≡ filled d′ bytes
 unfolding filled
 filled-as d d′ bytes e = ap (λ (n : ℕ). bytes ++ replicate (n - length bytes) 0) e
+
+-- the held buffer has whole records
+held-whole : (held settled : List ℕ) → bufferLengths held settled .number ≡ 0 → length held % 16 ≡ 0
+unfolding bufferLengths wholeOf
+held-whole held settled e = eqb-true _ 0 (unless-fine (wholeOf 16 held) 1 3 (omega arith) (or-fine (unless (wholeOf 16 held) 1 3) _ e .0))
 
 module _ (b : Lent) (Q : Query) (limit : ℕ) (fault : audit.Refusal) (F : told fault ≡ early b Q) where
   number-is : early b Q .number ≡ fault .number
@@ -67,11 +78,8 @@ module _ (b : Lent) (Q : Query) (limit : ℕ) (passes : early b Q .number ≡ 0)
   valid = early-valid b Q passes
 
   pub whole-held : length (b .held) % 16 ≡ 0
-  unfolding early bufferLengths wholeOf
-  whole-held =
-      let x = or-fine (tableLengths (b .hopSize) (b .vertices) (b .walks) (b .hops)) _ passes in
-      let y = or-fine (bufferLengths (b .held) (b .settled)) _ (x .1) in
-      eqb-true _ 0 (unless-fine (wholeOf 16 (b .held)) 1 3 (omega arith) (or-fine (unless (wholeOf 16 (b .held)) 1 3) _ (y .0) .0))
+  unfolding early
+  whole-held = let x = or-fine (tableLengths (b .hopSize) (b .vertices) (b .walks) (b .hops)) _ passes in held-whole (b .held) (b .settled) (or-fine (bufferLengths (b .held) (b .settled)) _ (x .1) .0)
 
   pub hop-fits : 16 ≤ b .hopSize
   unfolding early
@@ -81,6 +89,59 @@ module _ (b : Lent) (Q : Query) (limit : ℕ) (passes : early b Q .number ≡ 0)
   pub allow : (a : answers.Answer) → AnsweredIn false (tables b) Q limit (b .held) (b .settled) a → Allowed b Q limit a
   unfolding AnsweredIn distanceFor
   allow a x = record { refused = λ n. absurd (n passes); accepted = λ z. (x .0, x .1, x .2 ∙ sym (ordinary-run b Q (x .0) limit)) }
+
+-- ---- the courier's run
+module _ (b : CourierLent) (Q : Query) (limit : ℕ) (fault : audit.Refusal) (F : told fault ≡ courierEarly b Q) where
+  courier-number : courierEarly b Q .number ≡ fault .number
+  courier-number = ap (λ (r : refusals.Refusal). r .number) (sym F)
+
+  -- Its refusals before the steps: nothing lent is changed.
+  pub courier-refused : (r : Answer) → r ≡ refusalOf (fault .number) (fault .place) → fault .number ≢ 0 → CourierAllowed b Q limit (answerOf r (b .lent .held) (b .lent .settled)) × (r .parts ≡ 0)
+  unfolding refusedEarly
+  courier-refused r e n = (
+    record {
+      refused = λ z. ap (λ (x : Answer). answerOf x (b .lent .held) (b .lent .settled)) e ∙ ap (refusedEarly (b .lent)) F;
+      accepted = λ z. absurd (n (sym courier-number ∙ z));
+    },
+    ap (λ (x : Answer). x .parts) e,
+  )
+
+  module _ (none : fault .number ≡ 0) where
+    passes : courierEarly b Q .number ≡ 0
+    passes = courier-number ∙ none
+
+    hop-wide : 16 ≤ b .lent .hopSize
+    unfolding courierEarly
+    hop-wide =
+        let l = b .lent in
+        size-fits (l .hopSize) (l .vertices) (l .walks) (l .hops) (or-fine (tableLengths (l .hopSize) (l .vertices) (l .walks) (l .hops)) _ passes .0)
+
+    -- What the steps ask.
+    pub courier-valid : Valid (tables (b .lent)) Q × (length (b .lent .held) % 16 ≡ 0) × (16 ≤ b .lent .hopSize)
+    unfolding courierEarly
+    courier-valid =
+        let l = b .lent in
+        let x = or-fine (tableLengths (l .hopSize) (l .vertices) (l .walks) (l .hops)) _ passes in
+        (courier-links b Q passes .0, held-whole (l .held) (l .settled) (or-fine (bufferLengths (l .held) (l .settled)) _ (x .1) .0), hop-wide)
+
+    -- The list is the right one.
+    pub courier-lists : Lists true (b .lent .hopSize) (b .lent .walks) (b .lent .hops) (b .records)
+    courier-lists =
+        let l = b .lent in
+        let k = courier-links b Q passes in
+        record {
+          right = λ e. right-list (l .hopSize) (l .vertices) (l .walks) (l .hops) (sound (l .hopSize) (l .vertices) (l .walks) (l .hops) (k .0 .tables) (omega (arith, hop-wide))) (k .2);
+          long = λ e. length-is (l .hopSize) (l .vertices) (l .walks) (l .hops) (b .records) (k .1) ∙ ap (λ (n : ℕ). 4 * n) (total-is (l .hopSize) (l .vertices) (l .walks) (l .hops));
+        }
+
+    -- What the courier's run makes is allowed.
+    pub courier-allow : (a : answers.Answer) → AnsweredIn true (tables (b .lent)) Q limit (b .lent .held) (b .lent .settled) a → CourierAllowed b Q limit a
+    unfolding AnsweredIn distanceFor
+    courier-allow a x = record { refused = λ n. absurd (n passes); accepted = λ z. (x .0, x .1, x .2) }
+
+-- an ordinary run reads no list
+pub no-list : (size : ℕ) (w h list : List ℕ) → Lists false size w h list
+no-list size w h list = record { right = λ e. never e refl; long = λ e. never e refl }
 
 -- ---- the steps in either direction
 module _ (c : Bool) (N : Tables) (Q : Query) (ok : Valid N Q) (limit : ℕ) (heldLent settledLent : List ℕ) where
