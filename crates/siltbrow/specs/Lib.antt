@@ -8,3 +8,4 @@ pub mod PartsRan
 pub mod PartsCall
 pub mod Pair
 pub mod JudgeCall
+pub mod CourierCall
