@@ -26,7 +26,7 @@ pub refusal-read : (a : PartsAnswer) → be32 (partsAnswerBytes a) 0 ≡ a .refu
 unfolding be32 word
 refusal-read a = word-back (a .refusal)
 
-place-read : (a : PartsAnswer) → be32 (partsAnswerBytes a) 4 ≡ a .place
+pub place-read : (a : PartsAnswer) → be32 (partsAnswerBytes a) 4 ≡ a .place
 unfolding be32 word
 place-read a = word-back (a .place)
 

@@ -9,11 +9,10 @@ use borrow.Fn.World.{ArgsD}
 use borrow.Fn.Kinds.{endedOf}
 use denote.Triple.Clauses.{AtExit}
 use denote.Ref.{now}
-use Rattle.journeys.specs.Query.{Query}
-use Rattle.journeys.specs.PartAnswers.{PartsLent}
+use Rattle.journeys.specs.PartAnswers.{PartsAnswer}
 use Rattle.records.specs.Asked.{queryBy}
 use Rattle.covering.specs.Lending.{partsLent}
-use Rattle.siltbrow.specs.PartsRan.{PartsRan}
+use Rattle.siltbrow.specs.PartsRan.{PartsLeft}
 use Rattle.siltbrow.specs.PartsCall.{PartsCall, PartsCompleted}
 use Rattle.siltbrow.proofs.streets.siltbrow_parts as siltbrow_parts
 use Rattle.siltbrow.proofs.streets.siltbrow_parts.Kinds as kinds
@@ -37,9 +36,9 @@ pub call-completed : (κs : _) (a : _) (z : _) (e : _) → siltbrow-parts.Post �
 call-completed κs a z e p whole = (p, whole)
 
 -- the answers for one slice of any length
-pub ran-one : (b : PartsLent) (Q : Query) (slice p a p′ a′ : List ℕ) (r r′ : ℕ) → PartsRan b Q slice p a r → PartsRan b Q slice p′ a′ r′
+pub ran-one : (A : PartsAnswer) (buffer slice p a p′ a′ : List ℕ) (r r′ : ℕ) → PartsLeft A buffer slice p a r → PartsLeft A buffer slice p′ a′ r′
     → (r ≡ r′) × (p ≡ p′) × (a ≡ a′)
-ran-one b Q slice p a p′ a′ r r′ x y = go (ℕ-discrete (length slice) 12)
+ran-one A buffer slice p a p′ a′ r r′ x y = go (ℕ-discrete (length slice) 12)
   where
     go : Dec (length slice ≡ 12) → (r ≡ r′) × (p ≡ p′) × (a ≡ a′)
     go (yes e) =

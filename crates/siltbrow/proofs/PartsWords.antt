@@ -7,13 +7,13 @@ use lib.IntN.{ℤ}
 use lib.ListN.{length, drop-of-length-le}
 use Rattle.journeys.specs.Bytes.{word}
 use Rattle.journeys.specs.PartAnswers as answers
-use Rattle.journeys.specs.PartAnswers.{PartsLent, partsAnswer}
+use Rattle.journeys.specs.Query.{Query}
 use Rattle.words.specs.Written.{written}
 use Rattle.words.proofs.Written.{front, three-words}
 use Rattle.records.specs.Asked.{queryBy}
 use Rattle.covering.specs.Lending.{partsAnswerOf}
 use Rattle.covering.specs.declared.PartsAnswer.{PartsAnswer}
-use Rattle.siltbrow.specs.PartsRan.{partsAnswerBytes, PartsRan}
+use Rattle.siltbrow.specs.PartsRan.{partsAnswerBytes, PartsLeft}
 
 module _ (d : List ℕ) (a b c : ℕ) (long : length d ≡ 12) where
   three-fill : written d 0 (word a ++ word b ++ word c) ≡ word a ++ word b ++ word c
@@ -30,11 +30,11 @@ module _ (d : List ℕ) (a b c : ℕ) (long : length d ≡ 12) where
       ∙ three-words d a b c (omega arith)
       ∙ three-fill
 
--- the answer in its slice; z is the arrival as it stands in the query
-pub parts-ran : (b : PartsLent) (walk offset : ℕ) (arrival z : ℤ) (duration speed : ℕ) (slice parts slice′ : List ℕ) (x : PartsAnswer) → z ≡ arrival → length slice ≡ 12
-    → partsAnswerOf x parts ≡ partsAnswer b (queryBy walk offset z duration speed)
+-- the answer in its slice; z is the second of the query as it stands there
+pub parts-ran : (A : Query → answers.PartsAnswer) (buffer : List ℕ) (walk offset : ℕ) (second z : ℤ) (duration speed : ℕ) (slice parts slice′ : List ℕ) (x : PartsAnswer) → z ≡ second → length slice ≡ 12
+    → partsAnswerOf x parts ≡ A (queryBy walk offset z duration speed)
     → slice′ ≡ word (x .refusal) ++ word (x .place) ++ word (x .parts)
-    → PartsRan b (queryBy walk offset arrival duration speed) slice parts slice′ 0
-parts-ran b walk offset arrival z duration speed slice parts slice′ x q long A e =
-    let is = subst (λ (y : ℤ). partsAnswerOf x parts ≡ partsAnswer b (queryBy walk offset y duration speed)) q A in
+    → PartsLeft (A (queryBy walk offset second duration speed)) buffer slice parts slice′ 0
+parts-ran A buffer walk offset second z duration speed slice parts slice′ x q long told e =
+    let is = subst (λ (y : ℤ). partsAnswerOf x parts ≡ A (queryBy walk offset y duration speed)) q told in
     record { untouched = λ n. absurd (n long); answered = λ _. (refl, ap (λ (a : answers.PartsAnswer). a .parts) is, e ∙ ap partsAnswerBytes is) }

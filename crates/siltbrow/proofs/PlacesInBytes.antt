@@ -2,11 +2,12 @@
 -- Assumes nothing.
 use mathlib.Core.Path.{_≡_, sym, subst, _∙_}
 use mathlib.Core.Logic.{_⊎_, inl, inr, ⊎-elim, _↔_, _≢_}
-use mathlib.Core.List.{List, []}
+use mathlib.Core.List.{List, [], flatMap}
 use Prim.Native.Nat.{ℕ, _+_, _-_, _*_, _≤_, _<_}
 use native.Mathlib.Omega.{arith}
 use Rattle.journeys.specs.Counting.{none, In}
-use Rattle.journeys.specs.Bytes.{be32}
+use lib.ListN.{length}
+use Rattle.journeys.specs.Bytes.{be32, filled}
 use Rattle.journeys.specs.Tables.{walk, walkCount}
 use Rattle.journeys.specs.Query.{Query, allowed}
 use Rattle.journeys.specs.Journeys.{Inside}
@@ -22,8 +23,11 @@ use Rattle.siltbrow.proofs.Demands.{valid, theOrder, is-order, finished
 use Rattle.siltbrow.proofs.Pair.{parts-are}
 
 -- the place x of the walk record i lies between the start and the end, both inclusive, of a counted part record that names i
+abbrev pub LiesIn : List ℕ → ℕ → ℕ → ℕ → Type 0
+LiesIn bytes count i x = (k : ℕ) × (k < count) × (be32 bytes (12 * k) ≡ i) × (be32 bytes (12 * k + 4) ≤ x) × (x ≤ be32 bytes (12 * k + 8))
+
 abbrev pub Lies : PartsCall → ℕ → ℕ → Type 0
-Lies p i x = (k : ℕ) × (k < partsCount p) × (be32 (p .parts) (12 * k) ≡ i) × (be32 (p .parts) (12 * k + 4) ≤ x) × (x ≤ be32 (p .parts) (12 * k + 8))
+Lies p = LiesIn (p .parts) (partsCount p)
 
 -- the three words of a part record
 words : (bytes : List ℕ) (k : ℕ) (p : Part) → Stands partBytes 12 length-part bytes k p
@@ -32,6 +36,20 @@ words bytes k p s = (stands-front partBytes 12 length-part bytes k p (omega arit
 
 covered-by : (ps : List Part) (p : Part) (i x : ℕ) → In p ps → p .walk ≡ i → p .start ≤ x → x ≤ p .end → Covered ps i x
 covered-by ps p i x m e low high = subst (λ (j : ℕ). Covered ps j x) e (record { start = p .start; end = p .end; listed = m; low = low; high = high })
+
+-- The counted part records are the listed parts: a place lies in one of them exactly if these cover it.
+pub lies-are : (bytes buffer : List ℕ) (count : ℕ) (ps : List Part) → count ≡ length ps → bytes ≡ filled buffer (flatMap partBytes ps) → (i x : ℕ) → LiesIn bytes count i x ↔ Covered ps i x
+lies-are bytes buffer count ps n e i x = (
+  λ y.
+      let z = record-listed partBytes 12 length-part bytes buffer ps count n e (y .0) (y .1) in
+      let w = words bytes (y .0) (z .0) (z .2) in
+      covered-by ps (z .0) i x (z .1) (sym (w .0) ∙ y .2) (omega (arith, w .1, y .3)) (omega (arith, w .2, y .4)),
+  λ y.
+      let q : Part = record { walk = i; start = y .start; end = y .end } in
+      let z = listed-record partBytes 12 length-part bytes buffer ps count n e q (y .listed) in
+      let w = words bytes (z .0) q (z .2) in
+      (z .0, z .1, w .0, omega (arith, w .1, y .low), omega (arith, w .2, y .high)),
+)
 
 -- an accepted run, and an accepted call for the parts of its list
 module _ (c : Call) (E : Completed c) (accepted : refusal c ≡ 0) (p : PartsCall) (F : PartsCompleted p) (own : Follows c p) (fine : partsRefusal p ≡ 0) where
@@ -42,20 +60,9 @@ module _ (c : Call) (E : Completed c) (accepted : refusal c ≡ 0) (p : PartsCal
     abbrev listed : List Part
     listed = partList (read c) Q (S c l)
 
-    -- The counted part records are the listed parts: a place lies in one of them exactly if the parts of step 0 and of S cover it.
+    -- The counted part records are the parts of step 0 and of S.
     pub lies-covered : (i x : ℕ) → Lies p i x ↔ Covered listed i x
-    lies-covered i x =
-        let are = parts-are c E accepted p F own l O fine in (
-          λ y.
-              let z = record-listed partBytes 12 length-part (p .parts) (p .lent .parts) listed (partsCount p) (are .0) (are .1) (y .0) (y .1) in
-              let w = words (p .parts) (y .0) (z .0) (z .2) in
-              covered-by listed (z .0) i x (z .1) (sym (w .0) ∙ y .2) (omega (arith, w .1, y .3)) (omega (arith, w .2, y .4)),
-          λ y.
-              let q : Part = record { walk = i; start = y .start; end = y .end } in
-              let z = listed-record partBytes 12 length-part (p .parts) (p .lent .parts) listed (partsCount p) (are .0) (are .1) q (y .listed) in
-              let w = words (p .parts) (z .0) q (z .2) in
-              (z .0, z .1, w .0, omega (arith, w .1, y .low), omega (arith, w .2, y .high)),
-        )
+    lies-covered = let are = parts-are c E accepted p F own l O fine in lies-are (p .parts) (p .lent .parts) (partsCount p) listed (are .0) (are .1)
 
   module _ (f : finished c ≡ 1) where
     abbrev l : List Settled

@@ -46,7 +46,7 @@ module _ (s s′ : ℕ) (v w h h′ : List ℕ) (same : Alike s s′ h h′) whe
   pub parts-alike : (list parts : List ℕ) (Q : Query) (slice x y x′ y′ : List ℕ) (r r′ : ℕ)
       → PartsRan (partsLent v w h s list parts) Q slice x y r → PartsRan (partsLent v w h′ s′ list parts) Q slice x′ y′ r′
       → (r ≡ r′) × (x ≡ x′) × (y ≡ y′)
-  parts-alike list parts Q slice x y x′ y′ r r′ p q = covered.ran-one (partsLent v w h′ s′ list parts) Q slice x y x′ y′ r r′ carried q
+  parts-alike list parts Q slice x y x′ y′ r r′ p q = covered.ran-one (answers.partsAnswer (partsLent v w h′ s′ list parts) Q) parts slice x y x′ y′ r r′ carried q
     where
       carried : PartsRan (partsLent v w h′ s′ list parts) Q slice x y r
       carried =

@@ -9,3 +9,4 @@ pub mod PartsCall
 pub mod Pair
 pub mod JudgeCall
 pub mod CourierRun
+pub mod CourierCall

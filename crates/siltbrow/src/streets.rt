@@ -13,7 +13,7 @@ ghost use Rattle.covering.specs.Lending.{partsLent};
 ghost use Rattle.siltbrow.specs.PartsRan.{PartsRan};
 
 // The three numbers of an answer, 4 bytes each.
-fn put_three(out: &mut [u8], a: PartsAnswer)
+pub fn put_three(out: &mut [u8], a: PartsAnswer)
     requires { ⌜ length (now out) ≡ 12 ⌝ }
     ensures { λ _. ⌜ now (out .exit) ≡ word (a .refusal) ++ word (a .place) ++ word (a .parts) ⌝ }
 {

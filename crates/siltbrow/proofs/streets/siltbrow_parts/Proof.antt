@@ -4,6 +4,7 @@ use mathlib.Core.Path.{refl}
 use mir.Syntax.{w32}
 use mir.Val.{toZ, ofZ}
 use mir.ValLaws.{toZ-ofZ}
+use Rattle.journeys.specs.PartAnswers.{partsAnswer}
 use Rattle.covering.specs.Lending.{partsLent}
 use Rattle.siltbrow.proofs.PartsWords.{parts-ran}
 use borrow.Author.Needs.{needs}
@@ -19,7 +20,7 @@ returns-2 c =
     let f = p .before .before .before .before in
     let t = f .before .before in
     let s = t .before .before .before .before .before .before .before in
-    parts-ran (partsLent (now (s .args .vertices)) (now (s .args .walks)) (now (s .args .hops)) (s .args .hop-size) (now (s .args .list)) (now (s .args .parts))) (s .args .record-number) (s .args .offset) (s .args .arrival) (toZ w32 (ofZ w32 (s .args .arrival))) (s .args .duration) (s .args .speed) (now (s .args .answer)) _ _ _
+    parts-ran (partsAnswer (partsLent (now (s .args .vertices)) (now (s .args .walks)) (now (s .args .hops)) (s .args .hop-size) (now (s .args .list)) (now (s .args .parts)))) (now (s .args .parts)) (s .args .record-number) (s .args .offset) (s .args .arrival) (toZ w32 (ofZ w32 (s .args .arrival))) (s .args .duration) (s .args .speed) (now (s .args .answer)) _ _ _
     (toZ-ofZ w32 (s .args .arrival) (s .fits .arrival)) (t .if1 .left) (f .parts .ensures) (p .put-three .ensures)
 
 pub siltbrow-parts-spec : {M : Type 1} → statement M
