@@ -10,3 +10,4 @@ pub mod Marks
 pub mod OneMark
 pub mod RideFits
 pub mod Kept
+pub mod Searching
