@@ -9,3 +9,5 @@ pub mod SameList
 pub mod Marks
 pub mod OneMark
 pub mod RideFits
+pub mod Kept
+pub mod Searching
