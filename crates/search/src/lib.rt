@@ -192,7 +192,7 @@ pub fn courier<'a>(
     ensures { λ r. ⌜ r .parts ≡ 0 ⌝ }
 {
     let mut scratch = [0u16; 2048];
-    let fault = courier_intake::courier_fault(
+    let bad = courier_intake::courier_fault(
         vertices,
         walks,
         hops,
@@ -203,8 +203,8 @@ pub fn courier<'a>(
         q,
         &mut scratch,
     );
-    if fault.number != 0 {
-        return refusal(fault.number, fault.place);
+    if bad.number != 0 {
+        return refusal(bad.number, bad.place);
     }
     judged(
         vertices,
