@@ -19,10 +19,11 @@ use Rattle.lines.proofs.Spans.{same-bytes}
 use Rattle.rows.specs.Placed.{fieldSpan}
 use Rattle.rows.proofs.Fields.{value, pairs}
 use Rattle.values.specs.declared.Number.the-variants.{Value, Bad}
+use Rattle.values.specs.declared.Time.{Time}
 use Rattle.values.specs.declared.Time.the-variants.{Seconds, Bad as None}
 use Rattle.values.specs.Readings.{numberRead, timeRead}
 use Rattle.values.proofs.Times.{read-value, read-bad}
-use Rattle.halts.specs.Halts.{timedIn}
+use Rattle.halts.specs.Halts.{timedIn, secondsRead}
 
 pub number-told : (f : List ℕ) (v : ℕ) → numberRead none f ≡ Value v → v ≡ valueOf f
 number-told f v e = sym (read-value none v f e .1)
@@ -36,27 +37,27 @@ unfolding empty secondsOf valueOf valueFrom
 blank-seconds [] e = refl
 blank-seconds (b ∷ r) e = never e refl
 
-pub seconds-told : (f : List ℕ) (s : ℕ) → timeRead f ≡ Seconds s → s ≡ secondsOf f
+seconds-told : (f : List ℕ) (s : ℕ) → timeRead f ≡ Seconds s → s ≡ secondsOf f
 unfolding timeRead
 seconds-told f s e =
     ⊎-elim (λ (t : time f ≡ true). let z : secondsOf f ≡ s = cc in sym z)
     (λ (t : time f ≡ false). absurd (let z : _≡_ {A = ℕ} 0 1 = cc in omega arith))
     (split (time f))
 
-pub seconds-none : (f : List ℕ) → timeRead f ≡ None → timeOrBlank f ≡ true → 0 ≡ secondsOf f
+seconds-none : (f : List ℕ) → timeRead f ≡ None → timeOrBlank f ≡ true → 0 ≡ secondsOf f
 unfolding timeRead timeOrBlank
 seconds-none f e g =
     ⊎-elim (λ (t : empty f ≡ true). sym (blank-seconds f t))
     (λ (t : time f ≡ true). absurd (let z : _≡_ {A = ℕ} 0 1 = cc in omega arith))
     (or-cases (empty f) (time f) g)
 
-pub other-time : (f g : List ℕ) {s : ℕ} → empty f ≡ true → s ≡ secondsOf g → s ≡ orOther f g
-unfolding orOther
-other-time f g e h = h ∙ sym (cond-true _ _ e)
+pub seconds-read : (t : Time) (f : List ℕ) → timeRead f ≡ t → timeOrBlank f ≡ true → secondsRead t ≡ secondsOf f
+seconds-read (Seconds s) f e g = seconds-told f s e
+seconds-read None f e g = seconds-none f e g
 
-pub own-time : (f g : List ℕ) {s : ℕ} → empty f ≡ false → s ≡ secondsOf f → s ≡ orOther f g
+pub either-is : (f g : List ℕ) {b : Bool} {x y : ℕ} → b ≡ empty f → y ≡ secondsOf g → x ≡ secondsOf f → cond b y x ≡ orOther f g
 unfolding orOther
-own-time f g e h = h ∙ sym (cond-false _ _ e)
+either-is f g p q r = rw (p, q, r) refl
 
 pub timed-told : (l : List ℕ) (arrival departure : ℕ) {a b : Bool} → a ≡ empty (field (rowOf l) arrival) → b ≡ empty (field (rowOf l) departure) → (not a || not b) ≡ timedIn l arrival departure
 unfolding timedIn

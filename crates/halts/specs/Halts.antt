@@ -7,11 +7,18 @@ use lib.ListN.{length, drop}
 use Rattle.feed.specs.Lines.{empty, linesOf}
 use Rattle.feed.specs.Fields.{Row, rowOf, field}
 use Rattle.feed.specs.Stops.{Stop, stopsFrom}
+use Rattle.values.specs.declared.Time.{Time}
+use Rattle.values.specs.declared.Time.the-variants.{Seconds, Bad}
 use Rattle.naming.specs.Named.{lineAt}
 
 -- one of the two times is given
 unfoldable pub timedIn : List ℕ → ℕ → ℕ → Bool
 timedIn l arrival departure = not (empty (field (rowOf l) arrival)) || not (empty (field (rowOf l) departure))
+
+-- the seconds of what was read as a time, and 0 where it was none
+abbrev pub secondsRead : Time → ℕ
+secondsRead (Seconds s) = s
+secondsRead Bad = 0
 
 -- the stops of the lines from a place on, the first of which has a number
 unfoldable pub stopsAt : Row → List ℕ → List ℕ → List ℕ → ℕ → ℕ → List Stop

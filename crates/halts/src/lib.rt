@@ -4,14 +4,16 @@
 use values::Number;
 use values::Time;
 ghost use mathlib.Core.Path.{_≡_};
-ghost use mathlib.Core.Bool.{true};
+ghost use mathlib.Core.Bool.{true, cond};
 ghost use Prim.Native.Nat.{_+_, _-_, _<_, _≤_};
 ghost use lib.ListN.{length, take, drop};
 ghost use Rattle.journeys.specs.Counting.{none};
+ghost use Rattle.feed.specs.Lines.{empty};
 ghost use Rattle.feed.specs.Fields.{rowOf, field, same};
 ghost use Rattle.feed.specs.Values.{number, valueOf, timeOrBlank, secondsOf};
 ghost use Rattle.feed.specs.Stops.{orOther};
-ghost use Rattle.halts.specs.Halts.{timedIn, First};
+ghost use Rattle.values.specs.Readings.{timeRead};
+ghost use Rattle.halts.specs.Halts.{timedIn, secondsRead, First};
 
 pub fn number_of(line: &[u8], k: usize) -> u32
     requires { ⌜ (k < length (rowOf (now line) .fields)) × (number none (field (rowOf (now line)) k) ≡ true) ⌝ }
@@ -24,36 +26,65 @@ pub fn number_of(line: &[u8], k: usize) -> u32
     }
 }
 
-fn seconds_of(line: &[u8], k: usize) -> u32
-    requires { ⌜ (k < length (rowOf (now line) .fields)) × (timeOrBlank (field (rowOf (now line)) k) ≡ true) ⌝ }
-    ensures { λ r. ⌜ r ≡ secondsOf (field (rowOf (now (line .entry))) k) ⌝ }
+// A time as it is given, and 0 where it is left blank.
+struct Moment {
+    blank: bool,
+    seconds: u32,
+}
+
+// The times of a stop: one that is given stands for both.
+pub struct Times {
+    pub timed: bool,
+    pub arrival: u32,
+    pub departure: u32,
+}
+
+fn seconds_between(line: &[u8], start: usize, stop: usize) -> u32
+    requires { ⌜ (start ≤ stop) × (stop ≤ length (now line)) ⌝ }
+    ensures { λ r. ⌜ r ≡ secondsRead (timeRead (take (stop - start) (drop start (now (line .entry))))) ⌝ }
 {
-    let read = rows::time_in(line, k);
+    let read = values::read_time(&line[start..stop]);
     match read {
         Time::Seconds(s) => s,
         Time::Bad => 0,
     }
 }
 
-// A time, or the other where it is blank.
-pub fn time_of(line: &[u8], k: usize, other: usize) -> u32
+// The field is looked for once.
+fn moment_in(line: &[u8], k: usize) -> Moment
     requires { ⌜ (k < length (rowOf (now line) .fields)) × (timeOrBlank (field (rowOf (now line)) k) ≡ true) ⌝ }
-    requires { ⌜ (other < length (rowOf (now line) .fields)) × (timeOrBlank (field (rowOf (now line)) other) ≡ true) ⌝ }
-    ensures { λ r. ⌜ r ≡ orOther (field (rowOf (now (line .entry))) k) (field (rowOf (now (line .entry))) other) ⌝ }
+    ensures { λ r. ⌜ (r .blank ≡ empty (field (rowOf (now (line .entry))) k)) × (r .seconds ≡ secondsOf (field (rowOf (now (line .entry))) k)) ⌝ }
 {
-    if rows::blank_in(line, k) {
-        return seconds_of(line, other);
+    let span = rows::field_span(line, k);
+    let seconds = seconds_between(line, span.start, span.stop);
+    Moment {
+        blank: span.start == span.stop,
+        seconds,
     }
-    seconds_of(line, k)
 }
 
-pub fn timed_in(line: &[u8], arrival: usize, departure: usize) -> bool
-    requires { ⌜ (arrival < length (rowOf (now line) .fields)) × (departure < length (rowOf (now line) .fields)) ⌝ }
-    ensures { λ r. ⌜ r ≡ timedIn (now (line .entry)) arrival departure ⌝ }
+fn either(blank: bool, other: u32, own: u32) -> u32
+    ensures { λ r. ⌜ r ≡ cond blank other own ⌝ }
 {
-    let first = rows::blank_in(line, arrival);
-    let second = rows::blank_in(line, departure);
-    !first | !second
+    if blank { other } else { own }
+}
+
+pub fn times_of(line: &[u8], arrival: usize, departure: usize) -> Times
+    requires { ⌜ (arrival < length (rowOf (now line) .fields)) × (timeOrBlank (field (rowOf (now line)) arrival) ≡ true) ⌝ }
+    requires { ⌜ (departure < length (rowOf (now line) .fields)) × (timeOrBlank (field (rowOf (now line)) departure) ≡ true) ⌝ }
+    ensures { λ r. ⌜ (r .timed ≡ timedIn (now (line .entry)) arrival departure)
+        × (r .arrival ≡ orOther (field (rowOf (now (line .entry))) arrival) (field (rowOf (now (line .entry))) departure))
+        × (r .departure ≡ orOther (field (rowOf (now (line .entry))) departure) (field (rowOf (now (line .entry))) arrival)) ⌝ }
+{
+    let first = moment_in(line, arrival);
+    let second = moment_in(line, departure);
+    let reached = either(first.blank, second.seconds, first.seconds);
+    let left = either(second.blank, first.seconds, second.seconds);
+    Times {
+        timed: !first.blank | !second.blank,
+        arrival: reached,
+        departure: left,
+    }
 }
 
 fn same_parts(line: &[u8], start: usize, stop: usize, own: &[u8], first: usize, last: usize) -> bool

@@ -8,3 +8,4 @@ pub mod Lines
 pub mod Spans
 pub mod Passes
 pub mod Determined
+pub mod Strides

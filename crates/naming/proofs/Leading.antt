@@ -1,14 +1,13 @@
 -- A line whose bytes differ from an id before it ends has another id. Assumes nothing.
 use Prim.Native.Nat.{ℕ, zero, suc, _+_, _-_, _≤_, _<_}
 use native.Mathlib.Omega.{arith}
-use native.Mathlib.Numerals.{add-one}
 use mathlib.Core.Path.{_≡_, refl, ap, _∙_}
 use mathlib.Core.Logic.{⊎-elim}
 use mathlib.Core.Bool.{Bool, true, false, _&&_}
 use mathlib.Core.List.{List, [], _∷_}
 use lib.Dec.{eqb}
-use lib.ListN.{length, getD, take, drop, drop-of-length-le}
-use lib.Seq.{drop-cons}
+use lib.ListN.{length, getD, take, drop, length-drop}
+use lib.Seq.{drop-cons, getD-drop}
 use borrow.Author.Tests.{eq-eqb}
 use Rattle.journeys.proofs.Tests.{split, never, and-right, cond-false}
 use Rattle.feed.specs.Fields.{same}
@@ -18,9 +17,6 @@ use Rattle.lines.specs.Spans.{spanAt, bytesIn}
 use Rattle.naming.specs.Named.{stopAt, lineAt, firstBytes, leads}
 use Rattle.naming.proofs.Places.{same-is}
 
-pub and-there : {a b : Bool} → a ≡ true → (a && b) ≡ b
-and-there e = rw e refl
-
 -- ---- one byte after the other
 pub leads-short : (y t : List ℕ) → length t < length y → leads y t ≡ false
 unfolding leads
@@ -28,14 +24,33 @@ leads-short [] t h = absurd (omega arith)
 leads-short (a ∷ y) [] h = refl
 leads-short (a ∷ y) (b ∷ t) h = and-right (eqb a b) (leads-short y t (omega arith))
 
-module _ (y t : List ℕ) (i j : ℕ) where
-  pub leads-step : i < length y → j < length t → leads (drop i y) (drop j t) ≡ (eqb (getD y i 0) (getD t j 0) && leads (drop (i + 1) y) (drop (j + 1) t))
-  unfolding leads
-  leads-step h k = rw (drop-cons y i 0 h, drop-cons t j 0 k, add-one i, add-one j) refl
+and-all : (a b c : Bool) → (a && (b && c)) ≡ ((a && b) && c)
+and-all true b c = refl
+and-all false b c = refl
 
-  pub leads-over : length y ≤ i → leads (drop i y) (drop j t) ≡ true
-  unfolding leads
-  leads-over h = rw (drop-of-length-le y h) refl
+and-one : (a : Bool) → (a && true) ≡ a
+and-one true = refl
+and-one false = refl
+
+pub and-here : {a b : Bool} → b ≡ true → (a && b) ≡ a
+and-here {a} e = ap (λ (z : Bool). a && z) e ∙ and-one a
+
+-- the last of some bytes
+leads-last : (y t : List ℕ) (k : ℕ) → k < length y → length y ≤ length t → leads (take (suc k) y) t ≡ (leads (take k y) t && eqb (getD y k 0) (getD t k 0))
+unfolding leads
+leads-last [] t k h l = absurd (omega (arith, h))
+leads-last (a ∷ y) [] k h l = absurd (omega (arith, l))
+leads-last (a ∷ y) (b ∷ t) zero h l = and-one (eqb a b)
+leads-last (a ∷ y) (b ∷ t) (suc k) h l = ap (λ (z : Bool). eqb a b && z) (leads-last y t k (omega (arith, h)) (omega (arith, l))) ∙ and-all (eqb a b) _ _
+
+pub leads-back : (y text : List ℕ) (at k i : ℕ) → i ≡ suc k → i ≤ length y → length y ≤ length text - at → at ≤ length text → leads (take i y) (drop at text) ≡ (leads (take k y) (drop at text) && eqb (getD y k 0) (getD text (at + k) 0))
+leads-back y text at k i e h l s =
+    ap (λ (z : ℕ). leads (take z y) (drop at text)) e ∙ leads-last y (drop at text) k (omega (arith, e, h)) (omega (arith, l, length-drop at text))
+    ∙ ap (λ (z : ℕ). leads (take k y) (drop at text) && eqb (getD y k 0) z) (getD-drop at text k 0)
+
+pub leads-none : (y t : List ℕ) (i : ℕ) → i ≡ 0 → leads (take i y) t ≡ true
+unfolding leads
+leads-none y t i e = rw e refl
 
 -- ---- a part of the first bytes leads
 leads-part : (n w : ℕ) (t : List ℕ) → leads (take n (take w t)) t ≡ true

@@ -29,7 +29,7 @@ fn begins_between(name: &[u8], text: &[u8], at: usize, stop: usize) -> bool
     begins_with(&text[at..stop], name)
 }
 
-// From a place on, a text goes on with these bytes.
+// From a place on, a text goes on with these bytes. They are compared from the last one on: ids of one list mostly differ there.
 fn goes_on(text: &[u8], at: usize, name: &[u8]) -> bool
     requires { ⌜ at ≤ length (now text) ⌝ }
     ensures { λ r. ⌜ r ≡ leads (now (name .entry)) (drop at (now (text .entry))) ⌝ }
@@ -37,12 +37,13 @@ fn goes_on(text: &[u8], at: usize, name: &[u8]) -> bool
     if name.len() > text.len() - at {
         return false;
     }
-    let mut i = 0;
-    while i < name.len() {
-        if name[i] != text[at + i] {
+    let mut i = name.len();
+    while 0 < i {
+        let k = i - 1;
+        if name[k] != text[at + k] {
             return false;
         }
-        i += 1;
+        i = k;
     }
     true
 }

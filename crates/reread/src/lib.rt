@@ -42,18 +42,16 @@ fn halt_of(
     let trip = known::listed_at(bt, nt, mt, trips, line, c.trip);
     let own = spelling::number_at(trips, trip - 1);
     let sequence = halts::number_of(line, c.sequence);
-    let timed = halts::timed_in(line, c.arrival, c.departure);
-    let arrival = halts::time_of(line, c.arrival, c.departure);
-    let departure = halts::time_of(line, c.departure, c.arrival);
+    let times = halts::times_of(line, c.arrival, c.departure);
     Halt {
         line: number,
         trip,
         number: own,
         sequence,
         vertex,
-        timed,
-        arrival,
-        departure,
+        timed: times.timed,
+        arrival: times.arrival,
+        departure: times.departure,
     }
 }
 

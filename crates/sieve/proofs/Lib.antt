@@ -1,3 +1,4 @@
 pub mod KeptLaws
 pub mod SiftLaws
+pub mod SkipLaws
 pub mod ScanLaws

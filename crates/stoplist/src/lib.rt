@@ -98,9 +98,7 @@ fn write_line(
     let vertex = vertex_of(bs, ns, ms, stops, line, c.stop);
     let trip = known::listed_at(bt, nt, mt, trips, line, c.trip);
     let sequence = halts::number_of(line, c.sequence);
-    let timed = halts::timed_in(line, c.arrival, c.departure);
-    let arrival = halts::time_of(line, c.arrival, c.departure);
-    let departure = halts::time_of(line, c.departure, c.arrival);
+    let times = halts::times_of(line, c.arrival, c.departure);
     put_stop(
         b,
         n,
@@ -109,9 +107,9 @@ fn write_line(
         sequence,
         number,
         vertex,
-        timed,
-        arrival,
-        departure,
+        times.timed,
+        times.arrival,
+        times.departure,
     );
 }
 

@@ -21,10 +21,13 @@ fn time_or_blank(line: &[u8], k: usize) -> bool
     requires { ⌜ k < length (rowOf (now line) .fields) ⌝ }
     ensures { λ r. ⌜ r ≡ timeOrBlank (field (rowOf (now (line .entry))) k) ⌝ }
 {
-    if rows::blank_in(line, k) {
+    let span = rows::field_span(line, k);
+    let start = span.start;
+    let stop = span.stop;
+    if start == stop {
         return true;
     }
-    let read = rows::time_in(line, k);
+    let read = values::read_time(&line[start..stop]);
     match read {
         Time::Seconds(_) => true,
         Time::Bad => false,

@@ -1,3 +1,4 @@
+use borrow.Author.Needs.{needs}
 use native.Mathlib.Omega.{arith}
 use mathlib.Core.Path.{_≡_, sym, _∙_}
 use Prim.Native.Nat.{_+_, _-_, _≤_}
@@ -14,13 +15,13 @@ abbrev μ-loop : tie.MeasureT-loop
 μ-loop text at i₀ i = length text - i
 
 loop-holds : tie.Need-loop-holds Inv-loop μ-loop
-loop-holds c = omega arith
+loop-holds c = c .line-on .ensures
 
 ends-at-requires : tie.Need-ends-at-requires Inv-loop μ-loop
 ends-at-requires c κs = omega arith
 
 returns : tie.Need-returns Inv-loop μ-loop
-returns c = omega (arith, width-ends (c .before .before .before .before .before .args .text .now) (c .before .before .before .loop .i) (omega arith) (sym (c .before .ends-at .ensures) ∙ c .if1 .taken))
+returns c = omega (arith, width-ends (c .before .before .before .before .before .before .args .text .now) (c .before .before .before .loop .i) (omega arith) (sym (c .before .ends-at .ensures) ∙ c .if1 .taken))
 
 add-i : tie.Need-add-i Inv-loop μ-loop
 add-i c = omega arith
@@ -29,10 +30,10 @@ loop-less : tie.Need-loop-less Inv-loop μ-loop
 loop-less c = omega arith
 
 loop-again : tie.Need-loop-again Inv-loop μ-loop
-loop-again c = omega (arith, width-on (c .before .before .before .before .before .args .text .now) (c .before .before .before .loop .i) (omega arith) (sym (c .before .ends-at .ensures) ∙ c .if1 .left))
+loop-again c = omega (arith, width-on (c .before .before .before .before .before .before .args .text .now) (c .before .before .before .loop .i) (omega arith) (sym (c .before .ends-at .ensures) ∙ c .if1 .left))
 
 returns-2 : tie.Need-returns-2 Inv-loop μ-loop
-returns-2 c = omega (arith, width-over (c .before .before .before .args .text .now) (c .before .loop .i) (omega arith))
+returns-2 c = omega (arith, width-over (c .before .before .before .before .args .text .now) (c .before .loop .i) (omega arith))
 
 pub line-stop-spec : {M : Type 1} → statement M
 line-stop-spec =
@@ -40,6 +41,7 @@ line-stop-spec =
     (tie.spec
     Inv-loop
     μ-loop
+    (λ c κs. search needs)
     loop-holds
     ends-at-requires
     returns

@@ -46,34 +46,17 @@ number-of-requires c κs =
     let p = start .pre .0 in
     (below (a .c) (a .stops .now) (a .trips .now) (a .line .now) (start .pre .1) (p .inside .sequence), good (a .c) (a .stops .now) (a .trips .now) (a .line .now) (start .pre .1) .sequence)
 
-timed-in-requires : tie.Need-timed-in-requires
-timed-in-requires c κs =
+times-of-requires : tie.Need-times-of-requires
+times-of-requires c κs =
     let start = c .before .before .before .before .before .before .before .before .before in
-    let a = start .args in
-    let p = start .pre .0 in
-    (below (a .c) (a .stops .now) (a .trips .now) (a .line .now) (start .pre .1) (p .inside .arrival), below (a .c) (a .stops .now) (a .trips .now) (a .line .now) (start .pre .1) (p .inside .departure))
-
-time-of-requires : tie.Need-time-of-requires
-time-of-requires c κs =
-    let start = c .before .before .before .before .before .before .before .before .before .before in
     let a = start .args in
     let p = start .pre .0 in
     let g = good (a .c) (a .stops .now) (a .trips .now) (a .line .now) (start .pre .1) in
     ((below (a .c) (a .stops .now) (a .trips .now) (a .line .now) (start .pre .1) (p .inside .arrival), g .arrival), (below (a .c) (a .stops .now) (a .trips .now) (a .line .now) (start .pre .1) (p .inside .departure), g .departure))
 
-time-of-requires-2 : tie.Need-time-of-requires-2
-time-of-requires-2 c κs =
-    let start = c .before .before .before .before .before .before .before .before .before .before .before in
-    let a = start .args in
-    let p = start .pre .0 in
-    let g = good (a .c) (a .stops .now) (a .trips .now) (a .line .now) (start .pre .1) in
-    ((below (a .c) (a .stops .now) (a .trips .now) (a .line .now) (start .pre .1) (p .inside .departure), g .departure), (below (a .c) (a .stops .now) (a .trips .now) (a .line .now) (start .pre .1) (p .inside .arrival), g .arrival))
-
 returns : tie.Need-returns
 returns c =
-    let first = c .before in
-    let timed = first .before in
-    let sequence = timed .before in
+    let sequence = c .before in
     let own = sequence .before in
     let trip = own .before in
     let vertex = trip .before in
@@ -82,7 +65,7 @@ returns c =
     let p = start .pre .0 in
     let g = good (a .c) (a .stops .now) (a .trips .now) (a .line .now) (start .pre .1) in
     let w = found-there none (a .trips .now) (a .line .now) (a .c .trip) (below (a .c) (a .stops .now) (a .trips .now) (a .line .now) (start .pre .1) (p .inside .trip)) (p .tripsGood) (g .trip) (trip .listed-at .ensures) in
-    read-as (a .c) (a .stops .now) (a .trips .now) (a .number) (a .line .now) (vertex .vertex-of .ensures .0) (trip .listed-at .ensures) (own .number-at .ensures ∙ w .2) (sequence .number-of .ensures) (timed .timed-in .ensures) (first .time-of .ensures) (c .time-of2 .ensures)
+    read-as (a .c) (a .stops .now) (a .trips .now) (a .number) (a .line .now) (vertex .vertex-of .ensures .0) (trip .listed-at .ensures) (own .number-at .ensures ∙ w .2) (sequence .number-of .ensures) (c .times-of .ensures .0) (c .times-of .ensures .1) (c .times-of .ensures .2)
 
 pub halt-of-spec : {M : Type 1} → statement M
-halt-of-spec = tie.close (tie.spec vertex-of-requires listed-at-requires sub-number-at number-at-requires number-of-requires timed-in-requires time-of-requires time-of-requires-2 returns)
+halt-of-spec = tie.close (tie.spec vertex-of-requires listed-at-requires sub-number-at number-at-requires number-of-requires times-of-requires returns)

@@ -8,16 +8,7 @@ use Rattle.stoplist.proofs.Parts.{good, below, found-there, below-two-t
 use Rattle.stoplist.proofs.Packing.{made}
 use Rattle.stoplist.proofs.write_line.Statement.{statement}
 use Rattle.stoplist.proofs.write_line.Tie as tie
-use Rattle.stoplist.proofs.write_line.Reads as reads
-use Rattle.stoplist.proofs.write_line.Lts as lts
-use Rattle.stoplist.proofs.put_stop.Reads as put-stop-reads
-use Rattle.stoplist.proofs.vertex_of.Reads as vertex-of-reads
-use Rattle.halts.proofs.number_of.Reads as number-of-reads
-use Rattle.halts.proofs.time_of.Reads as time-of-reads
-use Rattle.halts.proofs.timed_in.Reads as timed-in-reads
-use Rattle.known.proofs.listed_at.Reads as listed-at-reads
 
--- src/lib.rt:63:9
 vertex-of-requires : tie.Need-vertex-of-requires
 vertex-of-requires c κs =
     let start = c .before .before .before .before .before .before in
@@ -26,7 +17,6 @@ vertex-of-requires c κs =
     let g = good (a .c) (a .stops .now) (a .trips .now) (a .line .now) (p .0 .3) in
     ((p .1 .0 .0, p .1 .0 .1, below (a .c) (a .stops .now) (a .trips .now) (a .line .now) (p .0 .3) (p .0 .2 .stop)), (p .1 .0 .2, g .stop))
 
--- src/lib.rt:64:9
 listed-at-requires : tie.Need-listed-at-requires
 listed-at-requires c κs =
     let start = c .before .before .before .before .before .before .before in
@@ -34,7 +24,6 @@ listed-at-requires c κs =
     let p = start .pre in
     (p .1 .1 .0, p .1 .1 .1, below (a .c) (a .stops .now) (a .trips .now) (a .line .now) (p .0 .3) (p .0 .2 .trip))
 
--- src/lib.rt:65:9
 number-of-requires : tie.Need-number-of-requires
 number-of-requires c κs =
     let start = c .before .before .before .before .before .before .before .before in
@@ -42,36 +31,17 @@ number-of-requires c κs =
     let p = start .pre in
     (below (a .c) (a .stops .now) (a .trips .now) (a .line .now) (p .0 .3) (p .0 .2 .sequence), good (a .c) (a .stops .now) (a .trips .now) (a .line .now) (p .0 .3) .sequence)
 
--- src/lib.rt:66:9
-timed-in-requires : tie.Need-timed-in-requires
-timed-in-requires c κs =
+times-of-requires : tie.Need-times-of-requires
+times-of-requires c κs =
     let start = c .before .before .before .before .before .before .before .before .before in
-    let a = start .args in
-    let p = start .pre in
-    (below (a .c) (a .stops .now) (a .trips .now) (a .line .now) (p .0 .3) (p .0 .2 .arrival), below (a .c) (a .stops .now) (a .trips .now) (a .line .now) (p .0 .3) (p .0 .2 .departure))
-
--- src/lib.rt:67:9
-time-of-requires : tie.Need-time-of-requires
-time-of-requires c κs =
-    let start = c .before .before .before .before .before .before .before .before .before .before in
     let a = start .args in
     let p = start .pre in
     let g = good (a .c) (a .stops .now) (a .trips .now) (a .line .now) (p .0 .3) in
     ((below (a .c) (a .stops .now) (a .trips .now) (a .line .now) (p .0 .3) (p .0 .2 .arrival), g .arrival), (below (a .c) (a .stops .now) (a .trips .now) (a .line .now) (p .0 .3) (p .0 .2 .departure), g .departure))
 
--- src/lib.rt:68:9
-time-of-requires-2 : tie.Need-time-of-requires-2
-time-of-requires-2 c κs =
-    let start = c .before .before .before .before .before .before .before .before .before .before .before in
-    let a = start .args in
-    let p = start .pre in
-    let g = good (a .c) (a .stops .now) (a .trips .now) (a .line .now) (p .0 .3) in
-    ((below (a .c) (a .stops .now) (a .trips .now) (a .line .now) (p .0 .3) (p .0 .2 .departure), g .departure), (below (a .c) (a .stops .now) (a .trips .now) (a .line .now) (p .0 .3) (p .0 .2 .arrival), g .arrival))
-
--- src/lib.rt:69:23
 cast-put-stop : tie.Need-cast-put-stop
 cast-put-stop c =
-    let listed = c .before .before .before .before .before in
+    let listed = c .before .before .before in
     let start = listed .before .before .before .before .before .before .before .before in
     let a = start .args in
     let p = start .pre in
@@ -79,35 +49,29 @@ cast-put-stop c =
     let w = found-there none (a .trips .now) (a .line .now) (a .c .trip) (below (a .c) (a .stops .now) (a .trips .now) (a .line .now) (p .0 .3) (p .0 .2 .trip)) (p .1 .1 .2) (g .trip) (listed .listed-at .ensures) in
     record { fits = below-two-to-32 (w .0) (p .1 .1 .3) }
 
--- src/lib.rt:69:5
 put-stop-requires : tie.Need-put-stop-requires
 put-stop-requires c κs =
-    let second = c .before in
-    let first = second .before in
-    let vertex = first .before .before .before .before in
+    let times = c .before in
+    let vertex = times .before .before .before in
     let start = vertex .before .before .before .before .before .before .before in
     let a = start .args in
     let p = start .pre in
     let g = good (a .c) (a .stops .now) (a .trips .now) (a .line .now) (p .0 .3) in
-    (p .0 .0, p .0 .1, vertex .vertex-of .ensures .1, subst (λ x. x < 262144) (sym (first .time-of .ensures)) (other-small _ _ (g .arrival) (g .departure)), subst (λ x. x < 262144) (sym (second .time-of2 .ensures)) (other-small _ _ (g .departure) (g .arrival)))
+    (p .0 .0, p .0 .1, vertex .vertex-of .ensures .1, subst (λ x. x < 262144) (sym (times .times-of .ensures .1)) (other-small _ _ (g .arrival) (g .departure)), subst (λ x. x < 262144) (sym (times .times-of .ensures .2)) (other-small _ _ (g .departure) (g .arrival)))
 
--- src/lib.rt:57:1
 same-length : tie.Need-same-length
 same-length c = search needs
 
--- src/lib.rt:57:1
 returns : tie.Need-returns
 returns c =
     let put = c .before .before in
-    let second = put .before .before in
-    let first = second .before in
-    let timed = first .before in
-    let sequence = timed .before in
+    let times = put .before .before in
+    let sequence = times .before in
     let trip = sequence .before in
     let vertex = trip .before in
     let start = vertex .before .before .before .before .before .before .before in
     let a = start .args in
-    put .put-stop .ensures ∙ ap (λ x. set (recs (a .n) (a .b .now)) (a .j) x) (made (a .c) (a .stops .now) (a .trips .now) (a .number) (a .line .now) (vertex .vertex-of .ensures .0) (trip .listed-at .ensures) (sequence .number-of .ensures) (timed .timed-in .ensures) (first .time-of .ensures) (second .time-of2 .ensures))
+    put .put-stop .ensures ∙ ap (λ x. set (recs (a .n) (a .b .now)) (a .j) x) (made (a .c) (a .stops .now) (a .trips .now) (a .number) (a .line .now) (vertex .vertex-of .ensures .0) (trip .listed-at .ensures) (sequence .number-of .ensures) (times .times-of .ensures .0) (times .times-of .ensures .1) (times .times-of .ensures .2))
 
 pub write-line-spec : {M : Type 1} → statement M
 write-line-spec =
@@ -116,9 +80,7 @@ write-line-spec =
     vertex-of-requires
     listed-at-requires
     number-of-requires
-    timed-in-requires
-    time-of-requires
-    time-of-requires-2
+    times-of-requires
     cast-put-stop
     put-stop-requires
     same-length

@@ -1,32 +1,55 @@
+use borrow.Author.Needs.{needs}
 use native.Mathlib.Omega.{arith}
 use mathlib.Core.Path.{_≡_, refl, sym, ap, _∙_}
+use borrow.Author.Tests.{eq-eqb, ne-eqb}
+use Rattle.rows.proofs.Fields.{within, as-time, as-blank}
 use Rattle.stops.proofs.StopLines.{blank-good, time-good, time-bad}
-use borrow.Author.Needs.{needs}
 use Rattle.stops.proofs.time_or_blank.Statement.{statement}
 use Rattle.stops.proofs.time_or_blank.Tie as tie
 
-blank-in-requires : tie.Need-blank-in-requires
-blank-in-requires c κs = search needs
-
 returns : tie.Need-returns
-returns c = sym (blank-good _ (sym (c .before .blank-in .ensures) ∙ c .if1 .taken))
+returns c =
+    let span = c .before in
+    sym (blank-good _ (sym (as-blank _ _ (span .before .before .pre) _ (span .field-span .ensures)) ∙ eq-eqb _ _ (c .if1 .taken)))
 
-time-in-requires : tie.Need-time-in-requires
-time-in-requires c κs = search needs
+sub-read-time : tie.Need-sub-read-time
+sub-read-time c = let span = c .before in within _ _ (span .before .before .pre) _ (span .field-span .ensures) .0
 
-enum-told : tie.Need-enum-told
-enum-told c = search needs
+part-read-time-start : tie.Need-part-read-time-start
+part-read-time-start c = let span = c .before in omega (arith, within _ _ (span .before .before .pre) _ (span .field-span .ensures))
 
-enum-told-2 : tie.Need-enum-told-2
-enum-told-2 c = search needs
+part-read-time-end : tie.Need-part-read-time-end
+part-read-time-end c = let span = c .before in omega (arith, within _ _ (span .before .before .pre) _ (span .field-span .ensures))
 
 returns-2 : tie.Need-returns-2
-returns-2 c = sym (time-good _ _ (sym (c .before .before .before .before .blank-in .ensures) ∙ c .before .before .before .if1 .left) (sym (c .before .before .time-in .ensures) ∙ c .enum-told .given .1))
+returns-2 c =
+    let read = c .before .before in
+    let else = read .before .before in
+    let span = else .before in
+    let h = span .before .before .pre in
+    let e = span .field-span .ensures in
+    sym (time-good _ _ (sym (as-blank _ _ h _ e) ∙ ne-eqb _ _ (else .if1 .left)) (sym (as-time _ _ h _ e) ∙ sym (read .read-time .ensures) ∙ c .enum-told .given .1))
 
 returns-3 : tie.Need-returns-3
-returns-3 c = sym (time-bad _ (sym (c .before .before .before .before .blank-in .ensures) ∙ c .before .before .before .if1 .left) (sym (c .before .before .time-in .ensures) ∙ c .enum-told2 .given .1))
+returns-3 c =
+    let read = c .before .before in
+    let else = read .before .before in
+    let span = else .before in
+    let h = span .before .before .pre in
+    let e = span .field-span .ensures in
+    sym (time-bad _ (sym (as-blank _ _ h _ e) ∙ ne-eqb _ _ (else .if1 .left)) (sym (as-time _ _ h _ e) ∙ sym (read .read-time .ensures) ∙ c .enum-told2 .given .1))
 
 pub time-or-blank-spec : {M : Type 1} → statement M
 time-or-blank-spec =
     tie.close
-    (tie.spec blank-in-requires returns time-in-requires enum-told enum-told-2 returns-2 returns-3)
+    (tie.spec
+    (λ c κs. search needs)
+    returns
+    sub-read-time
+    part-read-time-start
+    part-read-time-end
+    (λ c κs. search needs)
+    (λ c. search needs)
+    (λ c. search needs)
+    returns-2
+    returns-3)
