@@ -6,6 +6,7 @@ pub mod cases;
 pub mod exchange;
 pub mod journeys;
 pub mod marked;
+pub mod mirror;
 pub mod plain;
 pub mod quick;
 pub mod scenes;

@@ -1,4 +1,4 @@
-//! `courier self|mutants|make|judge [SEED [CASES]|marked|big]`: the courier's reach of RULES 27 judged from outside. `make` writes cases for the
+//! `courier self|mutants|mirror|make|judge [SEED [CASES]|marked|big]`: the courier's reach of RULES 27 judged from outside. `make` writes cases for the
 //! driver and `judge` reads what the library answered. `marked` are the cases with a told answer, `big` those at the limits of the tables.
 //! The last line is 'N passed, M failed'.
 
@@ -11,9 +11,9 @@ use courier::plain::Plain;
 use courier::quick::Quick;
 use courier::scenes::Bytes;
 use courier::wrong::{Sound, Wrong};
-use courier::{exchange, journeys, marked};
+use courier::{exchange, journeys, marked, mirror};
 
-const USAGE: &str = "courier self|mutants|make|judge [SEED [CASES]|marked|big]";
+const USAGE: &str = "courier self|mutants|mirror|make|judge [SEED [CASES]|marked|big]";
 
 /// The cases that a command is about.
 enum Asked {
@@ -100,6 +100,16 @@ fn mutants(seed: u64, count: usize) -> Counts {
     counts
 }
 
+/// Both programs on networks turned round.
+fn mirrored(seed: u64, count: usize) -> Counts {
+    let mut counts = Counts::default();
+    for index in (0..count as u64).filter(|&index| mirror::scenes(seed, index).is_some()) {
+        let wrong = mirror::differs(seed, index, &Quick(Sound)).or_else(|| if index % 4 == 0 { mirror::differs(seed, index, &Plain) } else { None });
+        counts.note(wrong.is_none(), || format!("{}", wrong.as_deref().unwrap_or("")));
+    }
+    counts
+}
+
 fn make(asked: &Asked) -> io::Result<()> {
     let mut out = io::BufWriter::new(io::stdout().lock());
     for case in cases(asked) {
@@ -135,6 +145,7 @@ fn main() {
     let done = match (word(0), &asked) {
         ("self", Some(asked)) => Ok(own(asked)),
         ("mutants", Some(Asked::Seed(seed, count))) => Ok(mutants(*seed, *count)),
+        ("mirror", Some(Asked::Seed(seed, count))) => Ok(mirrored(*seed, *count)),
         ("judge", Some(asked)) => judge(asked),
         ("make", Some(asked)) => make(asked).map(|()| exit(0)),
         _ => {
