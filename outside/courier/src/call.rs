@@ -75,16 +75,21 @@ impl Case {
     /// Makes the call on copies of the lent slices.
     pub fn by<P: Program>(&self, program: &P) -> Outcome {
         let mut after = self.before();
+        after.value = self.call_in(program, &mut after);
+        after
+    }
+
+    /// Makes the call in these buffers and tells what it returned.
+    pub fn call_in<P: Program>(&self, program: &P, after: &mut Outcome) -> u64 {
         let (tables, list) = (self.tables(), &self.list);
-        after.value = match self.kind {
+        match self.kind {
             Kind::List => program.list(tables, &mut after.list),
             Kind::Run => {
                 let lent = Lent { held: &mut after.held, settled: &mut after.settled };
                 program.run(tables, list, self.query, self.limit, lent, &mut after.answer).into()
             }
             Kind::Parts => program.parts(tables, list, self.query, &self.entries, &mut after.parts, &mut after.answer).into(),
-        };
-        after
+        }
     }
 
     /// Refusal and place; none where the answer slice is not filled.

@@ -1,11 +1,11 @@
 //! `courier self|mutants|mirror|make|judge [SEED [CASES]|marked|big]`: the courier's reach of RULES 27 judged from outside. `make` writes cases for the
-//! driver and `judge` reads what the library answered. `marked` are the cases with a told answer, `big` those at the limits of the tables.
-//! The last line is 'N passed, M failed'.
+//! driver and `judge` reads what the library answered. `marked` are the cases with a told answer, `big` those at the limits of the tables; with
+//! `only=list,run` these have the calls named alone. The last line is 'N passed, M failed'.
 
 use std::io::{self, Write};
 use std::process::exit;
 
-use courier::call::{Case, Outcome};
+use courier::call::{Case, Kind, Outcome};
 use courier::cases::{big, by_journeys, right, stream};
 use courier::plain::Plain;
 use courier::quick::Quick;
@@ -13,7 +13,7 @@ use courier::scenes::Bytes;
 use courier::wrong::{Sound, Wrong};
 use courier::{exchange, journeys, marked, mirror};
 
-const USAGE: &str = "courier self|mutants|mirror|make|judge [SEED [CASES]|marked|big]";
+const USAGE: &str = "courier self|mutants|mirror|make|judge [only=list|only=list,run] [SEED [CASES]|marked|big]";
 
 /// The cases that a command is about.
 enum Asked {
@@ -22,11 +22,13 @@ enum Asked {
     Seed(u64, usize),
 }
 
-fn cases(asked: &Asked) -> Box<dyn Iterator<Item = Case>> {
+/// Those of the kinds that are asked for.
+fn cases(asked: &Asked, kinds: &'static [Kind]) -> Box<dyn Iterator<Item = Case>> {
+    let own = move |case: &Case| kinds.contains(&case.kind);
     match *asked {
-        Asked::Marked => Box::new(marked::all().into_iter().map(|(_, case, _)| case)),
-        Asked::Big => Box::new(big().into_iter().map(|(case, _)| case)),
-        Asked::Seed(seed, count) => Box::new(stream(seed).take(count)),
+        Asked::Marked => Box::new(marked::all().into_iter().map(|(_, case, _)| case).filter(own)),
+        Asked::Big => Box::new(big().into_iter().map(|(case, _)| case).filter(own)),
+        Asked::Seed(seed, count) => Box::new(stream(seed).filter(own).take(count)),
     }
 }
 
@@ -110,19 +112,19 @@ fn mirrored(seed: u64, count: usize) -> Counts {
     counts
 }
 
-fn make(asked: &Asked) -> io::Result<()> {
+fn make(asked: &Asked, kinds: &'static [Kind]) -> io::Result<()> {
     let mut out = io::BufWriter::new(io::stdout().lock());
-    for case in cases(asked) {
+    for case in cases(asked, kinds) {
         exchange::put_case(&mut out, &case)?;
     }
     exchange::put_end(&mut out)?;
     out.flush()
 }
 
-fn judge(asked: &Asked) -> io::Result<Counts> {
+fn judge(asked: &Asked, kinds: &'static [Kind]) -> io::Result<Counts> {
     let mut from = io::BufReader::new(io::stdin().lock());
     let mut counts = Counts::default();
-    for case in cases(asked) {
+    for case in cases(asked, kinds) {
         let (got, stray) = exchange::get_outcome(&mut from, &case)?;
         counts.compare(&case, &right(&case), &got);
         if stray {
@@ -134,7 +136,16 @@ fn judge(asked: &Asked) -> io::Result<Counts> {
 }
 
 fn main() {
-    let words: Vec<String> = std::env::args().skip(1).collect();
+    let mut words: Vec<String> = std::env::args().skip(1).collect();
+    let kinds: &[Kind] = match words.iter().position(|word| word.starts_with("only=")).map(|at| words.remove(at)).as_deref() {
+        None => &[Kind::List, Kind::Run, Kind::Parts],
+        Some("only=list") => &[Kind::List],
+        Some("only=list,run") => &[Kind::List, Kind::Run],
+        Some(_) => {
+            eprintln!("{USAGE}");
+            exit(2);
+        }
+    };
     let word = |i: usize| words.get(i).map_or("", String::as_str);
     let number = |i: usize, otherwise: u64| words.get(i).map_or(Some(otherwise), |word| word.parse().ok());
     let asked = match word(1) {
@@ -146,8 +157,8 @@ fn main() {
         ("self", Some(asked)) => Ok(own(asked)),
         ("mutants", Some(Asked::Seed(seed, count))) => Ok(mutants(*seed, *count)),
         ("mirror", Some(Asked::Seed(seed, count))) => Ok(mirrored(*seed, *count)),
-        ("judge", Some(asked)) => judge(asked),
-        ("make", Some(asked)) => make(asked).map(|()| exit(0)),
+        ("judge", Some(asked)) => judge(asked, kinds),
+        ("make", Some(asked)) => make(asked, kinds).map(|()| exit(0)),
         _ => {
             eprintln!("{USAGE}");
             exit(2);
