@@ -3,6 +3,7 @@
 
 pub mod call;
 pub mod cases;
+pub mod definitions;
 pub mod exchange;
 pub mod journeys;
 pub mod marked;

@@ -11,7 +11,7 @@ use courier::plain::Plain;
 use courier::quick::Quick;
 use courier::scenes::Bytes;
 use courier::wrong::{Sound, Wrong};
-use courier::{exchange, journeys, marked, mirror};
+use courier::{definitions, exchange, journeys, marked, mirror};
 
 const USAGE: &str = "courier self|mutants|mirror|make|judge [only=list|only=list,run] [SEED [CASES]|marked|big]";
 
@@ -26,7 +26,10 @@ enum Asked {
 fn cases(asked: &Asked, kinds: &'static [Kind]) -> Box<dyn Iterator<Item = Case>> {
     let own = move |case: &Case| kinds.contains(&case.kind);
     match *asked {
-        Asked::Marked => Box::new(marked::all().into_iter().map(|(_, case, _)| case).filter(own)),
+        Asked::Marked => {
+            let rows = definitions::all(&Plain).into_iter().map(|(case, ..)| case);
+            Box::new(marked::all().into_iter().map(|(_, case, _)| case).chain(rows).filter(own))
+        }
         Asked::Big => Box::new(big().into_iter().map(|(case, _)| case).filter(own)),
         Asked::Seed(seed, count) => Box::new(stream(seed).filter(own).take(count)),
     }
@@ -66,6 +69,12 @@ fn own(asked: &Asked) -> Counts {
             for (name, case, told) in marked::all() {
                 for got in [case.by(&Quick(Sound)), case.by(&Plain)] {
                     counts.note(got == told, || format!("{name}\nexpected\n{told:?}\ngot\n{got:?}"));
+                }
+            }
+            for (i, (case, view, want)) in definitions::all(&Plain).into_iter().enumerate() {
+                for got in [case.by(&Quick(Sound)), case.by(&Plain)] {
+                    let got = view.of(&case, &got);
+                    counts.note(got == want, || format!("row {i} of the definitions\nexpected\n{want:?}\ngot\n{got:?}"));
                 }
             }
         }

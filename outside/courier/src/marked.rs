@@ -29,11 +29,12 @@ const RIGHT: [u32; 7] = [1, 0, 3, 2, 5, 6, 4];
 /// Along 4 to 3, at 300, leaving at 9:55 for ten minutes.
 const LEAVE: Query = Query { record: 4, offset: 300, arrival: 35_700, duration: 600, speed: 10 };
 
-fn words(numbers: &[u32]) -> Vec<u8> {
+pub fn words(numbers: &[u32]) -> Vec<u8> {
     numbers.iter().flat_map(|number| number.to_be_bytes()).collect()
 }
 
-fn case(kind: Kind, network: &Network, query: Query, limit: u32) -> Case {
+/// A call over the base job, with room for all.
+pub fn case(kind: Kind, network: &Network, query: Query, limit: u32) -> Case {
     let lent = |own: Kind, len: usize| if kind == own { vec![0xa5; len] } else { Vec::new() };
     let vertices = network.vertices.len();
     Case {
