@@ -1,6 +1,7 @@
 //! The cases of a seed, in groups of one network each, and the large ones.
 
 use outside::cases::damage;
+use outside::cases::hubs::full_row;
 use outside::network::{full_scene, Network, Plan, Scene};
 use outside::records::{Answer, Query, Settled, HELD, NONE, PART, SETTLED, VERTEX};
 use outside::rng::Rng;
@@ -54,11 +55,11 @@ impl Ground {
         }
     }
 
-    /// How many entries are held after each step.
-    fn held(&self) -> Vec<usize> {
+    /// How many entries are held after each of the first steps.
+    fn held(&self, steps: usize) -> Vec<usize> {
         let mut held = Vec::new();
         let mut rng = Rng::new(0, 0);
-        for limit in 0..=self.settled.len() as u32 {
+        for limit in 0..=self.settled.len().min(steps) as u32 {
             let case = Case { limit, ..self.case(Kind::Run, &mut rng) };
             held.push(Answer::read(&case.by(&Quick(Sound)).answer).held as usize);
         }
@@ -86,6 +87,9 @@ pub fn ground(seed: u64, index: u64) -> (Ground, Rng) {
 }
 
 fn group(seed: u64, index: u64) -> Vec<Case> {
+    if index % 61 == 60 {
+        return wide(&mut Rng::new(seed ^ 0x7769_6465, index));
+    }
     let (ground, mut rng) = ground(seed, index);
     let rng = &mut rng;
     match index % GROUPS {
@@ -119,7 +123,7 @@ fn rooms(ground: &Ground, rng: &mut Rng) -> Vec<Case> {
     if ground.settled.len() > 40 {
         return all;
     }
-    let held = ground.held();
+    let held = ground.held(ground.settled.len());
     for k in 0..=ground.settled.len() {
         let most = held[..=k].iter().max().copied().unwrap_or(0);
         for (h, s) in [(most, k), (most.saturating_sub(1), k), (most, k.saturating_sub(1)), (0, k), (most, 0), (held[k], k)] {
@@ -131,6 +135,42 @@ fn rooms(ground: &Ground, rng: &mut Rng) -> Vec<Case> {
     for room in 0..=ground.bytes.walks.len() / 16 + 2 {
         all.push(Case { parts: rng.bytes(PART * room), ..ground.case(Kind::Parts, rng) });
     }
+    all
+}
+
+/// A long row: some hundred neighbours of one vertex, anywhere among few or many numbers, several records to some, about D, beyond it and
+/// too early; records from elsewhere still lead to some. The first steps, in room exact, one more, one less, and with a slot for each vertex.
+fn wide(rng: &mut Rng) -> Vec<Case> {
+    let count = rng.pick(&[300, 600, 600, 600, 600, 20_000, 65_536]);
+    let (near, hub) = (rng.range(90, 290), rng.below(count));
+    let mut plan = Plan { vertices: count, ..Plan::default() };
+    plan.one_way((hub + 1) % count, hub, 1);
+    for _ in 0..near {
+        let to = rng.below(count);
+        for _ in 0..rng.pick(&[1, 1, 2, 3]) {
+            let (from, late) = (if rng.chance(80) { hub } else { rng.below(count) }, rng.range(-2, 62) as i32);
+            match rng.below(4) {
+                _ if from == to => {}
+                0 => plan.hop(from, to, 1_000 + late, 1_000 + late.max(0) + rng.pick(&[0, 1, 60, 61])),
+                1 => plan.one_way(from, to, rng.range(1, 600) as u32),
+                _ => plan.one_way(from, to, 600 + rng.pick(&[0, 1, 2, 300])),
+            }
+        }
+    }
+    let network = plan.build();
+    let record = network.walks.iter().position(|walk| walk.to as usize == hub && walk.length == 1).unwrap_or(0) as u32;
+    let query = Query { record, offset: 1, arrival: 1_000, duration: 60, speed: 10 };
+    let ground = Ground::new(Scene { network, query }, None);
+    let mut all = Vec::new();
+    let held = ground.held(4);
+    for k in 0..held.len() {
+        let most = held[..=k].iter().max().copied().unwrap_or(0);
+        for room in [most, most.saturating_sub(1), most + 1, held[k], count] {
+            all.push(Case { limit: k as u32, held: rng.bytes(HELD * room), ..ground.case(Kind::Run, rng) });
+        }
+    }
+    all.push(ground.case(Kind::Run, rng));
+    all.push(ground.case(Kind::Parts, rng));
     all
 }
 
@@ -356,6 +396,46 @@ pub fn big() -> Vec<(Case, (u32, u32))> {
     longer.list.extend([0; 4]);
     all.push((longer, (1, 6)));
     all.extend(hubs(&mut rng));
+    all.extend(rows(&mut rng));
+    all.extend(crowd(&mut rng));
+    all
+}
+
+/// A row of 65,534 records, a walk and a hop to every other vertex: what the walk offers is above D, the hop has left, or comes behind D,
+/// or for every other neighbour in time; or another record still leads to every other one. Room for what the step holds, and a slot less.
+fn rows(rng: &mut Rng) -> Vec<(Case, (u32, u32))> {
+    let mut all = Vec::new();
+    for (rides, stays) in [(false, false), (true, false), (false, true), (true, true)] {
+        let mut plan = Plan { vertices: 65_536, ..Plan::default() };
+        plan.one_way(65_534, 0, 1);
+        for (i, v) in (1..65_535).step_by(2).enumerate() {
+            plan.one_way(0, v, 601 + i as u32 % 500);
+            let (departure, arrival) = if rides && i % 4 == 0 { (1_000, 1_060) } else { [(999, 1_001), (1_001, 1_061)][i % 2] };
+            plan.hop(0, 65_534 - v, departure, arrival);
+            if stays && i % 4 == 1 {
+                plan.one_way(65_534, v, 7);
+            }
+        }
+        let network = plan.build();
+        let record = network.walks.iter().position(|walk| walk.to == 0).unwrap_or(0) as u32;
+        let query = Query { record, offset: 1, arrival: 1_000, duration: 60, speed: 10 };
+        let ground = Ground::new(Scene { network, query }, None);
+        let room = ground.held(1).iter().max().copied().unwrap_or(0);
+        for (less, told) in [(0, (0, 0)), (1, (8, u32::from(room > 1)))] {
+            all.push((Case { limit: 1, held: rng.bytes(HELD * (room - less)), ..ground.case(Kind::Run, rng) }, told));
+        }
+        all.push((ground.case(Kind::Run, rng), (0, 0)));
+        all.push((ground.case(Kind::Parts, rng), (0, 0)));
+    }
+    all
+}
+
+/// As many records as there can be lead to one vertex, more than a departing count can tell: they remain there.
+fn crowd(rng: &mut Rng) -> Vec<(Case, (u32, u32))> {
+    let ground = Ground::new(full_row(), None);
+    let at = |limit: u32, rng: &mut Rng| (Case { limit, ..ground.case(Kind::Run, rng) }, (0, 0));
+    let mut all = vec![at(0, rng), at(1, rng), at(2, rng), at(NONE, rng)];
+    all.push((ground.case(Kind::List, rng), (0, 0)));
     all
 }
 
