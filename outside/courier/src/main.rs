@@ -13,7 +13,7 @@ use courier::scenes::Bytes;
 use courier::wrong::{Sound, Wrong};
 use courier::{definitions, exchange, journeys, marked, mirror};
 
-const USAGE: &str = "courier self|mutants|mirror|make|judge [only=list|only=list,run] [SEED [CASES]|marked|big]";
+const USAGE: &str = "courier self|mutants|mirror|make|judge [only=list|only=list,run|only=list,parts] [SEED [CASES]|marked|big]";
 
 /// The cases that a command is about.
 enum Asked {
@@ -150,6 +150,7 @@ fn main() {
         None => &[Kind::List, Kind::Run, Kind::Parts],
         Some("only=list") => &[Kind::List],
         Some("only=list,run") => &[Kind::List, Kind::Run],
+        Some("only=list,parts") => &[Kind::List, Kind::Parts],
         Some(_) => {
             eprintln!("{USAGE}");
             exit(2);
