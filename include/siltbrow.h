@@ -347,6 +347,18 @@
  * of one number the lowest line is given. Refusal 1 changes no byte of the
  * target, the others leave it zero.
  *
+ * siltbrow_courier_list makes the list of record numbers that a courier's calls
+ * go by. It is made once for the tables and kept beside them.
+ *
+ *   list, 4 bytes a number, big-endian: the records of both tables, walks
+ *         numbered first, then hops, so that hop h has the number of walks
+ *         plus h; ordered by "from", then by number
+ *         (SILTBROW_COURIER_LIST_BYTES)
+ *
+ * It returns refusal * 2^32 + place: 1 to 6 as in the check, and 1 also where
+ * the list is not exactly 4 bytes for each record (place: 6, behind 0 to 2). A
+ * refusal changes no byte of the list.
+ *
  * Until it returns, a call uses its buffers, its target and its answer alone:
  * they overlap neither one another nor what the call reads.
  *
@@ -386,6 +398,7 @@
 /* The second number moves where a call changes, the third where only the
  * inside does; the first becomes 1 when all calls are there.
  *
+ * 0.12: siltbrow_courier_list is new.
  * 0.11: siltbrow_timetable is new, and with it refusals 12 to 17 and 29.
  * 0.10: siltbrow_patients is new, and with it refusals 19 and 20.
  * 0.9: siltbrow_runs is new.
@@ -408,9 +421,9 @@
  *      refusal 10 is gone from it; siltbrow_parts makes the parts. A page that
  *      shows streets calls it with the records that the run has settled.
  * 0.2: siltbrow_frame is new. */
-#define SILTBROW_VERSION "0.11.0"
+#define SILTBROW_VERSION "0.12.0"
 #define SILTBROW_VERSION_MAJOR 0
-#define SILTBROW_VERSION_MINOR 11
+#define SILTBROW_VERSION_MINOR 12
 #define SILTBROW_VERSION_PATCH 0
 
 #ifdef __cplusplus
@@ -483,10 +496,16 @@ uint32_t siltbrow_timetable(const uint8_t *stop_times, size_t stop_times_len,
                             uint8_t *hops, size_t hops_len,
                             uint8_t *answer, size_t answer_len);
 
+uint64_t siltbrow_courier_list(const uint8_t *vertices, size_t vertices_len,
+                               const uint8_t *walks, size_t walks_len,
+                               const uint8_t *hops, size_t hops_len, uint32_t hop_size,
+                               uint8_t *list, size_t list_len);
+
 /* The bytes of each record, of an entry of siltbrow_judge, of a query of
  * siltbrow_runs, of a count of patients or a figure of their report, of a point
- * of the coordinate table, of the answer of a run, a frame or an evening, of
- * that of siltbrow_parts, and of that of siltbrow_timetable. */
+ * of the coordinate table, of a number of the courier's list, of the answer of
+ * a run, a frame or an evening, of that of siltbrow_parts, and of that of
+ * siltbrow_timetable. */
 #define SILTBROW_VERTEX_SIZE 12u
 #define SILTBROW_WALK_SIZE 16u
 #define SILTBROW_HOP_SIZE 16u
@@ -498,6 +517,7 @@ uint32_t siltbrow_timetable(const uint8_t *stop_times, size_t stop_times_len,
 #define SILTBROW_QUERY_SIZE 24u
 #define SILTBROW_FIGURE_SIZE 4u
 #define SILTBROW_POINT_SIZE 8u
+#define SILTBROW_NUMBER_SIZE 4u
 #define SILTBROW_ANSWER_SIZE 24u
 #define SILTBROW_PARTS_ANSWER_SIZE 12u
 #define SILTBROW_TIMETABLE_ANSWER_SIZE 12u
@@ -530,7 +550,8 @@ uint32_t siltbrow_timetable(const uint8_t *stop_times, size_t stop_times_len,
 /* The refusals: 1 to 6 of the check; 1 to 9 of a run, one or many; 1 to 7, 21 and 10 of
  * parts; 1, 21, 23 and 24 of a frame; 1 of a move, and 11 where it goes
  * backward; 1 to 7 and 25 to 28 of siltbrow_judge; 1 to 7, 19, 20, 8 and 9 of
- * siltbrow_patients; 1, 29 and 12 to 17 of siltbrow_timetable. */
+ * siltbrow_patients; 1, 29 and 12 to 17 of siltbrow_timetable; 1 to 6 of
+ * siltbrow_courier_list. */
 #define SILTBROW_ACCEPTED 0u
 #define SILTBROW_BAD_LENGTH 1u
 #define SILTBROW_BAD_WALK 2u
@@ -573,6 +594,11 @@ uint32_t siltbrow_timetable(const uint8_t *stop_times, size_t stop_times_len,
  * the number of arrivals. */
 #define SILTBROW_REPORT_BYTES(vertices_len, arrivals) \
     (((vertices_len) / SILTBROW_VERTEX_SIZE + (arrivals) + 1u) * SILTBROW_FIGURE_SIZE)
+
+/* The bytes of the courier's list, from those of the tables and the size of a
+ * hop, which is not 0. */
+#define SILTBROW_COURIER_LIST_BYTES(walks_len, hops_len, hop_size) \
+    (((walks_len) / SILTBROW_WALK_SIZE + (hops_len) / (hop_size)) * SILTBROW_NUMBER_SIZE)
 
 /* The bytes of the target of a move, from those of its source. */
 #define SILTBROW_FORWARD_BYTES(source_len) ((source_len) / SILTBROW_HOP_SIZE * SILTBROW_HOP_WITH_TRIP_SIZE)
@@ -761,7 +787,8 @@ static inline void siltbrow_put_query(uint8_t *at, uint32_t record, uint32_t off
     siltbrow_put(at + 20, limit);
 }
 
-/* Refusal and place in what siltbrow_check, siltbrow_judge or a move returns. */
+/* Refusal and place in what siltbrow_check, siltbrow_judge,
+ * siltbrow_courier_list or a move returns. */
 static inline uint32_t siltbrow_check_refusal(uint64_t checked)
 {
     return (uint32_t)(checked >> 32);
@@ -812,7 +839,7 @@ static inline const char *siltbrow_refusal_text(uint32_t refusal)
 static inline const char *siltbrow_place_text(uint32_t refusal)
 {
     switch (refusal) {
-    case SILTBROW_BAD_LENGTH: return "slice: 0 vertices, 1 walks, 2 hops, 3 held, 4 settled or list, 5 parts, 6 coordinates, target or patients, 7 report";
+    case SILTBROW_BAD_LENGTH: return "slice: 0 vertices, 1 walks, 2 hops, 3 held, 4 settled or list, 5 parts, 6 coordinates, target, patients or courier's list, 7 report";
     case SILTBROW_BAD_WALK:
     case SILTBROW_WALK_ORDER: return "walk record";
     case SILTBROW_BAD_HOP:

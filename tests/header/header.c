@@ -479,6 +479,32 @@ static void timetable_test(void)
     count(siltbrow_timetable(NULL, 0, NULL, 0, NULL, 0, NULL, 0, bytes, sizeof bytes - 1) == 1 && bytes[0] == 7, "a timetable's answer that is too short");
 }
 
+/* The courier's list of the four records: walk 1 and both hops leave vertex 0, walk 0 leaves vertex 1. */
+static uint8_t numbers[SILTBROW_COURIER_LIST_BYTES(sizeof walks, sizeof hops, SILTBROW_HOP_SIZE)];
+
+static void listed(size_t v, size_t len, uint32_t refusal, uint32_t place, const char *what)
+{
+    memset(numbers, 9, sizeof numbers);
+    uint64_t answer = siltbrow_courier_list(vertices, v, walks, sizeof walks, hops, sizeof hops, SILTBROW_HOP_SIZE, numbers, len);
+    count(siltbrow_check_refusal(answer) == refusal && siltbrow_check_place(answer) == place, what);
+    count(refusal == SILTBROW_ACCEPTED || (numbers[0] == 9 && numbers[sizeof numbers - 1] == 9), "a list that is refused stays");
+}
+
+static void courier_list_test(void)
+{
+    size_t v = sizeof vertices, n = sizeof numbers;
+    fill();
+    count(n == 4 * SILTBROW_NUMBER_SIZE, "a number for each record");
+    listed(v, n - 1, SILTBROW_BAD_LENGTH, 6, "a cut number");
+    listed(v, n - SILTBROW_NUMBER_SIZE, SILTBROW_BAD_LENGTH, 6, "a number less");
+    listed(v - 1, n - 1, SILTBROW_BAD_LENGTH, 0, "a cut vertex before it");
+    siltbrow_put(vertices + 8, 2u << 16);
+    listed(v, n, SILTBROW_BAD_VERTEX, 0, "a departing count");
+    fill();
+    listed(v, n, SILTBROW_ACCEPTED, 0, "the list");
+    count(siltbrow_get(numbers) == 1 && siltbrow_get(numbers + 4) == 2 && siltbrow_get(numbers + 8) == 3 && siltbrow_get(numbers + 12) == 0, "its numbers");
+}
+
 static void text_test(void)
 {
     static const uint32_t refusals[] = {0, 1, 2, 3, 4, 5, 6, 7, 8, 9, 10, SILTBROW_KNOWN_TRIP, 12, 13, 14, 15, 16, 17, SILTBROW_TOO_MANY_PATIENTS, SILTBROW_BAD_EVENING, SILTBROW_BAD_ENTRY, SILTBROW_BAD_POINT, SILTBROW_EMPTY_LIST, 25, 26, 27, 28, SILTBROW_BAD_ID_LINE, 99};
@@ -508,6 +534,7 @@ int main(void)
     move_test();
     frame_test();
     timetable_test();
+    courier_list_test();
     text_test();
     printf("%u passed, %u failed\n", passed, failed);
     return failed != 0;
