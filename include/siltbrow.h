@@ -1,4 +1,5 @@
-/* Siltbrow: the incoming isochrone of a walking network with scheduled rides.
+/* Siltbrow: the incoming isochrone of a walking network with scheduled rides,
+ * and the outgoing one of a courier.
  *
  * docs/RULES.md has the rules in full, by number.
  *
@@ -359,6 +360,34 @@
  * the list is not exactly 4 bytes for each record (place: 6, behind 0 to 2). A
  * refusal changes no byte of the list.
  *
+ * siltbrow_courier answers which vertices a courier reaches from the query
+ * place: it is siltbrow_run in the other direction. Record, offset, duration,
+ * speed and limit are those of siltbrow_run; "departure" is when he leaves the
+ * place, 0 to 172,800, and distances are in ticks after that. The list of
+ * record numbers is read, and judged each time.
+ *
+ * He leaves along the query's walk to its "to", and along its twin, if any, to
+ * its "from"; where the offset is the length he is at "to" already, and where
+ * it is 0 at "from", twin or none. A walk takes its length and then its wait,
+ * from wherever on it he comes. A hop is boarded by who is at its "from" as it
+ * departs, or before.
+ *
+ *   held,    16 bytes: as of siltbrow_run, but remaining is how many of the
+ *                      records that arrive at the vertex do not come from a
+ *                      settled one
+ *   settled, answer, what is returned: as of siltbrow_run
+ *
+ *   refusals 1 to 6: as in siltbrow_run; and 1 also where the list is not
+ *               exactly 4 bytes for each record (place: 6, behind the others)
+ *   refusal 22: the list is not that of the tables (place: the first number
+ *               that differs, counted from 0)
+ *   refusal 7:  the query (place: 0 record, 1 offset, 2 departure, 3 duration,
+ *               4 speed)
+ *   refusals 8 and 9: as in siltbrow_run
+ *
+ * They are judged in this order, so that 22 comes before 7. Refusals 1 to 7 and
+ * 22 change no byte of the two lent buffers; 8 and 9 leave both zero.
+ *
  * Until it returns, a call uses its buffers, its target and its answer alone:
  * they overlap neither one another nor what the call reads.
  *
@@ -368,7 +397,8 @@
  *   and so do siltbrow_parts and siltbrow_judge. At the full size of 65,536
  *   vertices and 9.2 MB that is some 5 to 20 ms, more than the search of a short
  *   query. siltbrow_runs checks them once for all its queries, and
- *   siltbrow_patients once for all its arrivals. docs/BENCH.md has the times.
+ *   siltbrow_patients once for all its arrivals. The courier's calls check them
+ *   too, and then the list. docs/BENCH.md has the times.
  * - Vertices that lie near one another should have near numbers: what a call
  *   reads then lies together.
  * - Every lent buffer is written whole, with zero behind the records. A buffer
@@ -398,7 +428,8 @@
 /* The second number moves where a call changes, the third where only the
  * inside does; the first becomes 1 when all calls are there.
  *
- * 0.12: siltbrow_courier_list is new.
+ * 0.12: siltbrow_courier_list and siltbrow_courier are new, and with them refusal
+ *      22.
  * 0.11: siltbrow_timetable is new, and with it refusals 12 to 17 and 29.
  * 0.10: siltbrow_patients is new, and with it refusals 19 and 20.
  * 0.9: siltbrow_runs is new.
@@ -501,6 +532,16 @@ uint64_t siltbrow_courier_list(const uint8_t *vertices, size_t vertices_len,
                                const uint8_t *hops, size_t hops_len, uint32_t hop_size,
                                uint8_t *list, size_t list_len);
 
+uint32_t siltbrow_courier(const uint8_t *vertices, size_t vertices_len,
+                          const uint8_t *walks, size_t walks_len,
+                          const uint8_t *hops, size_t hops_len, uint32_t hop_size,
+                          const uint8_t *list, size_t list_len,
+                          uint32_t record, uint32_t offset, int32_t departure,
+                          uint32_t duration, uint32_t speed, uint32_t limit,
+                          uint8_t *held, size_t held_len,
+                          uint8_t *settled, size_t settled_len,
+                          uint8_t *answer, size_t answer_len);
+
 /* The bytes of each record, of an entry of siltbrow_judge, of a query of
  * siltbrow_runs, of a count of patients or a figure of their report, of a point
  * of the coordinate table, of a number of the courier's list, of the answer of
@@ -551,7 +592,7 @@ uint64_t siltbrow_courier_list(const uint8_t *vertices, size_t vertices_len,
  * parts; 1, 21, 23 and 24 of a frame; 1 of a move, and 11 where it goes
  * backward; 1 to 7 and 25 to 28 of siltbrow_judge; 1 to 7, 19, 20, 8 and 9 of
  * siltbrow_patients; 1, 29 and 12 to 17 of siltbrow_timetable; 1 to 6 of
- * siltbrow_courier_list. */
+ * siltbrow_courier_list, and 1 to 6, 22, 7, 8 and 9 of siltbrow_courier. */
 #define SILTBROW_ACCEPTED 0u
 #define SILTBROW_BAD_LENGTH 1u
 #define SILTBROW_BAD_WALK 2u
@@ -573,6 +614,7 @@ uint64_t siltbrow_courier_list(const uint8_t *vertices, size_t vertices_len,
 #define SILTBROW_TOO_MANY_PATIENTS 19u
 #define SILTBROW_BAD_EVENING 20u
 #define SILTBROW_BAD_ENTRY 21u
+#define SILTBROW_OTHER_LIST 22u
 #define SILTBROW_BAD_POINT 23u
 #define SILTBROW_EMPTY_LIST 24u
 #define SILTBROW_LISTED_VERTEX 25u
@@ -610,7 +652,7 @@ uint64_t siltbrow_courier_list(const uint8_t *vertices, size_t vertices_len,
 #define SILTBROW_SETTLED_BYTES(vertices_len) ((vertices_len) / SILTBROW_VERTEX_SIZE * SILTBROW_SETTLED_SIZE)
 #define SILTBROW_PART_BYTES(walks_len) (((walks_len) / SILTBROW_WALK_SIZE + 2u) * SILTBROW_PART_SIZE)
 
-/* The answer of a run; "parts" is 0. */
+/* The answer of a run, or of a courier's; "parts" is 0. */
 typedef struct siltbrow_answer {
     uint32_t refusal;
     uint32_t place;
@@ -824,6 +866,7 @@ static inline const char *siltbrow_refusal_text(uint32_t refusal)
     case SILTBROW_TOO_MANY_PATIENTS: return "a vertex has more than 65,535 patients";
     case SILTBROW_BAD_EVENING: return "the gap, the number of arrivals or the last arrival is outside its limits";
     case SILTBROW_BAD_ENTRY: return "an entry of the list names no vertex, one that an earlier entry has or, for parts, a distance above the duration";
+    case SILTBROW_OTHER_LIST: return "the courier's list is not that of the tables";
     case SILTBROW_BAD_POINT: return "a coordinate is not finite";
     case SILTBROW_EMPTY_LIST: return "the list is empty";
     case SILTBROW_LISTED_VERTEX: return "an entry of a bought list names no vertex, or one that an earlier entry has";
@@ -846,7 +889,7 @@ static inline const char *siltbrow_place_text(uint32_t refusal)
     case SILTBROW_HOP_ORDER:
     case SILTBROW_KNOWN_TRIP: return "hop record";
     case SILTBROW_BAD_VERTEX: return "vertex record";
-    case SILTBROW_BAD_QUERY: return "field: 0 record, 1 offset, 2 arrival, 3 duration, 4 speed";
+    case SILTBROW_BAD_QUERY: return "field: 0 record, 1 offset, 2 arrival or departure, 3 duration, 4 speed";
     case SILTBROW_HELD_ROOM:
     case SILTBROW_SETTLED_ROOM: return "step";
     case SILTBROW_PART_ROOM: return "step: 0 at the query place, otherwise the entry of the list plus 1";
@@ -854,6 +897,7 @@ static inline const char *siltbrow_place_text(uint32_t refusal)
     case SILTBROW_LISTED_VERTEX:
     case SILTBROW_LISTED_DISTANCE:
     case SILTBROW_LISTED_RECORD: return "entry of the list";
+    case SILTBROW_OTHER_LIST: return "number of the list";
     case SILTBROW_BETTER_OFFER: return "record, hops behind the walks; 4294967294 the query walk's \"from\", 4294967295 its \"to\"";
     case SILTBROW_BAD_EVENING: return "field: 0 gap, 1 number of arrivals, 2 last arrival";
     case SILTBROW_TOO_MANY_PATIENTS:

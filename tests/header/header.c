@@ -505,9 +505,41 @@ static void courier_list_test(void)
     count(siltbrow_get(numbers) == 1 && siltbrow_get(numbers + 4) == 2 && siltbrow_get(numbers + 8) == 3 && siltbrow_get(numbers + 12) == 0, "its numbers");
 }
 
+static siltbrow_answer carry(uint32_t record, int32_t departure, size_t held_len, size_t list_len)
+{
+    uint8_t bytes[SILTBROW_ANSWER_SIZE];
+    count(siltbrow_courier(vertices, sizeof vertices, walks, sizeof walks, hops, sizeof hops, SILTBROW_HOP_SIZE, numbers, list_len, record, 300, departure, 200, 10,
+                           SILTBROW_NO_LIMIT, held, held_len, settled, sizeof settled, bytes, sizeof bytes) == 0, "a courier");
+    return siltbrow_read_answer(bytes);
+}
+
+/* The road is 1,000 long with 30 and 7 seconds of wait, the place 300 from vertex 1 on the way to 0, and D is 2,000. */
+static void courier_test(void)
+{
+    size_t h = sizeof held, n = sizeof numbers;
+    siltbrow_put_length(walks, 1000, 30);
+    siltbrow_put_length(walks + SILTBROW_WALK_SIZE, 1000, 7);
+    siltbrow_answer all = carry(0, 36000, h, n);
+    count(all.refusal == SILTBROW_ACCEPTED && all.settled == 2 && all.parts == 0 && all.held == 0 && all.finished == 1, "where the courier comes");
+    count(siltbrow_get(settled) == 1 && siltbrow_get(settled + 4) == 370 && siltbrow_get(settled + 8) == 0 && siltbrow_get(settled + 12) == 1000, "when he comes there");
+    refused(carry(0, 36000, h, n - 1), SILTBROW_BAD_LENGTH, 6, "a cut list");
+    refused(carry(0, 36000, h - 1, n - 1), SILTBROW_BAD_LENGTH, 3, "a cut held record before it");
+    refused(carry(2, 36000, h, n), SILTBROW_BAD_QUERY, 0, "no such walk");
+    refused(carry(0, SILTBROW_MAX_TIME + 1, h, n), SILTBROW_BAD_QUERY, 2, "a departure that is too late");
+    refused(carry(0, 36000, SILTBROW_HELD_SIZE, n), SILTBROW_HELD_ROOM, 0, "no room for both ends");
+    siltbrow_put(numbers + 4, 3);
+    siltbrow_put(numbers + 8, 2);
+    refused(carry(2, 36000, h, n), SILTBROW_OTHER_LIST, 1, "a list that is not that of the tables, before the query");
+    siltbrow_put(numbers + 4, 2);
+    siltbrow_put(numbers + 8, 3);
+    count(siltbrow_courier(vertices, sizeof vertices, walks, sizeof walks, hops, sizeof hops, SILTBROW_HOP_SIZE, numbers, n, 0, 300, 36000, 200, 10,
+                           SILTBROW_NO_LIMIT, held, h, settled, sizeof settled, NULL, 0) == 1, "a courier's answer that is too short");
+    fill();
+}
+
 static void text_test(void)
 {
-    static const uint32_t refusals[] = {0, 1, 2, 3, 4, 5, 6, 7, 8, 9, 10, SILTBROW_KNOWN_TRIP, 12, 13, 14, 15, 16, 17, SILTBROW_TOO_MANY_PATIENTS, SILTBROW_BAD_EVENING, SILTBROW_BAD_ENTRY, SILTBROW_BAD_POINT, SILTBROW_EMPTY_LIST, 25, 26, 27, 28, SILTBROW_BAD_ID_LINE, 99};
+    static const uint32_t refusals[] = {0, 1, 2, 3, 4, 5, 6, 7, 8, 9, 10, SILTBROW_KNOWN_TRIP, 12, 13, 14, 15, 16, 17, SILTBROW_TOO_MANY_PATIENTS, SILTBROW_BAD_EVENING, SILTBROW_BAD_ENTRY, SILTBROW_OTHER_LIST, SILTBROW_BAD_POINT, SILTBROW_EMPTY_LIST, 25, 26, 27, 28, SILTBROW_BAD_ID_LINE, 99};
     char version[32];
     for (size_t a = 0; a < sizeof refusals / sizeof *refusals; a++)
         for (size_t b = 0; b < a; b++)
@@ -535,6 +567,7 @@ int main(void)
     frame_test();
     timetable_test();
     courier_list_test();
+    courier_test();
     text_test();
     printf("%u passed, %u failed\n", passed, failed);
     return failed != 0;
