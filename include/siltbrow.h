@@ -388,6 +388,30 @@
  * They are judged in this order, so that 22 comes before 7. Refusals 1 to 7 and
  * 22 change no byte of the two lent buffers; 8 and 9 leave both zero.
  *
+ * siltbrow_courier_parts tells which parts of the walks the courier covers, from
+ * a list of settled vertices, as siltbrow_parts does. The tables, the list of
+ * record numbers and the query are those of siltbrow_courier, "settled_list" is
+ * 8 bytes times its settled count (SILTBROW_LIST_BYTES).
+ *
+ *   parts, 12 bytes a record: walk record, start, end; first those that begin
+ *          at the query place (step 0), on its walk and then on the twin; then
+ *          for each entry those of the walks that leave its vertex, from their
+ *          start to where the time or the walk ends, on the query's walk and
+ *          its twin no further than the place. A part that reaches the length
+ *          need not have passed the wait. What is left of the buffer is zero.
+ *   answer, what is returned: as of siltbrow_parts
+ *
+ * Two parts more than there are walks are always enough.
+ *
+ *   refusals 1 to 6: as in siltbrow_parts; and 1 also where the list of record
+ *               numbers is not exactly 4 bytes for each record (place: 6,
+ *               behind the others)
+ *   refusals 22 and 7: as in siltbrow_courier
+ *   refusals 21 and 10: as in siltbrow_parts
+ *
+ * They are judged in this order. Refusals 1 to 7, 21 and 22 change no byte of
+ * the part buffer; 10 leaves it zero.
+ *
  * Until it returns, a call uses its buffers, its target and its answer alone:
  * they overlap neither one another nor what the call reads.
  *
@@ -428,8 +452,8 @@
 /* The second number moves where a call changes, the third where only the
  * inside does; the first becomes 1 when all calls are there.
  *
- * 0.12: siltbrow_courier_list and siltbrow_courier are new, and with them refusal
- *      22.
+ * 0.12: siltbrow_courier_list, siltbrow_courier and siltbrow_courier_parts are
+ *      new, and with them refusal 22.
  * 0.11: siltbrow_timetable is new, and with it refusals 12 to 17 and 29.
  * 0.10: siltbrow_patients is new, and with it refusals 19 and 20.
  * 0.9: siltbrow_runs is new.
@@ -542,10 +566,20 @@ uint32_t siltbrow_courier(const uint8_t *vertices, size_t vertices_len,
                           uint8_t *settled, size_t settled_len,
                           uint8_t *answer, size_t answer_len);
 
+uint32_t siltbrow_courier_parts(const uint8_t *vertices, size_t vertices_len,
+                                const uint8_t *walks, size_t walks_len,
+                                const uint8_t *hops, size_t hops_len, uint32_t hop_size,
+                                const uint8_t *list, size_t list_len,
+                                uint32_t record, uint32_t offset, int32_t departure,
+                                uint32_t duration, uint32_t speed,
+                                const uint8_t *settled_list, size_t settled_list_len,
+                                uint8_t *parts, size_t parts_len,
+                                uint8_t *answer, size_t answer_len);
+
 /* The bytes of each record, of an entry of siltbrow_judge, of a query of
  * siltbrow_runs, of a count of patients or a figure of their report, of a point
  * of the coordinate table, of a number of the courier's list, of the answer of
- * a run, a frame or an evening, of that of siltbrow_parts, and of that of
+ * a run, a frame or an evening, of that of parts, and of that of
  * siltbrow_timetable. */
 #define SILTBROW_VERTEX_SIZE 12u
 #define SILTBROW_WALK_SIZE 16u
@@ -592,7 +626,8 @@ uint32_t siltbrow_courier(const uint8_t *vertices, size_t vertices_len,
  * parts; 1, 21, 23 and 24 of a frame; 1 of a move, and 11 where it goes
  * backward; 1 to 7 and 25 to 28 of siltbrow_judge; 1 to 7, 19, 20, 8 and 9 of
  * siltbrow_patients; 1, 29 and 12 to 17 of siltbrow_timetable; 1 to 6 of
- * siltbrow_courier_list, and 1 to 6, 22, 7, 8 and 9 of siltbrow_courier. */
+ * siltbrow_courier_list, 1 to 6, 22, 7, 8 and 9 of siltbrow_courier, 1 to 6, 22,
+ * 7, 21 and 10 of siltbrow_courier_parts. */
 #define SILTBROW_ACCEPTED 0u
 #define SILTBROW_BAD_LENGTH 1u
 #define SILTBROW_BAD_WALK 2u
@@ -623,8 +658,8 @@ uint32_t siltbrow_courier(const uint8_t *vertices, size_t vertices_len,
 #define SILTBROW_BETTER_OFFER 28u
 #define SILTBROW_BAD_ID_LINE 29u
 
-/* The bytes of a list, from the settled count of a run: what siltbrow_parts and
- * siltbrow_frame are given of the settled buffer. */
+/* The bytes of a list, from the settled count of a run: what siltbrow_parts,
+ * siltbrow_courier_parts and siltbrow_frame are given of the settled buffer. */
 #define SILTBROW_LIST_BYTES(settled) ((size_t)(settled) * SILTBROW_SETTLED_SIZE)
 
 /* The bytes of a share of siltbrow_runs, from those of the settled buffer and
@@ -662,7 +697,7 @@ typedef struct siltbrow_answer {
     uint32_t finished;
 } siltbrow_answer;
 
-/* The answer of siltbrow_parts. */
+/* The answer of siltbrow_parts or siltbrow_courier_parts. */
 typedef struct siltbrow_parts_answer {
     uint32_t refusal;
     uint32_t place;

@@ -7,9 +7,10 @@
 #define MOST_SLICES 8
 #include "slices.h"
 
-enum { LIST_MADE = 1, RUN = 2 };
+enum { LIST_MADE = 1, RUN = 2, PARTS_OF = 3 };
 
-enum { VERTICES, WALKS, HOPS, LIST, HELD, SETTLED, ANSWER, SLICES };
+/* A run has held and settled, parts have entries and parts. */
+enum { VERTICES, WALKS, HOPS, LIST, HELD, SETTLED, ANSWER, SLICES, ENTRIES = HELD, PARTS = SETTLED };
 
 #define LENT(i) s[i].bytes, s[i].len
 #define TABLES LENT(VERTICES), LENT(WALKS), LENT(HOPS), hop_size
@@ -28,17 +29,18 @@ static void do_case(int kind, int null)
         q[i] = read_number();
     memcpy(&departure, &q[2], sizeof departure);
     for (int i = HELD; kind != LIST_MADE && i <= ANSWER; i++)
-        s[i] = read_slice(null, i, 0);
+        s[i] = read_slice(null, i, kind == PARTS_OF && i == ENTRIES);
     switch (kind) {
     case LIST_MADE: value = siltbrow_courier_list(TABLES, LENT(LIST)); break;
     case RUN: value = siltbrow_courier(TABLES, LENT(LIST), QUERY, q[5], LENT(HELD), LENT(SETTLED), LENT(ANSWER)); break;
+    case PARTS_OF: value = siltbrow_courier_parts(TABLES, LENT(LIST), QUERY, LENT(ENTRIES), LENT(PARTS), LENT(ANSWER)); break;
     default: fail("no such kind of case");
     }
     write_number((uint64_t)kind, 1);
     write_number(value, 8);
     if (kind == LIST_MADE)
         write_slice(&s[LIST]);
-    for (int i = HELD; kind != LIST_MADE && i <= ANSWER; i++)
+    for (int i = kind == RUN ? HELD : PARTS; kind != LIST_MADE && i <= ANSWER; i++)
         write_slice(&s[i]);
     write_number(close_slices(s, SLICES) != 0, 1);
 }

@@ -534,6 +534,34 @@ static void courier_test(void)
     siltbrow_put(numbers + 8, 3);
     count(siltbrow_courier(vertices, sizeof vertices, walks, sizeof walks, hops, sizeof hops, SILTBROW_HOP_SIZE, numbers, n, 0, 300, 36000, 200, 10,
                            SILTBROW_NO_LIMIT, held, h, settled, sizeof settled, NULL, 0) == 1, "a courier's answer that is too short");
+}
+
+static siltbrow_parts_answer carried(size_t numbers_len, size_t list_len, size_t parts_len)
+{
+    uint8_t bytes[SILTBROW_PARTS_ANSWER_SIZE];
+    memset(parts, 7, sizeof parts);
+    count(siltbrow_courier_parts(vertices, sizeof vertices, walks, sizeof walks, hops, sizeof hops, SILTBROW_HOP_SIZE, numbers, numbers_len, 0, 300, 36000, 200, 10,
+                                 settled, list_len, parts, parts_len, bytes, sizeof bytes) == 0, "a courier's parts");
+    return siltbrow_read_parts(bytes);
+}
+
+/* The same place, from the list that the courier's run has left. */
+static void courier_parts_test(void)
+{
+    size_t n = sizeof numbers, p = sizeof parts, l = SILTBROW_LIST_BYTES(carry(0, 36000, sizeof held, n).settled);
+    siltbrow_parts_answer covered = carried(n, l, p);
+    count(covered.refusal == SILTBROW_ACCEPTED && covered.place == 0 && covered.parts == 4, "his parts");
+    count(siltbrow_get(parts) == 0 && siltbrow_get(parts + 4) == 300 && siltbrow_get(parts + 8) == 1000, "the first begins at the place");
+    count(siltbrow_get(parts + 24) == 0 && siltbrow_get(parts + 28) == 0 && siltbrow_get(parts + 32) == 300, "the third ends there");
+    covered = carried(n - 1, l, p);
+    count(covered.refusal == SILTBROW_BAD_LENGTH && covered.place == 6 && parts_are(7), "parts of a cut list");
+    covered = carried(n, l - 1, p - 1);
+    count(covered.refusal == SILTBROW_BAD_LENGTH && covered.place == 4 && parts_are(7), "parts of a cut entry");
+    covered = carried(n, l, 3 * SILTBROW_PART_SIZE);
+    count(covered.refusal == SILTBROW_PART_ROOM && covered.place == 2 && parts[0] == 0, "no room for his last part");
+    siltbrow_put(settled, 2);
+    covered = carried(n, l, 0);
+    count(covered.refusal == SILTBROW_BAD_ENTRY && covered.place == 0, "no such vertex");
     fill();
 }
 
@@ -568,6 +596,7 @@ int main(void)
     timetable_test();
     courier_list_test();
     courier_test();
+    courier_parts_test();
     text_test();
     printf("%u passed, %u failed\n", passed, failed);
     return failed != 0;
