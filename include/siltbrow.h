@@ -10,7 +10,7 @@
  * Below the calls stand names for the numbers used here, and a few inline
  * functions for the bytes. examples/streets.c is one query, examples/server.c
  * answers many at once from threads, examples/timetable.c begins with an
- * operator's timetable.
+ * operator's timetable, examples/courier.c sends a courier out.
  *
  * The tables are big-endian records of fixed size with no header, numbered
  * from 0. Times are signed seconds from midnight of the service day; all other
