@@ -1,4 +1,5 @@
-/* Siltbrow: the incoming isochrone of a walking network with scheduled rides.
+/* Siltbrow: the incoming isochrone of a walking network with scheduled rides,
+ * and the outgoing one of a courier.
  *
  * docs/RULES.md has the rules in full, by number.
  *
@@ -9,7 +10,7 @@
  * Below the calls stand names for the numbers used here, and a few inline
  * functions for the bytes. examples/streets.c is one query, examples/server.c
  * answers many at once from threads, examples/timetable.c begins with an
- * operator's timetable.
+ * operator's timetable, examples/courier.c sends a courier out.
  *
  * The tables are big-endian records of fixed size with no header, numbered
  * from 0. Times are signed seconds from midnight of the service day; all other
@@ -347,6 +348,70 @@
  * of one number the lowest line is given. Refusal 1 changes no byte of the
  * target, the others leave it zero.
  *
+ * siltbrow_courier_list makes the list of record numbers that a courier's calls
+ * go by. It is made once for the tables and kept beside them.
+ *
+ *   list, 4 bytes a number, big-endian: the records of both tables, walks
+ *         numbered first, then hops, so that hop h has the number of walks
+ *         plus h; ordered by "from", then by number
+ *         (SILTBROW_COURIER_LIST_BYTES)
+ *
+ * It returns refusal * 2^32 + place: 1 to 6 as in the check, and 1 also where
+ * the list is not exactly 4 bytes for each record (place: 6, behind 0 to 2). A
+ * refusal changes no byte of the list.
+ *
+ * siltbrow_courier answers which vertices a courier reaches from the query
+ * place: it is siltbrow_run in the other direction. Record, offset, duration,
+ * speed and limit are those of siltbrow_run; "departure" is when he leaves the
+ * place, 0 to 172,800, and distances are in ticks after that. The list of
+ * record numbers is read, and judged each time.
+ *
+ * He leaves along the query's walk to its "to", and along its twin, if any, to
+ * its "from"; where the offset is the length he is at "to" already, and where
+ * it is 0 at "from", twin or none. A walk takes its length and then its wait,
+ * from wherever on it he comes. A hop is boarded by who is at its "from" as it
+ * departs, or before.
+ *
+ *   held,    16 bytes: as of siltbrow_run, but remaining is how many of the
+ *                      records that arrive at the vertex do not come from a
+ *                      settled one
+ *   settled, answer, what is returned: as of siltbrow_run
+ *
+ *   refusals 1 to 6: as in siltbrow_run; and 1 also where the list is not
+ *               exactly 4 bytes for each record (place: 6, behind the others)
+ *   refusal 22: the list is not that of the tables (place: the first number
+ *               that differs, counted from 0)
+ *   refusal 7:  the query (place: 0 record, 1 offset, 2 departure, 3 duration,
+ *               4 speed)
+ *   refusals 8 and 9: as in siltbrow_run
+ *
+ * They are judged in this order, so that 22 comes before 7. Refusals 1 to 7 and
+ * 22 change no byte of the two lent buffers; 8 and 9 leave both zero.
+ *
+ * siltbrow_courier_parts tells which parts of the walks the courier covers, from
+ * a list of settled vertices, as siltbrow_parts does. The tables, the list of
+ * record numbers and the query are those of siltbrow_courier, "settled_list" is
+ * 8 bytes times its settled count (SILTBROW_LIST_BYTES).
+ *
+ *   parts, 12 bytes a record: walk record, start, end; first those that begin
+ *          at the query place (step 0), on its walk and then on the twin; then
+ *          for each entry those of the walks that leave its vertex, from their
+ *          start to where the time or the walk ends, on the query's walk and
+ *          its twin no further than the place. A part that reaches the length
+ *          need not have passed the wait. What is left of the buffer is zero.
+ *   answer, what is returned: as of siltbrow_parts
+ *
+ * Two parts more than there are walks are always enough.
+ *
+ *   refusals 1 to 6: as in siltbrow_parts; and 1 also where the list of record
+ *               numbers is not exactly 4 bytes for each record (place: 6,
+ *               behind the others)
+ *   refusals 22 and 7: as in siltbrow_courier
+ *   refusals 21 and 10: as in siltbrow_parts
+ *
+ * They are judged in this order. Refusals 1 to 7, 21 and 22 change no byte of
+ * the part buffer; 10 leaves it zero.
+ *
  * Until it returns, a call uses its buffers, its target and its answer alone:
  * they overlap neither one another nor what the call reads.
  *
@@ -356,7 +421,8 @@
  *   and so do siltbrow_parts and siltbrow_judge. At the full size of 65,536
  *   vertices and 9.2 MB that is some 5 to 20 ms, more than the search of a short
  *   query. siltbrow_runs checks them once for all its queries, and
- *   siltbrow_patients once for all its arrivals. docs/BENCH.md has the times.
+ *   siltbrow_patients once for all its arrivals. The courier's calls check them
+ *   too, and then the list. docs/BENCH.md has the times.
  * - Vertices that lie near one another should have near numbers: what a call
  *   reads then lies together.
  * - Every lent buffer is written whole, with zero behind the records. A buffer
@@ -386,6 +452,8 @@
 /* The second number moves where a call changes, the third where only the
  * inside does; the first becomes 1 when all calls are there.
  *
+ * 0.12: siltbrow_courier_list, siltbrow_courier and siltbrow_courier_parts are
+ *      new, and with them refusal 22.
  * 0.11: siltbrow_timetable is new, and with it refusals 12 to 17 and 29.
  * 0.10: siltbrow_patients is new, and with it refusals 19 and 20.
  * 0.9: siltbrow_runs is new.
@@ -408,9 +476,9 @@
  *      refusal 10 is gone from it; siltbrow_parts makes the parts. A page that
  *      shows streets calls it with the records that the run has settled.
  * 0.2: siltbrow_frame is new. */
-#define SILTBROW_VERSION "0.11.0"
+#define SILTBROW_VERSION "0.12.0"
 #define SILTBROW_VERSION_MAJOR 0
-#define SILTBROW_VERSION_MINOR 11
+#define SILTBROW_VERSION_MINOR 12
 #define SILTBROW_VERSION_PATCH 0
 
 #ifdef __cplusplus
@@ -483,10 +551,36 @@ uint32_t siltbrow_timetable(const uint8_t *stop_times, size_t stop_times_len,
                             uint8_t *hops, size_t hops_len,
                             uint8_t *answer, size_t answer_len);
 
+uint64_t siltbrow_courier_list(const uint8_t *vertices, size_t vertices_len,
+                               const uint8_t *walks, size_t walks_len,
+                               const uint8_t *hops, size_t hops_len, uint32_t hop_size,
+                               uint8_t *list, size_t list_len);
+
+uint32_t siltbrow_courier(const uint8_t *vertices, size_t vertices_len,
+                          const uint8_t *walks, size_t walks_len,
+                          const uint8_t *hops, size_t hops_len, uint32_t hop_size,
+                          const uint8_t *list, size_t list_len,
+                          uint32_t record, uint32_t offset, int32_t departure,
+                          uint32_t duration, uint32_t speed, uint32_t limit,
+                          uint8_t *held, size_t held_len,
+                          uint8_t *settled, size_t settled_len,
+                          uint8_t *answer, size_t answer_len);
+
+uint32_t siltbrow_courier_parts(const uint8_t *vertices, size_t vertices_len,
+                                const uint8_t *walks, size_t walks_len,
+                                const uint8_t *hops, size_t hops_len, uint32_t hop_size,
+                                const uint8_t *list, size_t list_len,
+                                uint32_t record, uint32_t offset, int32_t departure,
+                                uint32_t duration, uint32_t speed,
+                                const uint8_t *settled_list, size_t settled_list_len,
+                                uint8_t *parts, size_t parts_len,
+                                uint8_t *answer, size_t answer_len);
+
 /* The bytes of each record, of an entry of siltbrow_judge, of a query of
  * siltbrow_runs, of a count of patients or a figure of their report, of a point
- * of the coordinate table, of the answer of a run, a frame or an evening, of
- * that of siltbrow_parts, and of that of siltbrow_timetable. */
+ * of the coordinate table, of a number of the courier's list, of the answer of
+ * a run, a frame or an evening, of that of parts, and of that of
+ * siltbrow_timetable. */
 #define SILTBROW_VERTEX_SIZE 12u
 #define SILTBROW_WALK_SIZE 16u
 #define SILTBROW_HOP_SIZE 16u
@@ -498,6 +592,7 @@ uint32_t siltbrow_timetable(const uint8_t *stop_times, size_t stop_times_len,
 #define SILTBROW_QUERY_SIZE 24u
 #define SILTBROW_FIGURE_SIZE 4u
 #define SILTBROW_POINT_SIZE 8u
+#define SILTBROW_NUMBER_SIZE 4u
 #define SILTBROW_ANSWER_SIZE 24u
 #define SILTBROW_PARTS_ANSWER_SIZE 12u
 #define SILTBROW_TIMETABLE_ANSWER_SIZE 12u
@@ -530,7 +625,9 @@ uint32_t siltbrow_timetable(const uint8_t *stop_times, size_t stop_times_len,
 /* The refusals: 1 to 6 of the check; 1 to 9 of a run, one or many; 1 to 7, 21 and 10 of
  * parts; 1, 21, 23 and 24 of a frame; 1 of a move, and 11 where it goes
  * backward; 1 to 7 and 25 to 28 of siltbrow_judge; 1 to 7, 19, 20, 8 and 9 of
- * siltbrow_patients; 1, 29 and 12 to 17 of siltbrow_timetable. */
+ * siltbrow_patients; 1, 29 and 12 to 17 of siltbrow_timetable; 1 to 6 of
+ * siltbrow_courier_list, 1 to 6, 22, 7, 8 and 9 of siltbrow_courier, 1 to 6, 22,
+ * 7, 21 and 10 of siltbrow_courier_parts. */
 #define SILTBROW_ACCEPTED 0u
 #define SILTBROW_BAD_LENGTH 1u
 #define SILTBROW_BAD_WALK 2u
@@ -552,6 +649,7 @@ uint32_t siltbrow_timetable(const uint8_t *stop_times, size_t stop_times_len,
 #define SILTBROW_TOO_MANY_PATIENTS 19u
 #define SILTBROW_BAD_EVENING 20u
 #define SILTBROW_BAD_ENTRY 21u
+#define SILTBROW_OTHER_LIST 22u
 #define SILTBROW_BAD_POINT 23u
 #define SILTBROW_EMPTY_LIST 24u
 #define SILTBROW_LISTED_VERTEX 25u
@@ -560,8 +658,8 @@ uint32_t siltbrow_timetable(const uint8_t *stop_times, size_t stop_times_len,
 #define SILTBROW_BETTER_OFFER 28u
 #define SILTBROW_BAD_ID_LINE 29u
 
-/* The bytes of a list, from the settled count of a run: what siltbrow_parts and
- * siltbrow_frame are given of the settled buffer. */
+/* The bytes of a list, from the settled count of a run: what siltbrow_parts,
+ * siltbrow_courier_parts and siltbrow_frame are given of the settled buffer. */
 #define SILTBROW_LIST_BYTES(settled) ((size_t)(settled) * SILTBROW_SETTLED_SIZE)
 
 /* The bytes of a share of siltbrow_runs, from those of the settled buffer and
@@ -574,6 +672,11 @@ uint32_t siltbrow_timetable(const uint8_t *stop_times, size_t stop_times_len,
 #define SILTBROW_REPORT_BYTES(vertices_len, arrivals) \
     (((vertices_len) / SILTBROW_VERTEX_SIZE + (arrivals) + 1u) * SILTBROW_FIGURE_SIZE)
 
+/* The bytes of the courier's list, from those of the tables and the size of a
+ * hop, which is not 0. */
+#define SILTBROW_COURIER_LIST_BYTES(walks_len, hops_len, hop_size) \
+    (((walks_len) / SILTBROW_WALK_SIZE + (hops_len) / (hop_size)) * SILTBROW_NUMBER_SIZE)
+
 /* The bytes of the target of a move, from those of its source. */
 #define SILTBROW_FORWARD_BYTES(source_len) ((source_len) / SILTBROW_HOP_SIZE * SILTBROW_HOP_WITH_TRIP_SIZE)
 #define SILTBROW_BACKWARD_BYTES(source_len) ((source_len) / SILTBROW_HOP_WITH_TRIP_SIZE * SILTBROW_HOP_SIZE)
@@ -584,7 +687,7 @@ uint32_t siltbrow_timetable(const uint8_t *stop_times, size_t stop_times_len,
 #define SILTBROW_SETTLED_BYTES(vertices_len) ((vertices_len) / SILTBROW_VERTEX_SIZE * SILTBROW_SETTLED_SIZE)
 #define SILTBROW_PART_BYTES(walks_len) (((walks_len) / SILTBROW_WALK_SIZE + 2u) * SILTBROW_PART_SIZE)
 
-/* The answer of a run; "parts" is 0. */
+/* The answer of a run, or of a courier's; "parts" is 0. */
 typedef struct siltbrow_answer {
     uint32_t refusal;
     uint32_t place;
@@ -594,7 +697,7 @@ typedef struct siltbrow_answer {
     uint32_t finished;
 } siltbrow_answer;
 
-/* The answer of siltbrow_parts. */
+/* The answer of siltbrow_parts or siltbrow_courier_parts. */
 typedef struct siltbrow_parts_answer {
     uint32_t refusal;
     uint32_t place;
@@ -761,7 +864,8 @@ static inline void siltbrow_put_query(uint8_t *at, uint32_t record, uint32_t off
     siltbrow_put(at + 20, limit);
 }
 
-/* Refusal and place in what siltbrow_check, siltbrow_judge or a move returns. */
+/* Refusal and place in what siltbrow_check, siltbrow_judge,
+ * siltbrow_courier_list or a move returns. */
 static inline uint32_t siltbrow_check_refusal(uint64_t checked)
 {
     return (uint32_t)(checked >> 32);
@@ -797,6 +901,7 @@ static inline const char *siltbrow_refusal_text(uint32_t refusal)
     case SILTBROW_TOO_MANY_PATIENTS: return "a vertex has more than 65,535 patients";
     case SILTBROW_BAD_EVENING: return "the gap, the number of arrivals or the last arrival is outside its limits";
     case SILTBROW_BAD_ENTRY: return "an entry of the list names no vertex, one that an earlier entry has or, for parts, a distance above the duration";
+    case SILTBROW_OTHER_LIST: return "the courier's list is not that of the tables";
     case SILTBROW_BAD_POINT: return "a coordinate is not finite";
     case SILTBROW_EMPTY_LIST: return "the list is empty";
     case SILTBROW_LISTED_VERTEX: return "an entry of a bought list names no vertex, or one that an earlier entry has";
@@ -812,14 +917,14 @@ static inline const char *siltbrow_refusal_text(uint32_t refusal)
 static inline const char *siltbrow_place_text(uint32_t refusal)
 {
     switch (refusal) {
-    case SILTBROW_BAD_LENGTH: return "slice: 0 vertices, 1 walks, 2 hops, 3 held, 4 settled or list, 5 parts, 6 coordinates, target or patients, 7 report";
+    case SILTBROW_BAD_LENGTH: return "slice: 0 vertices, 1 walks, 2 hops, 3 held, 4 settled or list, 5 parts, 6 coordinates, target, patients or courier's list, 7 report";
     case SILTBROW_BAD_WALK:
     case SILTBROW_WALK_ORDER: return "walk record";
     case SILTBROW_BAD_HOP:
     case SILTBROW_HOP_ORDER:
     case SILTBROW_KNOWN_TRIP: return "hop record";
     case SILTBROW_BAD_VERTEX: return "vertex record";
-    case SILTBROW_BAD_QUERY: return "field: 0 record, 1 offset, 2 arrival, 3 duration, 4 speed";
+    case SILTBROW_BAD_QUERY: return "field: 0 record, 1 offset, 2 arrival or departure, 3 duration, 4 speed";
     case SILTBROW_HELD_ROOM:
     case SILTBROW_SETTLED_ROOM: return "step";
     case SILTBROW_PART_ROOM: return "step: 0 at the query place, otherwise the entry of the list plus 1";
@@ -827,6 +932,7 @@ static inline const char *siltbrow_place_text(uint32_t refusal)
     case SILTBROW_LISTED_VERTEX:
     case SILTBROW_LISTED_DISTANCE:
     case SILTBROW_LISTED_RECORD: return "entry of the list";
+    case SILTBROW_OTHER_LIST: return "number of the list";
     case SILTBROW_BETTER_OFFER: return "record, hops behind the walks; 4294967294 the query walk's \"from\", 4294967295 its \"to\"";
     case SILTBROW_BAD_EVENING: return "field: 0 gap, 1 number of arrivals, 2 last arrival";
     case SILTBROW_TOO_MANY_PATIENTS:

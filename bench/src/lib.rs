@@ -5,6 +5,7 @@
 pub mod bought;
 pub mod checks;
 pub mod clock;
+pub mod couriers;
 pub mod evening;
 pub mod figures;
 pub mod flat;

@@ -3,6 +3,7 @@
 use bench::frames::Framer;
 use bench::program::Program;
 use bench::timetables::Reader;
+use courier::call::Program as Courier;
 use outside::records::{Evening, Lent, Query, Tables, Way};
 
 macro_rules! declared {
@@ -14,6 +15,7 @@ macro_rules! declared {
 }
 
 outside::calls!(declared);
+outside::courier_calls!(declared);
 
 extern "C" {
     fn siltbrow_frame(
@@ -148,6 +150,71 @@ impl Program for Linked {
             [patients],
             [held, settled, report, answer]
         )
+    }
+}
+
+impl Courier for Linked {
+    fn list(&self, tables: Tables, list: &mut [u8]) -> u64 {
+        call!(siltbrow_courier_list, tables, [], [], [list])
+    }
+
+    fn run(&self, tables: Tables, list: &[u8], q: Query, limit: u32, lent: Lent, answer: &mut [u8]) -> u32 {
+        let (v, w, h, Lent { held, settled }) = (tables.vertices, tables.walks, tables.hops, lent);
+        // SAFETY: each pair is a whole slice; those written to are borrowed alone.
+        unsafe {
+            siltbrow_courier(
+                v.as_ptr(),
+                v.len(),
+                w.as_ptr(),
+                w.len(),
+                h.as_ptr(),
+                h.len(),
+                tables.hop_size,
+                list.as_ptr(),
+                list.len(),
+                q.record,
+                q.offset,
+                q.arrival,
+                q.duration,
+                q.speed,
+                limit,
+                held.as_mut_ptr(),
+                held.len(),
+                settled.as_mut_ptr(),
+                settled.len(),
+                answer.as_mut_ptr(),
+                answer.len(),
+            )
+        }
+    }
+
+    fn parts(&self, tables: Tables, list: &[u8], q: Query, entries: &[u8], parts: &mut [u8], answer: &mut [u8]) -> u32 {
+        let (v, w, h) = (tables.vertices, tables.walks, tables.hops);
+        // SAFETY: as of the run.
+        unsafe {
+            siltbrow_courier_parts(
+                v.as_ptr(),
+                v.len(),
+                w.as_ptr(),
+                w.len(),
+                h.as_ptr(),
+                h.len(),
+                tables.hop_size,
+                list.as_ptr(),
+                list.len(),
+                q.record,
+                q.offset,
+                q.arrival,
+                q.duration,
+                q.speed,
+                entries.as_ptr(),
+                entries.len(),
+                parts.as_mut_ptr(),
+                parts.len(),
+                answer.as_mut_ptr(),
+                answer.len(),
+            )
+        }
     }
 }
 

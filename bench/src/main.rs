@@ -1,5 +1,5 @@
-//! `bench speed ROUNDS [PAGE]`, `bench evening ROUNDS`, `bench timetable ROUNDS`
-//! and `bench figures PAGE FOLDER`.
+//! `bench speed ROUNDS [PAGE]`, `bench evening ROUNDS`, `bench timetable ROUNDS`,
+//! `bench courier ROUNDS` and `bench figures PAGE FOLDER`.
 
 mod linked;
 
@@ -7,14 +7,15 @@ use std::fs::{read_to_string, write};
 use std::path::Path;
 use std::process::ExitCode;
 
-use bench::{bought, checks, evening, figures, frames, growth, hubs, limit, machine, many, moves};
-use bench::{page, patients, speed, stall, timetables};
+use bench::{bought, checks, couriers, evening, figures, frames, growth, hubs, limit, machine, many};
+use bench::{moves, page, patients, speed, stall, timetables};
 use linked::Linked;
 
 const USAGE: &str = "usage:
   bench speed ROUNDS [PAGE]     times of the library and of both programs in Rust
   bench evening ROUNDS          the evening load alone
   bench timetable ROUNDS        the reader of timetables alone
+  bench courier ROUNDS          the courier alone
   bench figures PAGE FOLDER     how many vertices are held, as numbers and pictures";
 
 /// The product is for x86-64; elsewhere its module is compiled once more.
@@ -33,6 +34,7 @@ fn main() -> ExitCode {
         }
         ["evening", rounds] => counted(rounds).and_then(evening),
         ["timetable", rounds] => counted(rounds).and_then(timetable),
+        ["courier", rounds] => counted(rounds).and_then(courier),
         ["figures", page, folder] => draw(page, folder),
         _ => Err(USAGE.to_string()),
     };
@@ -80,6 +82,13 @@ fn timetable(rounds: usize) -> Result<(), String> {
     Ok(())
 }
 
+/// Prints the rows of the courier.
+fn courier(rounds: usize) -> Result<(), String> {
+    let heading = heading(rounds);
+    print!("{heading}\n{}", couriers::table(&Linked, &Linked, rounds)?);
+    Ok(())
+}
+
 /// Prints the times; puts them in a page where one is named, and the picture of
 /// growth in the folder `figures` beside it.
 fn measure(rounds: usize, page: Option<&str>) -> Result<(), String> {
@@ -103,6 +112,7 @@ fn measure(rounds: usize, page: Option<&str>) -> Result<(), String> {
         many::table(&Linked, rounds)?,
         patients::table(&Linked, rounds)?,
         timetables::table(&Linked, rounds)?,
+        couriers::table(&Linked, &Linked, rounds)?,
     ]
     .join("\n");
     let report = format!("{report}\n{}", verdict(&report));

@@ -479,9 +479,95 @@ static void timetable_test(void)
     count(siltbrow_timetable(NULL, 0, NULL, 0, NULL, 0, NULL, 0, bytes, sizeof bytes - 1) == 1 && bytes[0] == 7, "a timetable's answer that is too short");
 }
 
+/* The courier's list of the four records: walk 1 and both hops leave vertex 0, walk 0 leaves vertex 1. */
+static uint8_t numbers[SILTBROW_COURIER_LIST_BYTES(sizeof walks, sizeof hops, SILTBROW_HOP_SIZE)];
+
+static void listed(size_t v, size_t len, uint32_t refusal, uint32_t place, const char *what)
+{
+    memset(numbers, 9, sizeof numbers);
+    uint64_t answer = siltbrow_courier_list(vertices, v, walks, sizeof walks, hops, sizeof hops, SILTBROW_HOP_SIZE, numbers, len);
+    count(siltbrow_check_refusal(answer) == refusal && siltbrow_check_place(answer) == place, what);
+    count(refusal == SILTBROW_ACCEPTED || (numbers[0] == 9 && numbers[sizeof numbers - 1] == 9), "a list that is refused stays");
+}
+
+static void courier_list_test(void)
+{
+    size_t v = sizeof vertices, n = sizeof numbers;
+    fill();
+    count(n == 4 * SILTBROW_NUMBER_SIZE, "a number for each record");
+    listed(v, n - 1, SILTBROW_BAD_LENGTH, 6, "a cut number");
+    listed(v, n - SILTBROW_NUMBER_SIZE, SILTBROW_BAD_LENGTH, 6, "a number less");
+    listed(v - 1, n - 1, SILTBROW_BAD_LENGTH, 0, "a cut vertex before it");
+    siltbrow_put(vertices + 8, 2u << 16);
+    listed(v, n, SILTBROW_BAD_VERTEX, 0, "a departing count");
+    fill();
+    listed(v, n, SILTBROW_ACCEPTED, 0, "the list");
+    count(siltbrow_get(numbers) == 1 && siltbrow_get(numbers + 4) == 2 && siltbrow_get(numbers + 8) == 3 && siltbrow_get(numbers + 12) == 0, "its numbers");
+}
+
+static siltbrow_answer carry(uint32_t record, int32_t departure, size_t held_len, size_t list_len)
+{
+    uint8_t bytes[SILTBROW_ANSWER_SIZE];
+    count(siltbrow_courier(vertices, sizeof vertices, walks, sizeof walks, hops, sizeof hops, SILTBROW_HOP_SIZE, numbers, list_len, record, 300, departure, 200, 10,
+                           SILTBROW_NO_LIMIT, held, held_len, settled, sizeof settled, bytes, sizeof bytes) == 0, "a courier");
+    return siltbrow_read_answer(bytes);
+}
+
+/* The road is 1,000 long with 30 and 7 seconds of wait, the place 300 from vertex 1 on the way to 0, and D is 2,000. */
+static void courier_test(void)
+{
+    size_t h = sizeof held, n = sizeof numbers;
+    siltbrow_put_length(walks, 1000, 30);
+    siltbrow_put_length(walks + SILTBROW_WALK_SIZE, 1000, 7);
+    siltbrow_answer all = carry(0, 36000, h, n);
+    count(all.refusal == SILTBROW_ACCEPTED && all.settled == 2 && all.parts == 0 && all.held == 0 && all.finished == 1, "where the courier comes");
+    count(siltbrow_get(settled) == 1 && siltbrow_get(settled + 4) == 370 && siltbrow_get(settled + 8) == 0 && siltbrow_get(settled + 12) == 1000, "when he comes there");
+    refused(carry(0, 36000, h, n - 1), SILTBROW_BAD_LENGTH, 6, "a cut list");
+    refused(carry(0, 36000, h - 1, n - 1), SILTBROW_BAD_LENGTH, 3, "a cut held record before it");
+    refused(carry(2, 36000, h, n), SILTBROW_BAD_QUERY, 0, "no such walk");
+    refused(carry(0, SILTBROW_MAX_TIME + 1, h, n), SILTBROW_BAD_QUERY, 2, "a departure that is too late");
+    refused(carry(0, 36000, SILTBROW_HELD_SIZE, n), SILTBROW_HELD_ROOM, 0, "no room for both ends");
+    siltbrow_put(numbers + 4, 3);
+    siltbrow_put(numbers + 8, 2);
+    refused(carry(2, 36000, h, n), SILTBROW_OTHER_LIST, 1, "a list that is not that of the tables, before the query");
+    siltbrow_put(numbers + 4, 2);
+    siltbrow_put(numbers + 8, 3);
+    count(siltbrow_courier(vertices, sizeof vertices, walks, sizeof walks, hops, sizeof hops, SILTBROW_HOP_SIZE, numbers, n, 0, 300, 36000, 200, 10,
+                           SILTBROW_NO_LIMIT, held, h, settled, sizeof settled, NULL, 0) == 1, "a courier's answer that is too short");
+}
+
+static siltbrow_parts_answer carried(size_t numbers_len, size_t list_len, size_t parts_len)
+{
+    uint8_t bytes[SILTBROW_PARTS_ANSWER_SIZE];
+    memset(parts, 7, sizeof parts);
+    count(siltbrow_courier_parts(vertices, sizeof vertices, walks, sizeof walks, hops, sizeof hops, SILTBROW_HOP_SIZE, numbers, numbers_len, 0, 300, 36000, 200, 10,
+                                 settled, list_len, parts, parts_len, bytes, sizeof bytes) == 0, "a courier's parts");
+    return siltbrow_read_parts(bytes);
+}
+
+/* The same place, from the list that the courier's run has left. */
+static void courier_parts_test(void)
+{
+    size_t n = sizeof numbers, p = sizeof parts, l = SILTBROW_LIST_BYTES(carry(0, 36000, sizeof held, n).settled);
+    siltbrow_parts_answer covered = carried(n, l, p);
+    count(covered.refusal == SILTBROW_ACCEPTED && covered.place == 0 && covered.parts == 4, "his parts");
+    count(siltbrow_get(parts) == 0 && siltbrow_get(parts + 4) == 300 && siltbrow_get(parts + 8) == 1000, "the first begins at the place");
+    count(siltbrow_get(parts + 24) == 0 && siltbrow_get(parts + 28) == 0 && siltbrow_get(parts + 32) == 300, "the third ends there");
+    covered = carried(n - 1, l, p);
+    count(covered.refusal == SILTBROW_BAD_LENGTH && covered.place == 6 && parts_are(7), "parts of a cut list");
+    covered = carried(n, l - 1, p - 1);
+    count(covered.refusal == SILTBROW_BAD_LENGTH && covered.place == 4 && parts_are(7), "parts of a cut entry");
+    covered = carried(n, l, 3 * SILTBROW_PART_SIZE);
+    count(covered.refusal == SILTBROW_PART_ROOM && covered.place == 2 && parts[0] == 0, "no room for his last part");
+    siltbrow_put(settled, 2);
+    covered = carried(n, l, 0);
+    count(covered.refusal == SILTBROW_BAD_ENTRY && covered.place == 0, "no such vertex");
+    fill();
+}
+
 static void text_test(void)
 {
-    static const uint32_t refusals[] = {0, 1, 2, 3, 4, 5, 6, 7, 8, 9, 10, SILTBROW_KNOWN_TRIP, 12, 13, 14, 15, 16, 17, SILTBROW_TOO_MANY_PATIENTS, SILTBROW_BAD_EVENING, SILTBROW_BAD_ENTRY, SILTBROW_BAD_POINT, SILTBROW_EMPTY_LIST, 25, 26, 27, 28, SILTBROW_BAD_ID_LINE, 99};
+    static const uint32_t refusals[] = {0, 1, 2, 3, 4, 5, 6, 7, 8, 9, 10, SILTBROW_KNOWN_TRIP, 12, 13, 14, 15, 16, 17, SILTBROW_TOO_MANY_PATIENTS, SILTBROW_BAD_EVENING, SILTBROW_BAD_ENTRY, SILTBROW_OTHER_LIST, SILTBROW_BAD_POINT, SILTBROW_EMPTY_LIST, 25, 26, 27, 28, SILTBROW_BAD_ID_LINE, 99};
     char version[32];
     for (size_t a = 0; a < sizeof refusals / sizeof *refusals; a++)
         for (size_t b = 0; b < a; b++)
@@ -508,6 +594,9 @@ int main(void)
     move_test();
     frame_test();
     timetable_test();
+    courier_list_test();
+    courier_test();
+    courier_parts_test();
     text_test();
     printf("%u passed, %u failed\n", passed, failed);
     return failed != 0;

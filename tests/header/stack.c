@@ -138,6 +138,36 @@ static void buy(void)
     list_len = SILTBROW_ENTRY_SIZE * (size_t)count;
 }
 
+/* The courier's list of the grid, his run, and the parts of what it has left. */
+static uint8_t numbers[SILTBROW_COURIER_LIST_BYTES(sizeof walks, 0, SILTBROW_HOP_SIZE)];
+
+static void *list_numbers(void *unused)
+{
+    uint8_t here = 0;
+    top = &here;
+    if (siltbrow_courier_list(vertices, sizeof vertices, walks, sizeof walks, NULL, 0, SILTBROW_HOP_SIZE, numbers, sizeof numbers) != 0)
+        exit(2);
+    return unused;
+}
+
+static void *carry(void *unused)
+{
+    uint8_t here = 0;
+    top = &here;
+    (void)siltbrow_courier(vertices, sizeof vertices, walks, sizeof walks, NULL, 0, SILTBROW_HOP_SIZE, numbers, sizeof numbers, WALKS / 2, 10, 36000,
+                           SILTBROW_MAX_DURATION, 14, limit, held, held_len, settled, sizeof settled, answer, sizeof answer);
+    return unused;
+}
+
+static void *carry_parts(void *unused)
+{
+    uint8_t here = 0;
+    top = &here;
+    (void)siltbrow_courier_parts(vertices, sizeof vertices, walks, sizeof walks, NULL, 0, SILTBROW_HOP_SIZE, numbers, sizeof numbers, WALKS / 2, 10, 36000,
+                                 SILTBROW_MAX_DURATION, 14, settled, list_len, parts, sizeof parts, answer, SILTBROW_PARTS_ANSWER_SIZE);
+    return unused;
+}
+
 /* The frame of all vertices, which stand in the settled buffer. */
 static void *frame(void *unused)
 {
@@ -266,6 +296,11 @@ int main(void)
     buy();
     size_t judging = used(judge);
     int right = judged == 0 && list_len == sizeof bought;
+    size_t listing = used(list_numbers), carrying = used(carry);
+    int carried = siltbrow_read_answer(answer).settled == VERTICES;
+    list_len = sizeof settled;
+    size_t carrying_parts = used(carry_parts);
+    carried = carried && siltbrow_read_parts(answer).parts >= WALKS && listing < MOST && carrying < MOST && carrying_parts < MOST;
     size_t depth = used(check);
     for (uint32_t v = 0; v < VERTICES; v++)
         siltbrow_put(settled + 8 * v, v);
@@ -281,7 +316,8 @@ int main(void)
     read = read && siltbrow_read_timetable(answer).refusal == SILTBROW_HOP_ROOM;
     printf("a check uses %zu bytes of stack, a run at most %zu, parts at most %zu, a frame %zu, the moves %zu and %zu, judging %zu, queries %zu and %zu, an evening %zu, a timetable %zu, with little room %zu, with a line of a million fields %zu\n", depth, most, covering,
            framing, moving, back, judging, several, single, reporting, reading, in_turn, wide_line);
-    int good = whole > 0 && framed && depth > 1000 && most > 1000 && covering > 1000 && framing > 1000 && depth < MOST && most < MOST
+    printf("the courier's list uses %zu, his run %zu, his parts %zu\n", listing, carrying, carrying_parts);
+    int good = carried && whole > 0 && framed && depth > 1000 && most > 1000 && covering > 1000 && framing > 1000 && depth < MOST && most < MOST
                && covering < MOST && framing < MOST && moving < MOST && back < MOST && right && judging < MOST_JUDGE && shared && several < MOST && single < MOST && reached == VERTICES && reporting < MOST && read && reading < MOST_READING && in_turn < MOST_READING && wide_line < MOST_READING && memcmp(narrow, walks, sizeof walks) == 0;
     printf("%d passed, %d failed\n", good, !good);
     return !good;

@@ -1,12 +1,16 @@
 //! A stand-in for the library, made of the judge's own fast program. It shows
 //! that driver and judge work, and says nothing about the library. With
 //! OUTSIDE_MUTANT set it answers as that wrong version does; with TIMETABLE_WRONG
-//! it reads timetables as that wrong version of their reader.
+//! it reads timetables as that wrong version of their reader; with COURIER_WRONG the
+//! courier is that wrong version.
 
+use courier::call::Program as Courier;
+use courier::quick::Quick;
+use courier::wrong;
 use outside::mutant::{Mutant, Sound};
 use outside::outcome::{Fast, Program};
 use outside::records::{Evening, Lent, Query, Tables, Way};
-use timetable::{call, plain, quick, wrong};
+use timetable::{call, plain, quick, wrong as misread};
 
 /// An argument as C gives it.
 #[derive(Clone, Copy)]
@@ -179,6 +183,39 @@ impl<'a> Call<'a> {
         left.value
     }
 
+    /// What the quick courier returns, or the wrong version of it that is asked for.
+    unsafe fn courier(&self) -> u64 {
+        match wrong::Wrong::from_environment() {
+            Ok(None) => self.carried(Quick(wrong::Sound)),
+            Ok(Some(version)) => self.carried(Quick(version)),
+            Err(message) => {
+                eprintln!("double: {message}");
+                std::process::exit(2)
+            }
+        }
+    }
+
+    unsafe fn carried<C: Courier>(&self, courier: C) -> u64 {
+        let tables = self.tables();
+        if self.name == "courier_list" {
+            return courier.list(tables, self.write("list"));
+        }
+        let list = self.read("list");
+        let query = Query {
+            arrival: self.number("departure") as i32,
+            record: self.number("record"),
+            offset: self.number("offset"),
+            duration: self.number("duration"),
+            speed: self.number("speed"),
+        };
+        let answer = self.write("answer");
+        let returned = match self.name {
+            "courier" => courier.run(tables, list, query, self.number("limit"), self.lent(), answer),
+            _ => courier.parts(tables, list, query, self.read("settled_list"), self.write("parts"), answer),
+        };
+        returned.into()
+    }
+
     /// With DOUBLE_STRAY set to a call, one of its slices, and `before`, `behind`
     /// or `inside`, as in `run held behind`, one byte there is changed: a library
     /// that the driver's guards have to find out.
@@ -210,7 +247,7 @@ impl<'a> Call<'a> {
 /// The wrong version of the timetable's reader that is asked for.
 fn wrong_reader() -> Option<&'static plain::Rules> {
     let name = std::env::var("TIMETABLE_WRONG").ok()?;
-    let rules = wrong::named(&name);
+    let rules = misread::named(&name);
     if rules.is_none() {
         eprintln!("double: there is no wrong version {name}");
         std::process::exit(2)
@@ -228,6 +265,7 @@ unsafe fn answered(name: &str, given: &[(&'static str, Given)]) -> u64 {
     let call = Call { name, given };
     let returned = match Mutant::from_environment() {
         _ if name == "timetable" => call.timetable().into(),
+        _ if name.starts_with("courier") => call.courier(),
         Ok(None) => call.by(Fast(Sound)),
         Ok(Some(mutant)) => call.by(Fast(mutant)),
         Err(message) => {
@@ -251,6 +289,7 @@ macro_rules! exported {
 }
 
 outside::calls!(exported);
+outside::courier_calls!(exported);
 
 exported! { siltbrow_timetable(
     stop_times: *const u8, stop_times_len: usize, stops: *const u8, stops_len: usize, trips: *const u8, trips_len: usize,

@@ -39,3 +39,25 @@ macro_rules! calls {
         ) -> u32 }
     };
 }
+
+/// The same of the courier's calls. `list` has the record numbers, `settled_list` is the list whose parts are asked for.
+#[rustfmt::skip]
+#[macro_export]
+macro_rules! courier_calls {
+    ($make:ident) => {
+        $make! { siltbrow_courier_list(
+            vertices: *const u8, vertices_len: usize, walks: *const u8, walks_len: usize, hops: *const u8, hops_len: usize, hop_size: u32,
+            list: *mut u8, list_len: usize
+        ) -> u64 }
+        $make! { siltbrow_courier(
+            vertices: *const u8, vertices_len: usize, walks: *const u8, walks_len: usize, hops: *const u8, hops_len: usize, hop_size: u32,
+            list: *const u8, list_len: usize, record: u32, offset: u32, departure: i32, duration: u32, speed: u32, limit: u32,
+            held: *mut u8, held_len: usize, settled: *mut u8, settled_len: usize, answer: *mut u8, answer_len: usize
+        ) -> u32 }
+        $make! { siltbrow_courier_parts(
+            vertices: *const u8, vertices_len: usize, walks: *const u8, walks_len: usize, hops: *const u8, hops_len: usize, hop_size: u32,
+            list: *const u8, list_len: usize, record: u32, offset: u32, departure: i32, duration: u32, speed: u32,
+            settled_list: *const u8, settled_list_len: usize, parts: *mut u8, parts_len: usize, answer: *mut u8, answer_len: usize
+        ) -> u32 }
+    };
+}

@@ -8,7 +8,7 @@ pub mod bought;
 pub mod damage;
 pub mod fuzz;
 pub mod groups;
-mod hopeless;
+pub mod hopeless;
 pub mod hubs;
 pub mod jobs;
 pub mod lists;

@@ -16,7 +16,7 @@ mod run;
 mod search;
 mod waits;
 
-pub use check::check;
+pub use check::{asked, check, judge_lengths, judge_records};
 pub use job::{print, read, Job};
 pub use parts::parts;
 pub use run::{one_run, run};

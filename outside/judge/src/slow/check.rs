@@ -69,7 +69,8 @@ pub fn lengths(tables: Tables, lent: &[Lent]) -> Option<Given> {
     })
 }
 
-fn records(tables: Tables) -> Option<Given> {
+/// 2 to 6.
+pub fn records(tables: Tables) -> Option<Given> {
     let (vertices, walks, hops) = (vertices(tables), walks(tables), hops(tables));
     let known = |vertex: u32| (vertex as usize) < vertices.len();
     least(2, walks.len(), |i| {
@@ -125,7 +126,8 @@ fn wrong_vertex(vertices: &[Vertex], walks: &[Walk], hops: &[Hop]) -> Option<Giv
     })
 }
 
-fn asked(tables: Tables, query: Query) -> Option<Given> {
+/// 7.
+pub fn asked(tables: Tables, query: Query) -> Option<Given> {
     let walks = walks(tables);
     let walk = walks.get(query.record as usize);
     least(7, 5, |place| match place {

@@ -16,7 +16,7 @@ mod run;
 mod write;
 
 pub use bought::{is_settled, judged};
-pub use check::check;
+pub use check::{asked, check, hops, lengths, records, vertices, walks};
 pub use job::print;
 pub use journeys::mistimed;
 pub use order::misplaced;

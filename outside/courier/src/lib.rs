@@ -1,0 +1,14 @@
+//! The courier's reach of RULES 27, independent of the library: `plain` asks the definitions, `quick` has a heap and arrays.
+//! They share the records of `outside` and refusals of the tables that it judges in two ways itself.
+
+pub mod call;
+pub mod cases;
+pub mod definitions;
+pub mod exchange;
+pub mod journeys;
+pub mod marked;
+pub mod mirror;
+pub mod plain;
+pub mod quick;
+pub mod scenes;
+pub mod wrong;
