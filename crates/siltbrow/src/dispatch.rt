@@ -86,7 +86,7 @@ pub extern "C" fn siltbrow_courier<'a>(
     walks: &'a [u8],
     hops: &'a [u8],
     hop_size: u32,
-    records: &[u8],
+    list: &[u8],
     record_number: u32,
     offset: u32,
     departure: i32,
@@ -97,7 +97,7 @@ pub extern "C" fn siltbrow_courier<'a>(
     settled: &mut [u8],
     answer: &mut [u8],
 ) -> u32
-    ensures { λ r. ⌜ CourierRan (courierLent (now (vertices .entry)) (now (walks .entry)) (now (hops .entry)) «hop_size» (now (records .entry)) (now (held .entry)) (now (settled .entry))) (queryBy «record_number» offset departure duration speed) limit (now (answer .entry)) (now (held .exit)) (now (settled .exit)) (now (answer .exit)) r ⌝ }
+    ensures { λ r. ⌜ CourierRan (courierLent (now (vertices .entry)) (now (walks .entry)) (now (hops .entry)) «hop_size» (now (list .entry)) (now (held .entry)) (now (settled .entry))) (queryBy «record_number» offset departure duration speed) limit (now (answer .entry)) (now (held .exit)) (now (settled .exit)) (now (answer .exit)) r ⌝ }
 {
     if answer.len() != 24 {
         return 1;
@@ -114,7 +114,7 @@ pub extern "C" fn siltbrow_courier<'a>(
         walks,
         hops,
         hop_size as usize,
-        records,
+        list,
         held,
         settled,
         q,

@@ -18,7 +18,7 @@ returns c = record { untouched = λ n. (refl, refl, refl, refl); answered = λ e
 returns-2 : tie.Need-returns-2
 returns-2 c =
     let a = c .before .before .before .before .before .before .before .before .before .before .before .before .before .before .before .before .before .before .before in
-    ran (λ z. CourierAllowed (courierLent (now (a .args .vertices)) (now (a .args .walks)) (now (a .args .hops)) (a .args .hop-size) (now (a .args .records)) (now (a .args .held)) (now (a .args .settled))) (queryBy (a .args .record-number) (a .args .offset) z (a .args .duration) (a .args .speed)) (a .args .limit))
+    ran (λ z. CourierAllowed (courierLent (now (a .args .vertices)) (now (a .args .walks)) (now (a .args .hops)) (a .args .hop-size) (now (a .args .list)) (now (a .args .held)) (now (a .args .settled))) (queryBy (a .args .record-number) (a .args .offset) z (a .args .duration) (a .args .speed)) (a .args .limit))
     (a .args .departure) (toZ w32 (ofZ w32 (a .args .departure))) (now (a .args .held)) (now (a .args .settled)) (now (a .args .answer)) _ _ _ _ (toZ-ofZ w32 (a .args .departure) (a .fits .departure)) (c .before .before .before .before .before .before .before .before .before .before .before .if1 .left) (c .before .before .before .before .before .before .before .before .courier .ensures) (c .before .before .put-answer .ensures)
 
 pub siltbrow-courier-spec : {M : Type 1} → statement M
