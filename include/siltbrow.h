@@ -103,6 +103,14 @@
  *   finished: 1 if nothing within the duration is left to settle, 0 if the
  *             limit came first; 0 in a refusal
  *
+ * More time, same beginning: of two finished runs over the same tables whose
+ * queries differ in the duration alone, the settled records of the shorter are
+ * the first of the longer, and what the longer lists besides is farther than
+ * the shorter duration allows. So a slider runs once, with its longest
+ * duration, and cuts the list at the first distance above duration times
+ * speed. Held records and parts cannot be cut: ask for the parts anew. So it is
+ * with the courier's calls too.
+ *
  * It returns 0, for a refusal too. Where the answer slice is not 24 bytes it
  * returns 1 and writes nothing at all.
  *
