@@ -3,6 +3,7 @@
 # make lib: the library for C. make install PREFIX=..: library, header and siltbrow.pc there.
 # make soak: millions of cases through the C calls, SEED=.. CASES=.. if given. It prints the seed: with it a failure comes again.
 # make fuzz: damaged tables, queries, rooms and jobs for an hour, SEED=.. SECONDS=.. if given.
+# make edits: the wrong programs that the gate leaves out, CRATES=.. if given; all take about half an hour.
 # make bench: the library's times beside those of two programs in Rust, and whether it bears the evening load. make figures: how many vertices it holds, into docs/.
 PREFIX = /usr/local
 INTO = $(DESTDIR)$(abspath $(PREFIX))
@@ -10,7 +11,7 @@ VERSION = $(shell sed -n 's/^.define SILTBROW_VERSION "\(.*\)"$$/\1/p' include/s
 
 export TOWN JOB ASK RAW BRIEF SVG GEOJSON TABLES STREETS RIDES CORNERS
 
-.PHONY: run prove test ask city lib install soak fuzz bench figures
+.PHONY: run prove test ask city lib install soak fuzz edits bench figures
 
 run: prove
 	@bash -c '. tests/common && for_x86_64 && $$run target/bin/reach <crates/reach/stdin'
@@ -42,6 +43,9 @@ soak:
 
 fuzz:
 	@bash tests/fuzz/run $(or $(SEED),$(shell date +%s)) $(or $(SECONDS),3600)
+
+edits:
+	@bash tests/also-fail $(CRATES)
 
 bench:
 	@bench/run speed
