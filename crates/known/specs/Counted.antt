@@ -7,7 +7,7 @@ use lib.Dec.{eqb}
 use lib.ListN.{length}
 use Rattle.feed.specs.Fields.{rowOf, field}
 use Rattle.feed.specs.Ids.{known}
-use Rattle.idtree.specs.Tree.{Grown}
+use Rattle.idtable.specs.Table.{Grown}
 
 -- so many fields, and quotes in order
 unfoldable pub counted : ℕ → List ℕ → Bool
@@ -17,10 +17,10 @@ counted count l = rowOf l .sound && eqb (length (rowOf l .fields)) count
 unfoldable pub idKnown : List ℕ → ℕ → List ℕ → Bool
 idKnown list k l = known list (field (rowOf l) k)
 
--- room for n nodes
-abbrev pub Nodes : ℕ → List ℕ → Type 0
-Nodes n b = length b ≡ 8 * n
+-- room for n slots
+abbrev pub Slots : ℕ → List ℕ → Type 0
+Slots n b = length b ≡ 4 * n
 
--- m of n nodes are the tree of the list, as far as they reach
+-- n slots are the table of the list's lines before place m
 abbrev pub Listed : List ℕ → ℕ → ℕ → List ℕ → Type 0
 Listed list n m b = Grown list n m b

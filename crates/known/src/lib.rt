@@ -1,6 +1,6 @@
 // The ids of a timetable, looked up in its lists: refusal 14.
 // Promises: at which place of a list the first line with an id stands, and the first line whose id is not listed, as the definitions of `feed` say.
-// Rests on: lists by their ids (`idtree`), lines and fields (`lines`, `rows`), refusals (`words`).
+// Rests on: lists by their ids (`idtable`), lines and fields (`lines`, `rows`), refusals (`words`).
 use words::Refusal;
 ghost use mathlib.Core.Path.{_≡_};
 ghost use mathlib.Core.Bool.{true, _||_};
@@ -14,7 +14,7 @@ ghost use Rattle.lines.specs.Spans.{bytesIn};
 ghost use Rattle.rows.specs.Placed.{fieldSpan};
 ghost use Rattle.naming.specs.Named.{foundFrom};
 ghost use Rattle.words.specs.Told.{told};
-ghost use Rattle.known.specs.Counted.{counted, idKnown, Nodes, Listed};
+ghost use Rattle.known.specs.Counted.{counted, idKnown, Slots, Listed};
 
 fn look_between(
     b: &[u8],
@@ -25,16 +25,16 @@ fn look_between(
     start: usize,
     stop: usize,
 ) -> usize
-    requires { ⌜ Nodes n (now b) × Listed (now list) n m (now b) ⌝ }
+    requires { ⌜ Slots n (now b) × Listed (now list) n m (now b) ⌝ }
     requires { ⌜ (start ≤ stop) × (stop ≤ length (now line)) ⌝ }
     ensures { λ r. ⌜ r ≡ foundFrom (now (list .entry)) 0 (take (stop - start) (drop start (now (line .entry)))) ⌝ }
 {
-    idtree::find(b, n, m, list, &line[start..stop])
+    idtable::find(b, n, m, list, &line[start..stop])
 }
 
 // The place, counted from 1, of the first line of a list that has the id in field k of a line; 0 where none has it.
 pub fn listed_at(b: &[u8], n: usize, m: usize, list: &[u8], line: &[u8], k: usize) -> usize
-    requires { ⌜ Nodes n (now b) × Listed (now list) n m (now b) × (k < length (rowOf (now line) .fields)) ⌝ }
+    requires { ⌜ Slots n (now b) × Listed (now list) n m (now b) × (k < length (rowOf (now line) .fields)) ⌝ }
     ensures { λ r. ⌜ r ≡ foundFrom (now (list .entry)) 0 (bytesIn (now (line .entry)) (fieldSpan (now (line .entry)) k)) ⌝ }
 {
     let span = rows::field_span(line, k);
@@ -52,7 +52,7 @@ fn line_known(
     count: usize,
     k: usize,
 ) -> bool
-    requires { ⌜ Nodes n (now b) × Listed (now list) n m (now b) × (idsRefusal most (now list) ≡ fine) × (k < count) ⌝ }
+    requires { ⌜ Slots n (now b) × Listed (now list) n m (now b) × (idsRefusal most (now list) ≡ fine) × (k < count) ⌝ }
     requires { ⌜ (empty (now line) || counted count (now line)) ≡ true ⌝ }
     ensures { λ r. ⌜ r ≡ (empty (now (line .entry)) || idKnown (now (list .entry)) k (now (line .entry))) ⌝ }
 {
@@ -74,7 +74,7 @@ fn part_known(
     count: usize,
     k: usize,
 ) -> bool
-    requires { ⌜ Nodes n (now b) × Listed (now list) n m (now b) × (idsRefusal most (now list) ≡ fine) × (k < count) ⌝ }
+    requires { ⌜ Slots n (now b) × Listed (now list) n m (now b) × (idsRefusal most (now list) ≡ fine) × (k < count) ⌝ }
     requires { ⌜ (at ≤ stop) × (stop ≤ length (now text)) ⌝ }
     requires { ⌜ (empty (take (stop - at) (drop at (now text))) || counted count (take (stop - at) (drop at (now text)))) ≡ true ⌝ }
     ensures { λ r. ⌜ r ≡ (empty (take (stop - at) (drop at (now (text .entry)))) || idKnown (now (list .entry)) k (take (stop - at) (drop at (now (text .entry))))) ⌝ }
@@ -95,7 +95,7 @@ pub fn unlisted(
     count: usize,
     k: usize,
 ) -> Refusal
-    requires { ⌜ Nodes n (now b) × Listed (now list) n m (now b) × (idsRefusal most (now list) ≡ fine) × (k < count) ⌝ }
+    requires { ⌜ Slots n (now b) × Listed (now list) n m (now b) × (idsRefusal most (now list) ≡ fine) × (k < count) ⌝ }
     requires { ⌜ (from ≤ length (now text)) × (firstBadLine 13 (counted count) first (linesOf (drop from (now text))) ≡ fine) ⌝ }
     ensures { λ r. ⌜ told r ≡ firstBadLine 14 (idKnown (now (list .entry)) k) first (linesOf (drop from (now (text .entry)))) ⌝ }
 {

@@ -39,3 +39,8 @@ unfoldable pub leads : List ℕ → List ℕ → Bool
 leads [] t = true
 leads (a ∷ y) [] = false
 leads (a ∷ y) (b ∷ t) = eqb a b && leads y t
+
+-- bytes above a comma: none of them ends a field or a line, or is a quote
+unfoldable pub above : List ℕ → Bool
+above [] = true
+above (b ∷ y) = ltb 44 b && above y

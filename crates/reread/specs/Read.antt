@@ -14,7 +14,7 @@ use Rattle.feed.specs.Stops.{Stop, orOther}
 use Rattle.lines.specs.Spans.{bytesIn}
 use Rattle.rows.specs.Placed.{fieldSpan}
 use Rattle.naming.specs.Named.{foundFrom}
-use Rattle.known.specs.Counted.{Nodes, Listed}
+use Rattle.known.specs.Counted.{Slots, Listed}
 use Rattle.halts.specs.Halts.{timedIn}
 use Rattle.stoplist.specs.declared.Columns.{Columns}
 use Rattle.stoplist.specs.Made.{entryGood, Inside}
@@ -61,13 +61,13 @@ unfoldable pub manyLines : List (List ℕ) → ℕ
 manyLines [] = 0
 manyLines (l ∷ ls) = cond (empty l) (manyLines ls) (suc (manyLines ls))
 
--- the lists are good, and their ids are found by the nodes
+-- the lists are good, and their ids are found by the tables
 pub record Ready (C : Columns) (stops trips bs : List ℕ) (ns ms : ℕ) (bt : List ℕ) (nt mt : ℕ) : Type 0 where
   pub inside : Inside C
-  pub stopNodes : Nodes ns bs
+  pub stopNodes : Slots ns bs
   pub stopsListed : Listed stops ns ms bs
   pub stopsGood : idsRefusal 65535 stops ≡ fine
-  pub tripNodes : Nodes nt bt
+  pub tripNodes : Slots nt bt
   pub tripsListed : Listed trips nt mt bt
   pub tripsGood : idsRefusal none trips ≡ fine
 

@@ -13,7 +13,7 @@ ghost use Rattle.feed.specs.Ids.{idsRefusal, numberOf};
 ghost use Rattle.feed.specs.Trips.{noStop};
 ghost use Rattle.table_bytes.specs.Columns.{at};
 ghost use Rattle.sorting.specs.Sorted.{recs};
-ghost use Rattle.known.specs.Counted.{Nodes, Listed, idKnown};
+ghost use Rattle.known.specs.Counted.{Slots, Listed, idKnown};
 ghost use Rattle.stoplist.specs.Made.{packed, stopMade, stopsMade, entryGood, Inside, Filled};
 use sorting::put;
 
@@ -35,7 +35,7 @@ fn bit(timed: bool) -> u64
 
 // The vertex that a list has for the id in field k of a line.
 pub fn vertex_of(b: &[u8], n: usize, m: usize, list: &[u8], line: &[u8], k: usize) -> u32
-    requires { ⌜ Nodes n (now b) × Listed (now list) n m (now b) × (k < length (rowOf (now line) .fields)) ⌝ }
+    requires { ⌜ Slots n (now b) × Listed (now list) n m (now b) × (k < length (rowOf (now line) .fields)) ⌝ }
     requires { ⌜ (idsRefusal 65535 (now list) ≡ fine) × (idKnown (now list) k (now line) ≡ true) ⌝ }
     ensures { λ r. ⌜ (r ≡ numberOf (now (list .entry)) (field (rowOf (now (line .entry))) k)) × (r ≤ 65535) ⌝ }
 {
@@ -91,8 +91,8 @@ fn write_line(
     trips: &[u8],
 )
     requires { ⌜ (length (now b) ≡ 20 * n) × (j < n) × Inside c × (entryGood c (now stops) (now trips) (now line) ≡ true) ⌝ }
-    requires { ⌜ Nodes ns (now bs) × Listed (now stops) ns ms (now bs) × (idsRefusal 65535 (now stops) ≡ fine) ⌝ }
-    requires { ⌜ Nodes nt (now bt) × Listed (now trips) nt mt (now bt) × (idsRefusal none (now trips) ≡ fine) × (length (now trips) < 4294967296) ⌝ }
+    requires { ⌜ Slots ns (now bs) × Listed (now stops) ns ms (now bs) × (idsRefusal 65535 (now stops) ≡ fine) ⌝ }
+    requires { ⌜ Slots nt (now bt) × Listed (now trips) nt mt (now bt) × (idsRefusal none (now trips) ≡ fine) × (length (now trips) < 4294967296) ⌝ }
     ensures { λ _. ⌜ recs n (now (b .exit)) ≡ set (recs n (now (b .entry))) j (packed (stopMade c (now (stops .entry)) (now (trips .entry)) number (now (line .entry)))) ⌝ }
 {
     let vertex = vertex_of(bs, ns, ms, stops, line, c.stop);
@@ -133,8 +133,8 @@ pub fn write_part(
     trips: &[u8],
 )
     requires { ⌜ (length (now b) ≡ 20 * n) × (j < n) × Inside c × (at ≤ stop) × (stop ≤ length (now text)) × (entryGood c (now stops) (now trips) (take (stop - at) (drop at (now text))) ≡ true) ⌝ }
-    requires { ⌜ Nodes ns (now bs) × Listed (now stops) ns ms (now bs) × (idsRefusal 65535 (now stops) ≡ fine) ⌝ }
-    requires { ⌜ Nodes nt (now bt) × Listed (now trips) nt mt (now bt) × (idsRefusal none (now trips) ≡ fine) × (length (now trips) < 4294967296) ⌝ }
+    requires { ⌜ Slots ns (now bs) × Listed (now stops) ns ms (now bs) × (idsRefusal 65535 (now stops) ≡ fine) ⌝ }
+    requires { ⌜ Slots nt (now bt) × Listed (now trips) nt mt (now bt) × (idsRefusal none (now trips) ≡ fine) × (length (now trips) < 4294967296) ⌝ }
     ensures { λ _. ⌜ recs n (now (b .exit)) ≡ set (recs n (now (b .entry))) j (packed (stopMade c (now (stops .entry)) (now (trips .entry)) number (take (stop - at) (drop at (now (text .entry)))))) ⌝ }
 {
     write_line(
@@ -172,8 +172,8 @@ pub fn fill(
     trips: &[u8],
 ) -> usize
     requires { ⌜ (length (now b) ≡ 20 * n) × Inside c × (from ≤ length (now text)) × (length (now text) < 4294967294) × (firstBadLine 13 (entryGood c (now stops) (now trips)) 2 (linesOf (drop from (now text))) ≡ fine) ⌝ }
-    requires { ⌜ Nodes ns (now bs) × Listed (now stops) ns ms (now bs) × (idsRefusal 65535 (now stops) ≡ fine) ⌝ }
-    requires { ⌜ Nodes nt (now bt) × Listed (now trips) nt mt (now bt) × (idsRefusal none (now trips) ≡ fine) × (length (now trips) < 4294967296) ⌝ }
+    requires { ⌜ Slots ns (now bs) × Listed (now stops) ns ms (now bs) × (idsRefusal 65535 (now stops) ≡ fine) ⌝ }
+    requires { ⌜ Slots nt (now bt) × Listed (now trips) nt mt (now bt) × (idsRefusal none (now trips) ≡ fine) × (length (now trips) < 4294967296) ⌝ }
     ensures { λ r. ⌜ Filled n (recs n (now (b .exit))) (stopsMade c (now (stops .entry)) (now (trips .entry)) 2 (linesOf (drop from (now (text .entry))))) r ⌝ }
 {
     let mut at = from;

@@ -1,6 +1,6 @@
 // The operators' timetable: stop_times.txt and two lists of ids become hops of 20 bytes.
 // Promises: the refusal, the number of hops and every byte of the target, as the definitions of `feed` say, for texts of every length.
-// Rests on: the texts judged (`vetting`), trees of ids (`idtree`), and for the trips records in the target or in windows (`windows`) or, for want of them, `unaided`.
+// Rests on: the texts judged (`vetting`), tables of ids (`idtable`), and for the trips records in windows (`windows`) or, for want of them, `unaided`.
 use departures::Answer;
 use departures::refuse;
 use stoplist::Columns;
@@ -8,13 +8,13 @@ ghost use mathlib.Core.Path.{_≡_};
 ghost use mathlib.Core.Bool.{true};
 ghost use Rattle.journeys.specs.Refusals.{tableOf};
 ghost use Rattle.feed.specs.Answers.{Passed};
-ghost use Rattle.known.specs.Counted.{Nodes, Listed};
+ghost use Rattle.known.specs.Counted.{Slots, Listed};
 ghost use Rattle.headings.specs.Opened.{Opened};
 ghost use Rattle.recorded.specs.Asked.{Read, Short};
 ghost use Rattle.vetting.specs.Vetted.{textRefusal};
 ghost use Rattle.timetable.specs.Lent.{feedOf, Answers, Called};
 
-// Where the target does not hold a record of each line, the sorted stops come window by window.
+// The sorted stops come window by window: in one where the target holds a record of each line.
 fn windowed(
     target: &mut [u8],
     text: &[u8],
@@ -30,7 +30,7 @@ fn windowed(
     trips: &[u8],
 ) -> Answer
     requires { ⌜ Read (feedOf (now text) (now stops) (now trips) (now target)) c from × Short (feedOf (now text) (now stops) (now trips) (now target)) ⌝ }
-    requires { ⌜ Nodes ns (now bs) × Listed (now stops) ns ms (now bs) × Nodes nt (now bt) × Listed (now trips) nt mt (now bt) ⌝ }
+    requires { ⌜ Slots ns (now bs) × Listed (now stops) ns ms (now bs) × Slots nt (now bt) × Listed (now trips) nt mt (now bt) ⌝ }
     ensures { λ r. ⌜ Answers (feedOf (now (text .entry)) (now (stops .entry)) (now (trips .entry)) (now (target .entry))) r (now (target .exit)) ⌝ }
 {
     let mut spare = [0u8; 20480];
@@ -52,8 +52,7 @@ fn windowed(
     )
 }
 
-// What 14 lets pass. Records serve where 32 bits hold the number of each line and the place of its trip: in the target where it has room for them all,
-// else in windows. Without them each stop is read again from its line.
+// What 14 lets pass. Records serve where 32 bits hold the number of each line and the place of its trip. Without them each stop is read again from its line.
 fn passed(
     target: &mut [u8],
     text: &[u8],
@@ -69,36 +68,17 @@ fn passed(
     trips: &[u8],
 ) -> Answer
     requires { ⌜ (tableOf 20 0 262144 (now target) ≡ true) × Passed (feedOf (now text) (now stops) (now trips) (now target)) × Opened (now text) from c ⌝ }
-    requires { ⌜ Nodes ns (now bs) × Listed (now stops) ns ms (now bs) × Nodes nt (now bt) × Listed (now trips) nt mt (now bt) ⌝ }
+    requires { ⌜ Slots ns (now bs) × Listed (now stops) ns ms (now bs) × Slots nt (now bt) × Listed (now trips) nt mt (now bt) ⌝ }
     ensures { λ r. ⌜ Answers (feedOf (now (text .entry)) (now (stops .entry)) (now (trips .entry)) (now (target .entry))) r (now (target .exit)) ⌝ }
 {
-    let room = target.len() / 20;
-    let lines = reread::count_stops(text, from);
     let short = (text.len() < 4294967294) & (trips.len() < 4294967296);
-    if (lines <= room) & short {
-        return windows::held_hops(
-            target,
-            room,
-            text,
-            from,
-            c,
-            bs,
-            ns,
-            ms,
-            stops,
-            bt,
-            nt,
-            mt,
-            trips,
-        );
-    }
     if short {
         return windowed(target, text, from, c, bs, ns, ms, stops, bt, nt, mt, trips);
     }
     unaided::all_hops(target, text, from, c, bs, ns, ms, stops, bt, nt, mt, trips)
 }
 
-// A text and lists that 29, 12 and 13 let pass, with the trees of both lists.
+// A text and lists that 29, 12 and 13 let pass, with the tables of both lists.
 fn judged(
     target: &mut [u8],
     text: &[u8],
@@ -112,7 +92,7 @@ fn judged(
     trips: &[u8],
 ) -> Answer
     requires { ⌜ (tableOf 20 0 262144 (now target) ≡ true) × (textRefusal (now text) (now stops) (now trips) .number ≡ 0) ⌝ }
-    requires { ⌜ Nodes ns (now bs) × Listed (now stops) ns ms (now bs) × Nodes nt (now bt) × Listed (now trips) nt mt (now bt) ⌝ }
+    requires { ⌜ Slots ns (now bs) × Listed (now stops) ns ms (now bs) × Slots nt (now bt) × Listed (now trips) nt mt (now bt) ⌝ }
     ensures { λ r. ⌜ Answers (feedOf (now (text .entry)) (now (stops .entry)) (now (trips .entry)) (now (target .entry))) r (now (target .exit)) ⌝ }
 {
     let stop = lines::line_stop(text, 0);
@@ -125,16 +105,16 @@ fn judged(
     passed(target, text, from, c, bs, ns, ms, stops, bt, nt, mt, trips)
 }
 
-// The same with room for the trees.
+// The same with room for the tables.
 fn named(target: &mut [u8], text: &[u8], stops: &[u8], trips: &[u8]) -> Answer
     requires { ⌜ (tableOf 20 0 262144 (now target) ≡ true) × (textRefusal (now text) (now stops) (now trips) .number ≡ 0) ⌝ }
     ensures { λ r. ⌜ Answers (feedOf (now (text .entry)) (now (stops .entry)) (now (trips .entry)) (now (target .entry))) r (now (target .exit)) ⌝ }
 {
     let mut bs = [0u8; 32768];
     let mut bt = [0u8; 77824];
-    let ms = idtree::build(&mut bs, 4096, stops);
-    let mt = idtree::build(&mut bt, 9728, trips);
-    judged(target, text, &bs, 4096, ms, stops, &bt, 9728, mt, trips)
+    let ms = idtable::build(&mut bs, 8192, stops);
+    let mt = idtable::build(&mut bt, 19456, trips);
+    judged(target, text, &bs, 8192, ms, stops, &bt, 19456, mt, trips)
 }
 
 // The hops of a timetable, or the first refusal in the order of the definitions.

@@ -9,7 +9,7 @@ ghost use Rattle.journeys.specs.Counting.{none};
 ghost use Rattle.feed.specs.Ids.{idsRefusal};
 ghost use Rattle.feed.specs.Stops.{linesRefusal, knownRefusal};
 ghost use Rattle.words.specs.Told.{told};
-ghost use Rattle.known.specs.Counted.{Nodes, Listed};
+ghost use Rattle.known.specs.Counted.{Slots, Listed};
 ghost use Rattle.headings.specs.Opened.{Opened};
 ghost use Rattle.vetting.specs.Vetted.{textRefusal};
 
@@ -43,8 +43,8 @@ pub fn unknown(
     trips: &[u8],
 ) -> Refusal
     requires { ⌜ Opened (now text) from c × (linesRefusal (now text) ≡ fine) ⌝ }
-    requires { ⌜ Nodes ns (now bs) × Listed (now stops) ns ms (now bs) × (idsRefusal 65535 (now stops) ≡ fine) ⌝ }
-    requires { ⌜ Nodes nt (now bt) × Listed (now trips) nt mt (now bt) × (idsRefusal none (now trips) ≡ fine) ⌝ }
+    requires { ⌜ Slots ns (now bs) × Listed (now stops) ns ms (now bs) × (idsRefusal 65535 (now stops) ≡ fine) ⌝ }
+    requires { ⌜ Slots nt (now bt) × Listed (now trips) nt mt (now bt) × (idsRefusal none (now trips) ≡ fine) ⌝ }
     ensures { λ r. ⌜ told r ≡ knownRefusal (now (text .entry)) (now (stops .entry)) (now (trips .entry)) ⌝ }
 {
     let by_stop = known::unlisted(bs, ns, ms, stops, 65535, text, from, 2, c.count, c.stop);

@@ -1,4 +1,3 @@
-pub mod HeldLaws
 pub mod RoomLaws
 pub mod GoneLaws
 pub mod EndLaws

@@ -7,9 +7,9 @@ ghost use mathlib.Core.List.{List, _++_};
 ghost use lib.ListN.{length, take};
 ghost use Rattle.journeys.specs.Counting.{none};
 ghost use Rattle.feed.specs.Answers.{feedRefusal, hopCount, targetAfter};
-ghost use Rattle.known.specs.Counted.{Nodes, Listed};
+ghost use Rattle.known.specs.Counted.{Slots, Listed};
 ghost use Rattle.departures.specs.Answered.{told};
-ghost use Rattle.recorded.specs.Asked.{Read, Short, stopsRead};
+ghost use Rattle.recorded.specs.Asked.{Read, Short};
 ghost use Rattle.sorting.specs.Sorted.{recs, sorted};
 ghost use Rattle.hopbytes.specs.Listing.{OnTrips};
 ghost use Rattle.carry.specs.Carried.{allFollowed, allHops, lateEnd};
@@ -29,46 +29,6 @@ pub struct Run {
     pub lo: Bound,
     pub carry: Carry,
     pub hops: usize,
-}
-
-// Where the target holds the records of all lines.
-pub fn held_hops(
-    target: &mut [u8],
-    n: usize,
-    text: &[u8],
-    from: usize,
-    c: Columns,
-    bs: &[u8],
-    ns: usize,
-    ms: usize,
-    stops: &[u8],
-    bt: &[u8],
-    nt: usize,
-    mt: usize,
-    trips: &[u8],
-) -> Answer
-    requires { ⌜ (length (now target) ≡ 20 * n) × Read (lent (now text) (now stops) (now trips) (now target)) c from × Short (lent (now text) (now stops) (now trips) (now target)) × (length (stopsRead (lent (now text) (now stops) (now trips) (now target)) c from) ≤ n) ⌝ }
-    requires { ⌜ Nodes ns (now bs) × Listed (now stops) ns ms (now bs) × Nodes nt (now bt) × Listed (now trips) nt mt (now bt) ⌝ }
-    ensures { λ r. ⌜ (told r ≡ feedRefusal (lent (now (text .entry)) (now (stops .entry)) (now (trips .entry)) (now (target .entry))))
-        × (r .hops ≡ hopCount (lent (now (text .entry)) (now (stops .entry)) (now (trips .entry)) (now (target .entry))))
-        × (now (target .exit) ≡ targetAfter (lent (now (text .entry)) (now (stops .entry)) (now (trips .entry)) (now (target .entry)))) ⌝ }
-{
-    let k = stoplist::fill(
-        target,
-        n,
-        text,
-        from,
-        c,
-        bs,
-        ns,
-        ms,
-        stops,
-        bt,
-        nt,
-        mt,
-        trips,
-    );
-    departures::hops_of(target, k, trips)
 }
 
 // The first m records of b go behind the first k of the target.
@@ -118,7 +78,7 @@ fn piece(
     trips: &[u8],
 ) -> Run
     requires { ⌜ (length (now b) ≡ 20 * n) × (2 ≤ n) × (bound lo < bound top) × Ready c (now stops) (now trips) (now text) from ⌝ }
-    requires { ⌜ Nodes ns (now bs) × Listed (now stops) ns ms (now bs) × Nodes nt (now bt) × Listed (now trips) nt mt (now bt) ⌝ }
+    requires { ⌜ Slots ns (now bs) × Listed (now stops) ns ms (now bs) × Slots nt (now bt) × Listed (now trips) nt mt (now bt) ⌝ }
     ensures { λ r. ⌜ (bound lo < bound (r .lo))
         × (r .carry ≡ allFollowed held (kept (bound lo) (bound (r .lo)) (sorted (linesRecords c (now (stops .entry)) (now (trips .entry)) (now (text .entry)) from))))
         × (r .hops ≤ n)
@@ -171,7 +131,7 @@ fn beside(
     trips: &[u8],
 ) -> Run
     requires { ⌜ (length (now target) ≡ 20 * room) × (length (now spare) ≡ 20 * n) × (2 ≤ n) × (bound (run .lo) < bound top) × Ready c (now stops) (now trips) (now text) from ⌝ }
-    requires { ⌜ Nodes ns (now bs) × Listed (now stops) ns ms (now bs) × Nodes nt (now bt) × Listed (now trips) nt mt (now bt) ⌝ }
+    requires { ⌜ Slots ns (now bs) × Listed (now stops) ns ms (now bs) × Slots nt (now bt) × Listed (now trips) nt mt (now bt) ⌝ }
     ensures { λ r. ⌜ (bound (run .lo) < bound (r .lo))
         × (Gone (sorted (linesRecords c (now (stops .entry)) (now (trips .entry)) (now (text .entry)) from)) room (recs room (now (target .entry))) run
         → Gone (sorted (linesRecords c (now (stops .entry)) (now (trips .entry)) (now (text .entry)) from)) room (recs room (now (target .exit))) r) ⌝ }
@@ -221,7 +181,7 @@ fn behind(
     trips: &[u8],
 ) -> Run
     requires { ⌜ (length (now target) ≡ 20 * room) × (run .hops + 2 ≤ room) × (bound (run .lo) < bound top) × Ready c (now stops) (now trips) (now text) from ⌝ }
-    requires { ⌜ Nodes ns (now bs) × Listed (now stops) ns ms (now bs) × Nodes nt (now bt) × Listed (now trips) nt mt (now bt) ⌝ }
+    requires { ⌜ Slots ns (now bs) × Listed (now stops) ns ms (now bs) × Slots nt (now bt) × Listed (now trips) nt mt (now bt) ⌝ }
     ensures { λ r. ⌜ (bound (run .lo) < bound (r .lo))
         × (Gone (sorted (linesRecords c (now (stops .entry)) (now (trips .entry)) (now (text .entry)) from)) room (recs room (now (target .entry))) run
         → Gone (sorted (linesRecords c (now (stops .entry)) (now (trips .entry)) (now (text .entry)) from)) room (recs room (now (target .exit))) r) ⌝ }
@@ -272,7 +232,7 @@ fn instead(
     trips: &[u8],
 ) -> Run
     requires { ⌜ (length (now target) ≡ 20 * room) × (2 ≤ room) × (room < run .hops) × (bound (run .lo) < bound top) × Ready c (now stops) (now trips) (now text) from ⌝ }
-    requires { ⌜ Nodes ns (now bs) × Listed (now stops) ns ms (now bs) × Nodes nt (now bt) × Listed (now trips) nt mt (now bt) ⌝ }
+    requires { ⌜ Slots ns (now bs) × Listed (now stops) ns ms (now bs) × Slots nt (now bt) × Listed (now trips) nt mt (now bt) ⌝ }
     ensures { λ r. ⌜ (bound (run .lo) < bound (r .lo))
         × (Gone (sorted (linesRecords c (now (stops .entry)) (now (trips .entry)) (now (text .entry)) from)) room (recs room (now (target .entry))) run
         → Gone (sorted (linesRecords c (now (stops .entry)) (now (trips .entry)) (now (text .entry)) from)) room (recs room (now (target .exit))) r) ⌝ }
@@ -333,7 +293,7 @@ fn window(
     trips: &[u8],
 ) -> Run
     requires { ⌜ (length (now target) ≡ 20 * room) × (length (now spare) ≡ 20 * n) × (2 ≤ n) × (bound (run .lo) < bound top) × Ready c (now stops) (now trips) (now text) from ⌝ }
-    requires { ⌜ Nodes ns (now bs) × Listed (now stops) ns ms (now bs) × Nodes nt (now bt) × Listed (now trips) nt mt (now bt) ⌝ }
+    requires { ⌜ Slots ns (now bs) × Listed (now stops) ns ms (now bs) × Slots nt (now bt) × Listed (now trips) nt mt (now bt) ⌝ }
     ensures { λ r. ⌜ (bound (run .lo) < bound (r .lo))
         × (Gone (sorted (linesRecords c (now (stops .entry)) (now (trips .entry)) (now (text .entry)) from)) room (recs room (now (target .entry))) run
         → Gone (sorted (linesRecords c (now (stops .entry)) (now (trips .entry)) (now (text .entry)) from)) room (recs room (now (target .exit))) r) ⌝ }
@@ -414,7 +374,7 @@ fn all_windows(
     trips: &[u8],
 ) -> Run
     requires { ⌜ (length (now target) ≡ 20 * room) × (length (now spare) ≡ 20 * n) × (2 ≤ n) × Ready c (now stops) (now trips) (now text) from ⌝ }
-    requires { ⌜ Nodes ns (now bs) × Listed (now stops) ns ms (now bs) × Nodes nt (now bt) × Listed (now trips) nt mt (now bt) ⌝ }
+    requires { ⌜ Slots ns (now bs) × Listed (now stops) ns ms (now bs) × Slots nt (now bt) × Listed (now trips) nt mt (now bt) ⌝ }
     ensures { λ r. ⌜ (bound top ≤ bound (r .lo)) × Gone (sorted (linesRecords c (now (stops .entry)) (now (trips .entry)) (now (text .entry)) from)) room (recs room (now (target .exit))) r ⌝ }
 {
     let nobody = Item {
@@ -500,7 +460,7 @@ pub fn all_hops(
     trips: &[u8],
 ) -> Answer
     requires { ⌜ (length (now spare) ≡ 20 * n) × (2 ≤ n) × Read (lent (now text) (now stops) (now trips) (now target)) c from × Short (lent (now text) (now stops) (now trips) (now target)) ⌝ }
-    requires { ⌜ Nodes ns (now bs) × Listed (now stops) ns ms (now bs) × Nodes nt (now bt) × Listed (now trips) nt mt (now bt) ⌝ }
+    requires { ⌜ Slots ns (now bs) × Listed (now stops) ns ms (now bs) × Slots nt (now bt) × Listed (now trips) nt mt (now bt) ⌝ }
     ensures { λ r. ⌜ (told r ≡ feedRefusal (lent (now (text .entry)) (now (stops .entry)) (now (trips .entry)) (now (target .entry))))
         × (r .hops ≡ hopCount (lent (now (text .entry)) (now (stops .entry)) (now (trips .entry)) (now (target .entry))))
         × (now (target .exit) ≡ targetAfter (lent (now (text .entry)) (now (stops .entry)) (now (trips .entry)) (now (target .entry)))) ⌝ }

@@ -4,7 +4,7 @@ use Rattle.timetable.proofs.named.Statement.{statement}
 use Rattle.timetable.proofs.named.Tie as tie
 use Rattle.timetable.proofs.named.Reads as reads
 use Rattle.timetable.proofs.named.Lts as lts
-use Rattle.idtree.proofs.build.Reads as build-reads
+use Rattle.idtable.proofs.build.Reads as build-reads
 use Rattle.timetable.proofs.judged.Reads as judged-reads
 
 -- src/lib.rt:108:28

@@ -1,0 +1,4 @@
+pub mod Mixing
+pub mod Slots
+pub mod TableLaws
+pub mod Determined
