@@ -443,7 +443,6 @@
  *   them or nearly. With far less room, as where few hops are to be expected of
  *   many lines, the file is read many times.
  * - A call uses less than 8 KB of stack, 4,096 bytes of them for its arrays;
- *   siltbrow_courier_list less than 12 KB, 8,192 bytes of them for its arrays;
  *   siltbrow_judge less than 264 KB, 256 KB of them for an array;
  *   siltbrow_timetable less than 144 KB, 131,072 bytes of them for its arrays,
  *   whatever the texts: a line of a million fields takes no more.

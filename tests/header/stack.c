@@ -9,7 +9,7 @@
 
 #include "siltbrow.h"
 
-enum { SIDE = 160, VERTICES = SIDE * SIDE, WALKS = 4 * SIDE * (SIDE - 1), STACK = 1 << 20, MOST = 8192, MOST_LIST = MOST + 4096, MOST_JUDGE = MOST + (1 << 18), MOST_READING = 147456, FIELDS = 1000000, LINES = 20000, TRIPS = 20000 };
+enum { SIDE = 160, VERTICES = SIDE * SIDE, WALKS = 4 * SIDE * (SIDE - 1), STACK = 1 << 20, MOST = 8192, MOST_JUDGE = MOST + (1 << 18), MOST_READING = 147456, FIELDS = 1000000, LINES = 20000, TRIPS = 20000 };
 
 static uint8_t vertices[VERTICES * SILTBROW_VERTEX_SIZE];
 static uint8_t walks[WALKS * SILTBROW_WALK_SIZE];
@@ -300,7 +300,7 @@ int main(void)
     int carried = siltbrow_read_answer(answer).settled == VERTICES;
     list_len = sizeof settled;
     size_t carrying_parts = used(carry_parts);
-    carried = carried && siltbrow_read_parts(answer).parts >= WALKS && listing < MOST_LIST && carrying < MOST && carrying_parts < MOST;
+    carried = carried && siltbrow_read_parts(answer).parts >= WALKS && listing < MOST && carrying < MOST && carrying_parts < MOST;
     size_t depth = used(check);
     for (uint32_t v = 0; v < VERTICES; v++)
         siltbrow_put(settled + 8 * v, v);

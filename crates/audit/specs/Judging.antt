@@ -4,7 +4,8 @@ use mathlib.Core.Bool.{true}
 use mathlib.Core.List.{List, []}
 use Prim.Native.Nat.{ℕ, _/_, _≤_, _<_}
 use lib.ListN.{length}
-use Rattle.journeys.specs.Tables.{Tables, tablesOf}
+use Rattle.journeys.specs.Tables.{Tables, tablesOf, vertexAt}
+use Rattle.journeys.specs.Records.{departing}
 use Rattle.journeys.specs.Refusals as refusals
 use Rattle.journeys.specs.Refusals.{unless, firstFrom, walkOk, hopOk, vertexOk}
 use Rattle.records.specs.Columns.{recordsIn, Ascending}
@@ -24,6 +25,10 @@ pub record Passed (size : ℕ) (vertices walks hops : List ℕ) : Type 0 where
   pub hops-good : (j : ℕ) → j < recordsIn size hops → hopOk (tablesOf size vertices walks hops) j ≡ true
   pub walks-ascend : Ascending 16 walks
   pub hops-ascend : Ascending size hops
+
+-- every vertex record says how many records leave its vertex
+pub record Counts (size : ℕ) (vertices walks hops : List ℕ) : Type 0 where
+  pub says : (v : ℕ) → v < length vertices / 12 → vertexAt vertices v .departing ≡ departing (tablesOf size vertices walks hops) v
 
 -- 2 and 3: the record i of the table of a kind; `size` is that of a hop
 unfoldable pub recordFault : Kind → ℕ → List ℕ → List ℕ → ℕ → refusals.Refusal

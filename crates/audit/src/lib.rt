@@ -13,6 +13,7 @@ use records::WalkRead;
 use records::to_at;
 use words::Refusal;
 use words::fine;
+use words::half_at;
 use words::lesser;
 use words::refused;
 ghost use mathlib.Core.Path.{_≡_};
@@ -30,7 +31,7 @@ ghost use Rattle.records.specs.Columns.{recordsIn, ascendsAt, Ascending};
 ghost use Rattle.quick.specs.Claims.{twinAt, aloneIn};
 ghost use Rattle.records.specs.Arriving.{sizeOf};
 ghost use Rattle.departing.specs.Scratch.{Outside, Noted};
-ghost use Rattle.audit.specs.Judging.{Sizes, Passed, recordFault, vertexRefusals};
+ghost use Rattle.audit.specs.Judging.{Sizes, Passed, Counts, recordFault, vertexRefusals};
 
 // What a pass over a table finds: its first bad record, and, where none is bad, the first one out of order and how many have no twin.
 // Hops have no twin: of them that number says nothing.
@@ -240,20 +241,44 @@ fn blocks(
     fine()
 }
 
-// Refusal 6: the vertices. The quick judge goes before; where it stops, the exact check begins with that block. `alone` walks have no twin.
+// The first bad vertex, where the vertex records say rightly how many records leave.
+fn judge_counted(vertices: &[u8], walks: &[u8], hops: &[u8], hop_size: usize) -> Refusal
+    requires { ⌜ Sizes «hop_size» (now vertices) (now walks) (now hops) ⌝ }
+    requires { ⌜ Ascending 16 (now walks) × Ascending «hop_size» (now hops) ⌝ }
+    requires { ⌜ Counts «hop_size» (now vertices) (now walks) (now hops) ⌝ }
+    ensures { λ r. ⌜ told r ≡ vertexRefusals (tablesOf «hop_size» (now (vertices .entry)) (now (walks .entry)) (now (hops .entry))) (length (now (vertices .entry)) / 12) 0 ⌝ }
+{
+    let n = (vertices.len() / 12) as u32;
+    let mut v: u32 = 0;
+    while v < n {
+        let departs = half_at(vertices, 12 * (v as usize) + 8);
+        let VertexRead::Good(_) = records::read_vertex(vertices, walks, hops, hop_size, v, departs)
+        else {
+            return refused(6, v);
+        };
+        v += 1;
+    }
+    fine()
+}
+
+// Refusal 6: the vertices. Where their counts are known to be right, only the rest of their records is looked at. Else the quick judge goes before; where it stops, the exact check begins with that block. `alone` walks have no twin.
 fn vertex_records(
     vertices: &[u8],
     walks: &[u8],
     hops: &[u8],
     hop_size: usize,
     alone: usize,
+    counted: bool,
     scratch: &mut [u16],
 ) -> Refusal
     requires { ⌜ Sizes «hop_size» (now vertices) (now walks) (now hops) ⌝ }
-    requires { ⌜ (length (now scratch) ≡ 2048) × (alone ≡ aloneIn (now walks)) ⌝ }
+    requires { ⌜ (length (now scratch) ≡ 2048) × (alone ≡ aloneIn (now walks)) × (counted ≡ true → Counts «hop_size» (now vertices) (now walks) (now hops)) ⌝ }
     requires { ⌜ Passed «hop_size» (now vertices) (now walks) (now hops) ⌝ }
     ensures { λ r. ⌜ told r ≡ vertexRefusals (tablesOf «hop_size» (now (vertices .entry)) (now (walks .entry)) (now (hops .entry))) (length (now (vertices .entry)) / 12) 0 ⌝ }
 {
+    if counted {
+        return judge_counted(vertices, walks, hops, hop_size);
+    }
     let sure = quick::sure(vertices, walks, hops, hop_size, alone, scratch);
     if sure == vertices.len() / 12 {
         return fine();
@@ -268,10 +293,11 @@ fn first_fault(
     walks: &[u8],
     hops: &[u8],
     hop_size: usize,
+    counted: bool,
     scratch: &mut [u16],
 ) -> Refusal
     requires { ⌜ Sizes «hop_size» (now vertices) (now walks) (now hops) ⌝ }
-    requires { ⌜ length (now scratch) ≡ 2048 ⌝ }
+    requires { ⌜ (length (now scratch) ≡ 2048) × (counted ≡ true → Counts «hop_size» (now vertices) (now walks) (now hops)) ⌝ }
     ensures { λ r. ⌜ told r ≡ refusals.contents (tablesOf «hop_size» (now (vertices .entry)) (now (walks .entry)) (now (hops .entry))) ⌝ }
 {
     let of_walks = table_faults(vertices, walks, WALK_SIZE, Kind::Walks, 4);
@@ -288,7 +314,15 @@ fn first_fault(
     if of_hops.order.number != 0 {
         return of_hops.order;
     }
-    vertex_records(vertices, walks, hops, hop_size, of_walks.alone, scratch)
+    vertex_records(
+        vertices,
+        walks,
+        hops,
+        hop_size,
+        of_walks.alone,
+        counted,
+        scratch,
+    )
 }
 
 // Refusals 2 to 6 of tables whose lengths are right. The scratch may hold anything at the call.
@@ -303,7 +337,25 @@ pub fn contents(
     ensures { λ r. ⌜ told r ≡ refusals.contents (tablesOf «hop_size» (now (vertices .entry)) (now (walks .entry)) (now (hops .entry))) ⌝ }
     ensures { λ _. ⌜ now (scratch .exit) ≡ replicate 2048 0 ⌝ }
 {
-    let refusal = first_fault(vertices, walks, hops, hop_size, scratch);
+    let refusal = first_fault(vertices, walks, hops, hop_size, false, scratch);
+    clear(scratch);
+    refusal
+}
+
+// The same where the departing counts are known to be right, so that they need not be counted.
+pub fn contents_counted(
+    vertices: &[u8],
+    walks: &[u8],
+    hops: &[u8],
+    hop_size: usize,
+    scratch: &mut [u16; 2048],
+) -> Refusal
+    requires { ⌜ Sizes «hop_size» (now vertices) (now walks) (now hops) ⌝ }
+    requires { ⌜ Counts «hop_size» (now vertices) (now walks) (now hops) ⌝ }
+    ensures { λ r. ⌜ told r ≡ refusals.contents (tablesOf «hop_size» (now (vertices .entry)) (now (walks .entry)) (now (hops .entry))) ⌝ }
+    ensures { λ _. ⌜ now (scratch .exit) ≡ replicate 2048 0 ⌝ }
+{
+    let refusal = first_fault(vertices, walks, hops, hop_size, true, scratch);
     clear(scratch);
     refusal
 }

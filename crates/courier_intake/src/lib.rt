@@ -16,7 +16,8 @@ ghost use Rattle.words.specs.Told.{told};
 ghost use Rattle.records.specs.Asked.{queryOf};
 ghost use Rattle.courier_intake.specs.Lending.{courierLent};
 
-// Refusals 2 to 6, 22 and 7, of tables and a list that have their lengths: what the courier's two operations have in common. The scratch may hold anything at the call.
+// Refusals 2 to 6, 22 and 7, of tables and a list that have their lengths: what the courier's two operations have in common.
+// Where the list and the departing counts are right, one pass over the list shows both; only else the counts are counted and the list is judged place by place. The scratch may hold anything at the call.
 pub fn contents_fault(
     vertices: &[u8],
     walks: &[u8],
@@ -31,6 +32,13 @@ pub fn contents_fault(
     ensures { λ r. ⌜ told r ≡ chain (contents (tablesOf «hop_size» (now (vertices .entry)) (now (walks .entry)) (now (hops .entry))) ∷ listRefusal (tablesOf «hop_size» (now (vertices .entry)) (now (walks .entry)) (now (hops .entry))) (now (list .entry)) ∷ queryRefusal (tablesOf «hop_size» (now (vertices .entry)) (now (walks .entry)) (now (hops .entry))) (queryOf q) ∷ []) ⌝ }
     ensures { λ _. ⌜ now (scratch .exit) ≡ replicate 2048 0 ⌝ }
 {
+    if listed::sure(vertices, walks, hops, hop_size, list) {
+        let bad = audit::contents_counted(vertices, walks, hops, hop_size, scratch);
+        if bad.number != 0 {
+            return bad;
+        }
+        return intake::query_fault(walks, q);
+    }
     let bad = audit::contents(vertices, walks, hops, hop_size, scratch);
     if bad.number != 0 {
         return bad;

@@ -16,7 +16,7 @@ use Rattle.journeys.specs.Valid.{Valid}
 use Rattle.journeys.proofs.Tests.{never, cond-true, cond-false}
 use Rattle.journeys.proofs.Counting.{count-most}
 use Rattle.journeys.proofs.Held as held
-use Rattle.listing.specs.Places.{departingOf}
+use Rattle.starts.specs.Sums.{departingOf}
 use Rattle.listing.proofs.Froms.{departs}
 use Rattle.worktable.specs.Map.{Entry, Map}
 use Rattle.meeting.specs.Passing.{left, leaving, Enough, Few}

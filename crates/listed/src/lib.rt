@@ -1,8 +1,8 @@
 // The list of record numbers by "from", judged: refusal 22.
 // Promises: the first place that differs from the right list, or none; the list and the tables are only read.
-// Rests on: where records leave and how many (`listing`), numbers in bytes and refusals (`words`).
-use listing::departing_of;
+// Rests on: where records leave (`listing`) and how many (`starts`), numbers in bytes and refusals (`words`).
 use listing::from_of;
+use starts::departing_of;
 use words::Refusal;
 use words::fine;
 use words::refused;
@@ -17,11 +17,11 @@ ghost use Rattle.journeys.specs.Valid.{ValidTables};
 ghost use Rattle.journeys.specs.CourierList.{listRefusal};
 ghost use Rattle.words.specs.Told.{told};
 ghost use Rattle.listing.specs.Places.{total, fromOf, below, same};
-ghost use Rattle.listed.specs.Stretches.{Upto};
+ghost use Rattle.listed.specs.Stretches.{Upto, Risen, Sure};
 
 const VERTEX_SIZE: usize = 12;
 
-// The numbers from `first` up to `end` are records that leave v, and rise: so they are its records, as they are as many.
+// The numbers from `first` up to `end` are records that leave v, and rise: so they are its records, if they are as many.
 fn rises(
     walks: &[u8],
     hops: &[u8],
@@ -32,8 +32,8 @@ fn rises(
     end: usize,
 ) -> bool
     requires { ⌜ (4 ≤ «hop_size») × (total «hop_size» (now walks) (now hops) ≤ 524288) × (length (now list) ≡ 4 * total «hop_size» (now walks) (now hops)) × (end ≤ total «hop_size» (now walks) (now hops)) ⌝ }
-    requires { ⌜ (first ≡ below (fromOf «hop_size» (now walks) (now hops)) v (total «hop_size» (now walks) (now hops))) × (end ≡ first + same (fromOf «hop_size» (now walks) (now hops)) v (total «hop_size» (now walks) (now hops))) ⌝ }
-    ensures { λ r. ⌜ (r ≡ true → Upto (fromOf «hop_size» (now (walks .entry)) (now (hops .entry))) (total «hop_size» (now (walks .entry)) (now (hops .entry))) v first end end (now (list .entry))) ⌝ }
+    requires { ⌜ first ≤ end ⌝ }
+    ensures { λ r. ⌜ (r ≡ true → Risen (fromOf «hop_size» (now (walks .entry)) (now (hops .entry))) (total «hop_size» (now (walks .entry)) (now (hops .entry))) v first end (now (list .entry))) ⌝ }
 {
     let n = list.len() / 4;
     let mut low = 0;
@@ -124,4 +124,27 @@ pub fn fault(vertices: &[u8], walks: &[u8], hops: &[u8], hop_size: usize, list: 
         v += 1;
     }
     fine()
+}
+
+// Whether all is right, the departing counts of the vertices and the list, by one pass over the list; tables and list have their lengths. A yes is sure; a no says nothing.
+pub fn sure(vertices: &[u8], walks: &[u8], hops: &[u8], hop_size: usize, list: &[u8]) -> bool
+    requires { ⌜ (4 ≤ «hop_size») × (length (now vertices) / 12 ≤ 65536) × (total «hop_size» (now walks) (now hops) ≤ 524288) × (length (now list) ≡ 4 * total «hop_size» (now walks) (now hops)) ⌝ }
+    ensures { λ r. ⌜ (r ≡ true → Sure «hop_size» (now (vertices .entry)) (now (walks .entry)) (now (hops .entry)) (now (list .entry))) ⌝ }
+{
+    let n = vertices.len() / VERTEX_SIZE;
+    let many = list.len() / 4;
+    let mut first = 0;
+    let mut v = 0;
+    while v < n {
+        let end = first + departing_of(vertices, v) as usize;
+        if many < end {
+            return false;
+        }
+        if !rises(walks, hops, hop_size, list, v as u32, first, end) {
+            return false;
+        }
+        first = end;
+        v += 1;
+    }
+    first == many
 }

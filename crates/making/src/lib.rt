@@ -64,6 +64,7 @@ pub fn courier_list(
     if two.number != 0 {
         return two;
     }
-    make(vertices, walks, hops, hop_size, list);
+    make(vertices, walks, hops, hop_size, list, scratch);
+    clear(scratch);
     two
 }

@@ -1,82 +1,46 @@
 -- The first two demands, of `siltbrow_courier_parts` itself. All is said of a call that has completed as its contract says, with an answer slice of 12 bytes
 -- (`CourierPartsCompleted`), and each theorem says in one sentence what it means. Assumes nothing.
-use mathlib.Core.Path.{_≡_, refl, sym, ap, subst, _∙_}
+use mathlib.Core.Path.{_≡_, subst}
 use mathlib.Core.Logic.{_⊎_, inl, inr, ⊎-elim, _↔_, _≢_}
-use mathlib.Core.Bool.{true, false}
 use mathlib.Core.List.{List, flatMap}
-use Prim.Native.Nat.{ℕ, _-_, _≤_, _<_}
+use Prim.Native.Nat.{ℕ, _-_, _/_, _≤_, _<_}
 use native.Mathlib.Omega.{arith}
-use lib.Dec.{eqb}
 use lib.ListN.{length}
-use borrow.Author.Tests.{eqb-true, eqb-false}
-use Rattle.journeys.specs.Bytes.{be32, filled, cleared}
+use Rattle.journeys.specs.Bytes.{filled, cleared}
 use Rattle.journeys.specs.Counting.{none}
 use Rattle.journeys.specs.Tables.{walk, walkCount}
-use Rattle.journeys.specs.Query.{Query, allowed}
+use Rattle.journeys.specs.Query.{allowed}
 use Rattle.journeys.specs.Order.{Settled}
-use Rattle.journeys.specs.Parts.{Part, partBytes, Covered}
+use Rattle.journeys.specs.Parts.{partBytes, Covered}
 use Rattle.journeys.specs.Lists.{settledIn}
 use Rattle.journeys.specs.Valid.{Valid}
-use Rattle.journeys.specs.Refusals.{Refusal}
-use Rattle.journeys.specs.ListAnswers.{PartsRoomFor, partsRefusedFor, partsAcceptedFor, partsRoomFor, partsAnswerFor}
-use Rattle.journeys.specs.PartAnswers.{PartsAnswer}
 use Rattle.journeys.specs.CourierJourneys.{InsideReached}
 use Rattle.journeys.specs.CourierOrder.{IsCourierOrder}
-use Rattle.journeys.specs.CourierParts.{partList}
-use Rattle.journeys.specs.CourierPartAnswers.{CourierPartsLent, courierPartsEarly, courierPartsAnswer}
-use Rattle.journeys.proofs.Tests.{split, cond-true, cond-false}
-use Rattle.journeys.proofs.PartAnswers.{refused-before, refused-short, all-fits}
+use Rattle.journeys.specs.CourierParts.{firstParts, partsAt, partList}
+use Rattle.journeys.specs.CourierPartAnswers.{courierPartsEarly, courierPartsAnswer}
 use Rattle.journeys.proofs.CourierDemands.{place-exactly, point-exactly}
 use Rattle.covering.proofs.Accepting.{courier-accepted}
-use Rattle.siltbrow.specs.PartsRan.{partsAnswerBytes}
-use Rattle.siltbrow.specs.CourierCall.{CourierPartsCall, CourierPartsCompleted, courierRefusal, courierPlace, courierCount, courierRead, courierParts}
-use Rattle.siltbrow.proofs.PartsDemands.{refusal-read, place-read, count-read}
+use Rattle.covering.proofs.RefusalNumbers.{courier-numbers}
+use Rattle.answered.proofs.Parts as over
+use Rattle.answered.proofs.Parts.{PartsComplete, turn-grows}
+use Rattle.siltbrow.specs.CourierCall.{CourierPartsCall, CourierPartsCompleted, courierRefusal, courierPlace, courierCount, courierRead, courierParts, courierOver, CourierLacks}
 use Rattle.siltbrow.proofs.PlacesInBytes.{LiesIn, lies-are}
 
--- what is not refused has every part in the buffer, and was not refused before
-accepted-is : (partsOf : List Settled → List Part) (list parts : List ℕ) (early : Refusal) → partsAnswerFor partsOf list parts early .refusal ≡ 0
-    → (early .number ≡ 0) × (partsAnswerFor partsOf list parts early ≡ partsAcceptedFor partsOf list parts)
-unfolding partsAnswerFor partsRefusedFor
-accepted-is partsOf list parts early e = go (split (eqb (early .number) 0)) (split (eqb (partsRoomFor partsOf list parts .number) 0))
-  where
-    go : (eqb (early .number) 0 ≡ true) ⊎ (eqb (early .number) 0 ≡ false) → (eqb (partsRoomFor partsOf list parts .number) 0 ≡ true) ⊎ (eqb (partsRoomFor partsOf list parts .number) 0 ≡ false)
-        → (early .number ≡ 0) × (partsAnswerFor partsOf list parts early ≡ partsAcceptedFor partsOf list parts)
-    go (inr t) q = absurd (eqb-false (early .number) 0 t (sym (ap (λ (x : PartsAnswer). x .refusal) (cond-false _ _ t)) ∙ e))
-    go (inl t) (inl q) = (eqb-true (early .number) 0 t, cond-true _ _ t ∙ cond-true _ _ q)
-    go (inl t) (inr q) = absurd (eqb-false (partsRoomFor partsOf list parts .number) 0 q (sym (ap (λ (x : PartsAnswer). x .refusal) (cond-true _ _ t ∙ cond-false _ _ q)) ∙ e))
-
 module _ (c : CourierPartsCall) (E : CourierPartsCompleted c) where
-  abbrev b : CourierPartsLent
-  b = c .lent
-
-  abbrev Q : Query
-  Q = c .query
-
-  abbrev early : Refusal
-  early = courierPartsEarly (c .lent) (c .query)
-
-  abbrev partsOf : List Settled → List Part
-  partsOf = partList (courierRead c) (c .query)
-
-  abbrev is : PartsAnswer
-  is = partsAnswerFor (partList (courierRead c) (c .query)) (c .lent .lent .list) (c .lent .lent .parts) (courierPartsEarly (c .lent) (c .query))
-
-  number : (i : ℕ) (field : PartsAnswer → ℕ) → ((x : PartsAnswer) → be32 (partsAnswerBytes x) i ≡ field x) → be32 (c .answer) i ≡ field is
-  unfolding courierPartsAnswer
-  number i field h = ap (λ (l : List ℕ). be32 l i) (E .0 .answered (E .1) .2) ∙ h is
-
-  left : c .parts ≡ is .parts
-  unfolding courierPartsAnswer
-  left = E .0 .answered (E .1) .1
-
-  -- what an answer says in the bytes
-  told : (a : PartsAnswer) → is ≡ a → (courierRefusal c ≡ a .refusal) × (courierPlace c ≡ a .place) × (courierCount c ≡ a .partCount) × (c .parts ≡ a .parts)
-  told a e = (
-    number 0 (λ x. x .refusal) refusal-read ∙ ap (λ (x : PartsAnswer). x .refusal) e,
-    number 4 (λ x. x .place) place-read ∙ ap (λ (x : PartsAnswer). x .place) e,
-    number 8 (λ x. x .partCount) count-read ∙ ap (λ (x : PartsAnswer). x .partCount) e,
-    left ∙ ap (λ (x : PartsAnswer). x .parts) e,
-  )
+  complete : PartsComplete (courierOver c)
+  unfolding courierPartsAnswer partList
+  complete =
+      record {
+        parts-is = E .0 .answered (E .1) .1;
+        answer-is = E .0 .answered (E .1) .2;
+        grows = turn-grows (firstParts (courierRead c) (c .query)) (partsAt (courierRead c) (c .query)) (c .lent .lent .list);
+        other = λ e. ten e (courier-numbers (c .lent) (c .query));
+      }
+    where
+      ten : {x : ℕ} → x ≡ 10 → (x ≤ 7) ⊎ (x ≡ 21) ⊎ (x ≡ 22) → ⊥
+      ten e (inl h) = omega arith
+      ten e (inr (inl h)) = omega arith
+      ten e (inr (inr h)) = omega arith
 
   -- Every call with an answer slice of 12 bytes is answered.
   pub courier-answered-always : c .returned ≡ 0
@@ -85,36 +49,37 @@ module _ (c : CourierPartsCall) (E : CourierPartsCompleted c) where
   -- Bad input is refused by number and place, for the first reason in the fixed order, 22 between 6 and 7; nothing is counted, and no byte of the part buffer is changed.
   pub courier-refused-first : courierPartsEarly (c .lent) (c .query) .number ≢ 0
       → (courierRefusal c ≡ courierPartsEarly (c .lent) (c .query) .number) × (courierPlace c ≡ courierPartsEarly (c .lent) (c .query) .place) × (courierCount c ≡ 0) × (c .parts ≡ c .lent .lent .parts)
-  unfolding partsRefusedFor
-  courier-refused-first bad = told (partsRefusedFor early (b .lent .parts)) (refused-before partsOf (b .lent .list) (b .lent .parts) early bad)
+  courier-refused-first = over.parts-refused (courierOver c) complete
 
   -- Sound input that lacks room is refused with 10 at the first entry whose parts do not fit, counted from 1, and 0 for those of step 0; the part buffer is zero.
-  pub courier-room-refused : courierPartsEarly (c .lent) (c .query) .number ≡ 0 → (k : ℕ) → k ≤ length (settledIn (c .lent .lent .list))
-      → (PartsRoomFor (partList (courierRead c) (c .query)) (c .lent .lent .list) (c .lent .lent .parts) k → ⊥) → ((j : ℕ) → j < k → PartsRoomFor (partList (courierRead c) (c .query)) (c .lent .lent .list) (c .lent .lent .parts) j)
+  pub courier-room-refused : courierPartsEarly (c .lent) (c .query) .number ≡ 0 → (k : ℕ) → CourierLacks c k
       → (courierRefusal c ≡ 10) × (courierPlace c ≡ k) × (courierCount c ≡ 0) × (c .parts ≡ cleared (c .lent .lent .parts))
-  unfolding partsRefusedFor
-  courier-room-refused sound k l over before =
-      told (partsRefusedFor (record { number = 10; place = k }) (cleared (b .lent .parts))) (refused-short partsOf (b .lent .list) (b .lent .parts) early sound k l over before)
+  courier-room-refused = over.parts-short (courierOver c) complete
 
   -- Sound input with room for all its parts is accepted: they are counted and stand in the part buffer in their order, with zero behind them.
-  pub courier-parts-accepted : courierPartsEarly (c .lent) (c .query) .number ≡ 0
-      → ((j : ℕ) → j ≤ length (settledIn (c .lent .lent .list)) → PartsRoomFor (partList (courierRead c) (c .query)) (c .lent .lent .list) (c .lent .lent .parts) j)
+  pub courier-parts-accepted : courierPartsEarly (c .lent) (c .query) .number ≡ 0 → length (courierParts c) ≤ length (c .lent .lent .parts) / 12
       → (courierRefusal c ≡ 0) × (courierPlace c ≡ 0) × (courierCount c ≡ length (courierParts c)) × (c .parts ≡ filled (c .lent .lent .parts) (flatMap partBytes (courierParts c)))
-  unfolding partsAcceptedFor
-  courier-parts-accepted sound room = told (partsAcceptedFor partsOf (b .lent .list) (b .lent .parts)) (all-fits partsOf (b .lent .list) (b .lent .parts) early sound room)
+  courier-parts-accepted = over.parts-fit (courierOver c) complete
+
+  -- A call is refused with 10 at k exactly if its input is sound and the parts of step 0 and of the first k entries are the first that are more than lent.
+  pub courier-room-exactly : (k : ℕ) → ((courierRefusal c ≡ 10) × (courierPlace c ≡ k)) ↔ ((courierPartsEarly (c .lent) (c .query) .number ≡ 0) × CourierLacks c k)
+  courier-room-exactly = over.short-exactly (courierOver c) complete
+
+  -- A call is accepted exactly if its input is sound and there is room for all its parts.
+  pub courier-accepted-exactly : (courierRefusal c ≡ 0) ↔ ((courierPartsEarly (c .lent) (c .query) .number ≡ 0) × (length (courierParts c) ≤ length (c .lent .lent .parts) / 12))
+  courier-accepted-exactly = over.fit-exactly (courierOver c) complete
 
   -- ---- the places, where the call is accepted
   module _ (fine : courierRefusal c ≡ 0) where
-    accepted : (early .number ≡ 0) × (is ≡ partsAcceptedFor partsOf (b .lent .list) (b .lent .parts))
-    accepted = accepted-is partsOf (b .lent .list) (b .lent .parts) early (sym (number 0 (λ x. x .refusal) refusal-read) ∙ fine)
+    sound : (courierPartsEarly (c .lent) (c .query) .number ≡ 0) × (length (courierParts c) ≤ length (c .lent .lent .parts) / 12)
+    sound = courier-accepted-exactly .0 fine
 
     valid : Valid (courierRead c) (c .query)
-    valid = courier-accepted (c .lent) (c .query) (accepted .0) .valid
+    valid = courier-accepted (c .lent) (c .query) (sound .0) .valid
 
     -- The counted part records are the parts of step 0 and of every entry of the settled list.
     pub courier-lies : (i x : ℕ) → LiesIn (c .parts) (courierCount c) i x ↔ Covered (courierParts c) i x
-    unfolding partsAcceptedFor
-    courier-lies = let t = told (partsAcceptedFor partsOf (b .lent .list) (b .lent .parts)) (accepted .1) in lies-are (c .parts) (b .lent .parts) (courierCount c) (courierParts c) (t .2) (t .3)
+    courier-lies = let t = courier-parts-accepted (sound .0) (sound .1) in lies-are (c .parts) (c .lent .lent .parts) (courierCount c) (courierParts c) (t .2) (t .3)
 
     -- the settled list is the whole order of the courier
     module _ (l : List Settled) (O : IsCourierOrder (courierRead c) (c .query) l) (own : settledIn (c .lent .lent .list) ≡ l) where

@@ -23,7 +23,7 @@ use Rattle.siltbrow.specs.Call.{Call, Completed, refusal, settledCount, 
 use Rattle.siltbrow.specs.PartsCall.{PartsCall, PartsCompleted, partsRefusal, partsCount}
 use Rattle.siltbrow.specs.Pair.{Follows, oneBytes}
 use Rattle.answered.proofs.Answers.{refusal-read, settled-read}
-use Rattle.siltbrow.proofs.PartsDemands as demands
+use Rattle.answered.proofs.Parts as parting
 
 -- the part count of the second answer in the place of the first one's, which is 0
 joint-bytes : (a : Answer) (q : PartsAnswer) → written (answerBytes a) 12 (drop 8 (partsAnswerBytes q)) ≡ oneBytes (together a q)
@@ -69,7 +69,7 @@ module _ (c : Call) (E : Completed c) (accepted : refusal c ≡ 0) (p : PartsCal
   parts-answer-is = F .0 .answered (F .1) .2 ∙ ap (λ (x : PartsAnswer). partsAnswerBytes x) q-is
 
   q-refusal : partsRefusal p ≡ q .refusal
-  q-refusal = ap (λ (s : List ℕ). be32 s 0) parts-answer-is ∙ demands.refusal-read q
+  q-refusal = ap (λ (s : List ℕ). be32 s 0) parts-answer-is ∙ parting.refusal-read q
 
   -- l is the order of settling
   module _ (l : List Settled) (O : Orders c l) where
@@ -104,7 +104,7 @@ module _ (c : Call) (E : Completed c) (accepted : refusal c ≡ 0) (p : PartsCal
         → (partsCount p ≡ length (partList (read c) Q (S c l))) × (p .parts ≡ filled parts (flatMap partBytes (partList (read c) Q (S c l))))
     unfolding together oneRunAfter
     parts-are e = (
-      ap (λ (s : List ℕ). be32 s 8) parts-answer-is ∙ demands.count-read q ∙ ap (λ (x : OneAnswer). x .partCount) (both e),
+      ap (λ (s : List ℕ). be32 s 8) parts-answer-is ∙ parting.count-read q ∙ ap (λ (x : OneAnswer). x .partCount) (both e),
       parts-bytes ∙ ap (λ (x : OneAnswer). x .parts) (both e),
     )
 

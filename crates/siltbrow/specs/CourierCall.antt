@@ -10,7 +10,8 @@ use Rattle.journeys.specs.Parts.{Part}
 use Rattle.journeys.specs.Lists.{settledIn}
 use Rattle.journeys.specs.PartAnswers.{partsTables}
 use Rattle.journeys.specs.CourierParts.{partList}
-use Rattle.journeys.specs.CourierPartAnswers.{CourierPartsLent}
+use Rattle.journeys.specs.CourierPartAnswers.{CourierPartsLent, courierPartsEarly}
+use Rattle.answered.specs.PartsOver.{PartsOver, Lacking}
 use Rattle.siltbrow.specs.PartsRan.{CourierPartsRan}
 
 pub record CourierPartsCall : Type 0 where
@@ -43,3 +44,19 @@ courierRead c = partsTables (c .lent .lent)
 
 abbrev pub courierParts : CourierPartsCall → List Part
 courierParts c = partList (courierRead c) (c .query) (settledIn (c .lent .lent .list))
+
+-- the call as one for the parts of a settled list, in whichever direction
+abbrev pub courierOver : CourierPartsCall → PartsOver
+courierOver c =
+    record {
+      partsOf = partList (courierRead c) (c .query);
+      early = courierPartsEarly (c .lent) (c .query);
+      list = c .lent .lent .list;
+      parts = c .lent .lent .parts;
+      parts-after = c .parts;
+      answer = c .answer;
+    }
+
+-- the parts of step 0 and of the first k entries are more than the buffer can take, and k is the first such number
+abbrev pub CourierLacks : CourierPartsCall → ℕ → Type 0
+CourierLacks c = Lacking (partList (courierRead c) (c .query)) (c .lent .lent .list) (c .lent .lent .parts)

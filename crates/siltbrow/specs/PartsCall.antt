@@ -1,13 +1,14 @@
 -- A call of `siltbrow_parts` by name: what it is lent, and what it leaves. The theorems on parts speak of it. Assumes nothing.
 use mathlib.Core.Path.{_≡_}
 use mathlib.Core.List.{List}
-use Prim.Native.Nat.{ℕ, _/_, _≤_, _<_}
+use Prim.Native.Nat.{ℕ}
 use lib.ListN.{length}
 use Rattle.journeys.specs.Bytes.{be32}
 use Rattle.journeys.specs.Query.{Query}
 use Rattle.journeys.specs.Parts.{Part, partList}
 use Rattle.journeys.specs.Lists.{settledIn}
-use Rattle.journeys.specs.PartAnswers.{PartsLent, partsTables, partsTo, PartsRoom}
+use Rattle.journeys.specs.PartAnswers.{PartsLent, partsTables, partsEarly}
+use Rattle.answered.specs.PartsOver.{PartsOver, Lacking}
 use Rattle.siltbrow.specs.PartsRan.{PartsRan}
 
 pub record PartsCall : Type 0 where
@@ -38,8 +39,18 @@ partsCount c = be32 (c .answer) 8
 abbrev pub theParts : PartsCall → List Part
 theParts c = partList (partsTables (c .lent)) (c .query) (settledIn (c .lent .list))
 
+-- the call as one for the parts of a settled list, in whichever direction
+abbrev pub partsOver : PartsCall → PartsOver
+partsOver c =
+    record {
+      partsOf = partList (partsTables (c .lent)) (c .query);
+      early = partsEarly (c .lent) (c .query);
+      list = c .lent .list;
+      parts = c .lent .parts;
+      parts-after = c .parts;
+      answer = c .answer;
+    }
+
 -- the parts of step 0 and of the first k entries are more than the buffer can take, and k is the first such number
-pub record Lacks (b : PartsLent) (Q : Query) (k : ℕ) : Type 0 where
-  pub listed : k ≤ length (b .list) / 8
-  pub over : length (b .parts) / 12 < length (partsTo b Q k)
-  pub before : (j : ℕ) → j < k → PartsRoom b Q j
+abbrev pub Lacks : PartsLent → Query → ℕ → Type 0
+Lacks b Q = Lacking (partList (partsTables b) Q) (b .list) (b .parts)

@@ -1,17 +1,13 @@
 -- What the call for parts answers and leaves in every lent byte. Assumes nothing.
 use mathlib.Core.Path.{_≡_}
 use mathlib.Core.Logic.{_≢_}
-use mathlib.Core.List.{List, _++_}
+use mathlib.Core.List.{List}
 use Prim.Native.Nat.{ℕ}
 use lib.ListN.{length}
-use Rattle.journeys.specs.Bytes.{word}
 use Rattle.journeys.specs.Query.{Query}
 use Rattle.journeys.specs.PartAnswers.{PartsLent, PartsAnswer, partsAnswer}
 use Rattle.journeys.specs.CourierPartAnswers.{CourierPartsLent, courierPartsAnswer}
-
--- the 12 bytes of an answer
-abbrev pub partsAnswerBytes : PartsAnswer → List ℕ
-partsAnswerBytes a = word (a .refusal) ++ word (a .place) ++ word (a .partCount)
+pub use Rattle.answered.specs.PartsOver.{partsAnswerBytes}
 
 -- `slice` is the answer slice as it was lent, `buffer` the part buffer, and behind them stand the two after the call. A slice that is not 12 bytes gets nothing,
 -- and then the part buffer gets nothing either; in 12 bytes stands the answer `a`, and in the part buffer what goes with it.

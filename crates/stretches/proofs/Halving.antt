@@ -1,5 +1,5 @@
 -- The search by halves in the right list. Assumes nothing.
-use mathlib.Core.Path.{_≡_, refl, sym, ap, ap₂, _∙_}
+use mathlib.Core.Path.{_≡_, sym, ap, ap₂, subst, _∙_}
 use mathlib.Core.Logic.{_⊎_, inl, inr, ⊎-elim}
 use mathlib.Core.List.{List}
 use Prim.Native.Nat.{ℕ, zero, suc, _+_, _-_, _*_, _/_, _<_, _≤_}
@@ -8,24 +8,24 @@ use lib.ListN.{length}
 use Rattle.journeys.specs.Bytes.{be32}
 use Rattle.journeys.proofs.Tests.{le-or-lt, last-or-below}
 use Rattle.records.specs.Columns.{recordsIn}
-use Rattle.listing.specs.Places.{total, fromOf, departingOf, sums, below, same, place, rank, Sound}
-use Rattle.listing.proofs.PlaceLaws.{below-next, below-grows, below-all, below-most, same-start, same-grows, same-before, rank-below, every-place}
-use Rattle.listing.proofs.Froms.{sums-step}
-use Rattle.stretches.specs.Stretch.{Right, stretchOf}
+use Rattle.starts.specs.Sums.{departingOf, sums}
+use Rattle.starts.proofs.SumLaws.{sums-step}
+use Rattle.listing.specs.Places.{total, fromOf, below, same, rank, Sound}
+use Rattle.listing.proofs.PlaceLaws.{below-next, below-grows, below-all, below-most, same-grows, rank-below, every-place}
+use Rattle.stretches.proofs.Numbers.{stretch-walks, stretch-hops}
+use Rattle.stretches.specs.Stretch.{Right, Parted, stretchOf}
 use Rattle.stretches.specs.declared.Stretch.{Stretch}
 
 abbrev stretch : ℕ → ℕ → ℕ → Stretch
 stretch first walks hops = record { first = first; walks = walks; hops = hops }
 
-module _ (F : ℕ → ℕ) (n v k : ℕ) where
-  -- before the place of record k of v stands what leaves a vertex before it, or v with a lower number
-  pub stands-before : (x : ℕ) → x < n → (F x < v) ⊎ ((F x ≡ v) × (x < k)) → rank F n x < place F n v k
-  stands-before x l (inl h) = omega (arith, rank-below F n x v l h)
-  stands-before x l (inr h) = omega (arith, ap (λ (u : ℕ). place F n u x) (h .0), same-before F v x k (h .1) (h .0))
+module _ (F : ℕ → ℕ) (n v : ℕ) where
+  -- before the numbers of v stands what leaves a vertex before it
+  pub stands-before : (x : ℕ) → x < n → F x < v → rank F n x < below F v n
+  stands-before x l h = omega (arith, rank-below F n x v l h)
 
-  pub stands-behind : k ≤ n → (x : ℕ) → x < n → (v < F x) ⊎ ((F x ≡ v) × (k ≤ x)) → place F n v k ≤ rank F n x
-  stands-behind m x l (inl h) = omega (arith, same-grows F v k n m, below-next F v n, below-grows F (suc v) (F x) n h)
-  stands-behind m x l (inr h) = omega (arith, ap (λ (u : ℕ). place F n u x) (h .0), same-grows F v k x (h .1))
+  pub stands-behind : (x : ℕ) → v ≤ F x → below F v n ≤ rank F n x
+  stands-behind x h = omega (arith, below-grows F v (F x) n h)
 
 -- some number is above all the vertices that n records leave
 above : (F : ℕ → ℕ) (n : ℕ) → (c : ℕ) × ((r : ℕ) → r < n → F r < c)
@@ -42,7 +42,7 @@ at-place {F} {n} {list} s i l =
     let e : be32 list (4 * i) ≡ p .0 = ap (λ (j : ℕ). be32 list (4 * j)) (sym (p .3)) ∙ s .stands (p .0) (p .1) in
     (omega (arith, e, p .1), ap (rank F n) e ∙ p .3)
 
--- a turn of the search: x is the number in the middle, compared with its vertex as one
+-- a turn of the search: x is the number in the middle
 module _ {F : ℕ → ℕ} {n : ℕ} {list : List ℕ} (s : Right F n list) (m x : ℕ) (l : m < n) (e : x ≡ be32 list (4 * m)) where
   pub here-low : x < n
   here-low = omega (arith, e, at-place s m l .0)
@@ -50,51 +50,72 @@ module _ {F : ℕ → ℕ} {n : ℕ} {list : List ℕ} (s : Right F n list) (m x
   here : rank F n x ≡ m
   here = ap (rank F n) e ∙ at-place s m l .1
 
-  module _ (v k : ℕ) (few : n ≤ 524288) (most : k ≤ n) where
-    pub turn-low : F x * 1048576 + x < v * 1048576 + k → m + 1 ≤ place F n v k
-    turn-low h = omega (arith, here, stands-before F n v k x here-low (go (le-or-lt v (F x))))
-      where
-        go : (v ≤ F x) ⊎ (F x < v) → (F x < v) ⊎ ((F x ≡ v) × (x < k))
-        go (inr q) = inl q
-        go (inl q) = inr (omega (arith, here-low), omega (arith, here-low))
+  pub turn-low : (v : ℕ) → F x < v → m + 1 ≤ below F v n
+  turn-low v h = omega (arith, here, stands-before F n v x here-low h)
 
-    pub turn-high : v * 1048576 + k ≤ F x * 1048576 + x → place F n v k ≤ m
-    turn-high h = omega (arith, here, stands-behind F n v k most x here-low (go (le-or-lt (F x) v)))
-      where
-        go : (F x ≤ v) ⊎ (v < F x) → (v < F x) ⊎ ((F x ≡ v) × (k ≤ x))
-        go (inr q) = inl q
-        go (inl q) = inr (omega (arith, here-low), omega (arith, here-low))
+  pub turn-high : (v : ℕ) → v ≤ F x → below F v n ≤ m
+  turn-high v h = omega (arith, here, stands-behind F n v x h)
+
+-- a turn of the search for the first hop: whatever divides the numbers lies on the side that the number in the middle tells
+module _ {list : List ℕ} {ways first end lo hi : ℕ} (low : first ≤ lo) (high : hi ≤ end) (held : (k : ℕ) → Parted list ways first end k → (lo ≤ k) × (k ≤ hi))
+    (m x : ℕ) (from : lo ≤ m) (to : m < hi) (e : x ≡ be32 list (4 * m)) where
+  pub part-low : x < ways → (k : ℕ) → Parted list ways first end k → (m + 1 ≤ k) × (k ≤ hi)
+  part-low h k p = (go (le-or-lt k m), held k p .1)
+    where
+      go : (k ≤ m) ⊎ (m < k) → m + 1 ≤ k
+      go (inr q) = omega arith
+      go (inl q) = absurd (omega (arith, p .hops m q (omega arith), e))
+
+  pub part-high : ways ≤ x → (k : ℕ) → Parted list ways first end k → (lo ≤ k) × (k ≤ m)
+  part-high h k p = (held k p .0, go (le-or-lt k m))
+    where
+      go : (k ≤ m) ⊎ (m < k) → k ≤ m
+      go (inl q) = q
+      go (inr q) = absurd (omega (arith, p .walks m (omega arith) q, e))
 
 -- ---- the three numbers of a stretch
 module _ (size : ℕ) (v w h : List ℕ) (ok : Sound size v w h) (u : ℕ) where
+  abbrev pub F : ℕ → ℕ
+  F = fromOf size w h
+
+  abbrev pub n : ℕ
+  n = total size w h
+
   -- the vertex's own record tells how many leave it
-  pub as-many : departingOf v u ≡ same (fromOf size w h) u (total size w h)
+  pub as-many : departingOf v u ≡ same F u n
   as-many =
       let next : sums v u + departingOf v u ≡ sums v (suc u) = sums-step v u in
-      omega (arith, next, ok .counted u, ok .counted (suc u), below-next (fromOf size w h) u (total size w h))
+      omega (arith, next, ok .counted u, ok .counted (suc u), below-next F u n)
 
-  pub begins : place (fromOf size w h) (total size w h) u 0 ≡ below (fromOf size w h) u (total size w h)
-  begins = omega (arith, same-start (fromOf size w h) u)
+  module _ (first departing : ℕ) (f : first ≡ below F u n) (d : departing ≡ departingOf v u) where
+    pub end-low : first + departing ≤ n
+    end-low = omega (arith, f, d, as-many, below-next F u n, below-most F (suc u) n)
 
-  pub begins-low : place (fromOf size w h) (total size w h) u 0 ≤ total size w h
-  begins-low = omega (arith, begins, below-most (fromOf size w h) u (total size w h))
+    -- where its walks end
+    abbrev pub middle : ℕ
+    middle = below F u n + same F u (recordsIn 16 w)
 
-  module _ (first departing : ℕ) (f : first ≡ place (fromOf size w h) (total size w h) u 0) (d : departing ≡ departingOf v u) where
-    end-is : first + departing ≡ below (fromOf size w h) (suc u) (total size w h)
-    end-is = omega (arith, f, d, begins, as-many, below-next (fromOf size w h) u (total size w h))
+    walks-few : recordsIn 16 w ≤ n
+    walks-few = omega arith
 
-    pub end-low : first + departing ≤ total size w h
-    end-low = omega (arith, end-is, below-most (fromOf size w h) (suc u) (total size w h))
+    pub middle-in : (first ≤ middle) × (middle ≤ first + departing)
+    middle-in = (omega (arith, f), omega (arith, f, d, as-many, same-grows F u (recordsIn 16 w) n walks-few))
 
-    pub middle-in : (first ≤ place (fromOf size w h) (total size w h) u (recordsIn 16 w)) × (place (fromOf size w h) (total size w h) u (recordsIn 16 w) ≤ first + departing)
-    middle-in =
-        let walks : recordsIn 16 w ≤ total size w h = omega arith in
-        (omega (arith, f, begins), omega (arith, f, d, begins, as-many, same-grows (fromOf size w h) u (recordsIn 16 w) (total size w h) walks))
+    pub parts-there : {list : List ℕ} → Right F n list → Parted list (recordsIn 16 w) first (first + departing) middle
+    parts-there {list} s = record {
+      begins = middle-in .0;
+      ends = middle-in .1;
+      walks = λ i a b.
+          let e : below F u n + (i - below F u n) ≡ i = omega (arith, f) in
+          subst (λ (j : ℕ). be32 list (4 * j) < recordsIn 16 w) e (stretch-walks s u (recordsIn 16 w) (i - below F u n) walks-few (omega (arith, f)));
+      hops = λ i a b.
+          let e : below F u n + (i - below F u n) ≡ i = omega (arith, f) in
+          subst (λ (j : ℕ). recordsIn 16 w ≤ be32 list (4 * j)) e (stretch-hops s u (recordsIn 16 w) (i - below F u n) (omega (arith, f)) (omega (arith, f, d, as-many)));
+    }
 
-    pub found : (middle : ℕ) → middle ≡ place (fromOf size w h) (total size w h) u (recordsIn 16 w) → stretch first (middle - first) (first + departing - middle) ≡ stretchOf size w h u
-    found middle m =
-        let a : first ≡ below (fromOf size w h) u (total size w h) = f ∙ begins in
-        let b : middle - first ≡ same (fromOf size w h) u (recordsIn 16 w) = omega (arith, m, a) in
-        let c : first + departing - middle ≡ same (fromOf size w h) u (total size w h) - same (fromOf size w h) u (recordsIn 16 w) = omega (arith, m, a, d, as-many) in
-        ap (λ (z : ℕ). stretch z (middle - first) (first + departing - middle)) a
-        ∙ ap₂ (stretch (below (fromOf size w h) u (total size w h))) b c
+    pub found : (m : ℕ) → m ≡ middle → stretch first (m - first) (first + departing - m) ≡ stretchOf size w h u
+    found m e =
+        let b : m - first ≡ same F u (recordsIn 16 w) = omega (arith, e, f) in
+        let c : first + departing - m ≡ same F u n - same F u (recordsIn 16 w) = omega (arith, e, f, d, as-many) in
+        ap (λ (z : ℕ). stretch z (m - first) (first + departing - m)) f
+        ∙ ap₂ (stretch (below F u n)) b c

@@ -86,7 +86,7 @@ vertex-records-requires c κs =
     let a = s .args in (
       s .pre .0,
       (
-        (s .pre .1, w .table-faults .ensures .1 .1 (two .if1 .left)),
+        (s .pre .1 .0, w .table-faults .ensures .1 .1 (two .if1 .left), s .pre .1 .1),
         passed (a .hop-size) (now (a .vertices)) (now (a .walks)) (now (a .hops)) (none (w .table-faults .ensures .0) (two .if1 .left)) (none (h .table-faults2 .ensures .0) (three .if2 .left))
             (none (w .table-faults .ensures .1 .0 (two .if1 .left)) (four .if3 .left)) (none (h .table-faults2 .ensures .1 .0 (three .if2 .left)) (five .if4 .left)),
       ),

@@ -11,23 +11,29 @@ use borrow.Author.Needs.{needs}
 use Rattle.audit.proofs.vertex_records.Statement.{statement}
 use Rattle.audit.proofs.vertex_records.Tie as tie
 
+judge-counted-requires : tie.Need-judge-counted-requires
+judge-counted-requires c κs =
+    let s = c .before .before .before .before .before in
+    let ok = s .pre .1 .1 in
+    (s .pre .0, ((ok .walks-ascend, ok .hops-ascend), s .pre .1 .0 .2 (c .if1 .taken)))
+
 sure-requires : tie.Need-sure-requires
 sure-requires c κs =
-    let s = c .before .before .before .before .before in
+    let s = c .before .before .before .before .before .before in
     let ok = s .pre .1 .1 in
     ((s .pre .0 .vertices-most, s .pre .0 .walks-most, s .pre .1 .0 .0), ((ok .walks-ascend, ok .hops-ascend, s .pre .0 .hop-fits), (ok .walks-good, s .pre .1 .0 .1)))
 
-returns : tie.Need-returns
-returns c =
+returns-2 : tie.Need-returns-2
+returns-2 c =
     let call = c .before .before .before .before in
-    let a = call .before .before .before .before .before .before .args in
+    let a = call .before .before .before .before .before .before .before .args in
     let n = length (now (a .vertices)) / 12 in
-    c .fine .ensures ∙ sym (all-good (tablesOf (a .hop-size) (now (a .vertices)) (now (a .walks)) (now (a .hops))) n (λ v l. call .sure .ensures .1 v (omega (arith, c .before .if1 .taken))))
+    c .fine .ensures ∙ sym (all-good (tablesOf (a .hop-size) (now (a .vertices)) (now (a .walks)) (now (a .hops))) n (λ v l. call .sure .ensures .1 v (omega (arith, c .before .if2 .taken))))
 
 note-ranges-requires : tie.Need-note-ranges-requires
 note-ranges-requires c κs =
     let call = c .before .before .before .before in
-    let s = call .before .before .before .before .before .before in
+    let s = call .before .before .before .before .before .before .before in
     let a = s .args in
     let few = s .pre .0 in
     let ok = s .pre .1 .1 in (
@@ -42,7 +48,7 @@ blocks-requires : tie.Need-blocks-requires
 blocks-requires c κs =
     let noted = c .before .before .before in
     let call = noted .before .before .before .before .before in
-    let s = call .before .before .before .before .before .before in
+    let s = call .before .before .before .before .before .before .before in
     let ok = s .pre .1 .1 in (
       s .pre .0,
       (
@@ -58,10 +64,12 @@ pub vertex-records-spec : {M : Type 1} → statement M
 vertex-records-spec =
     tie.close
     (tie.spec
+    judge-counted-requires
+    (λ c. c .judge-counted .ensures)
     sure-requires
     (λ c κs. search needs)
     (λ c. search needs)
-    returns
+    returns-2
     note-ranges-requires
     blocks-requires
     (λ c. search needs)

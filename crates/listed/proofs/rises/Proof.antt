@@ -8,7 +8,7 @@ use lib.ListN.{length}
 use Rattle.journeys.proofs.Tests.{never}
 use Rattle.listing.specs.Places.{total, fromOf}
 use Rattle.listed.specs.Stretches.{Rising}
-use Rattle.listed.proofs.Judging.{rising-none, rising-more, rising-all}
+use Rattle.listed.proofs.Judging.{rising-none, rising-more}
 use Rattle.listed.proofs.rises.Statement.{statement}
 use Rattle.listed.proofs.rises.Tie as tie
 
@@ -20,7 +20,7 @@ abbrev μ-loop : tie.MeasureT-loop
 μ-loop walks hops hop-size list v first end n low₀ i₀ low i = end - i
 
 loop-holds : tie.Need-loop-holds Inv-loop μ-loop
-loop-holds c = let s = c .before .before .before in (omega arith, omega (arith, s .pre .1 .1), rising-none _ _ _ _ _)
+loop-holds c = let s = c .before .before .before in (omega arith, s .pre .1, rising-none _ _ _ _ _)
 
 word-at-requires : tie.Need-word-at-requires Inv-loop μ-loop
 word-at-requires c κs = let s = c .before .before .before .before .before in omega (arith, s .pre .0 .2, s .pre .0 .3, c .loop-test .taken)
@@ -61,7 +61,7 @@ returns-4 c =
     let s = c .before .before .before .before .before in
     let i = c .before .loop .inv in
     let e : c .before .loop .i ≡ s .args .end = omega (arith, i .1, c .loop-test .left) in
-    λ _. rising-all _ _ _ _ _ (s .pre .1 .0) (s .pre .1 .1) (rw e at (i .2))
+    λ _. record { low = c .before .loop .low; rising = rw e at (i .2) }
 
 pub rises-spec : {M : Type 1} → statement M
 rises-spec =

@@ -1,7 +1,9 @@
 -- `courier_list`: the refusals in their order, and then the list. Assumes nothing.
 use borrow.Author.Needs.{needs}
-use mathlib.Core.Path.{_≡_, sym, _∙_}
+use mathlib.Core.Path.{_≡_, sym, ap, _∙_}
+use Prim.Native.Nat.{ℕ}
 use native.Mathlib.Omega.{arith}
+use lib.ListN.{length, length-replicate}
 use denote.Ref.{now}
 use Rattle.journeys.proofs.Valid.{size-fits, lengths-valid}
 use Rattle.audit.proofs.Scan.{same-number}
@@ -40,16 +42,25 @@ returns-3 c =
 
 make-requires : tie.Need-make-requires
 make-requires c κs =
-    let a = c .before .before .before .before .before .before .before .before .before .before .before .before .before .before .before .before .args in
-    let one = sym (same-number (c .before .before .before .before .before .before .before .before .before .before .before .lengths .ensures)) ∙ c .before .before .before .before .before .before .before .before .before .if1 .left in
-    let two = sym (same-number (c .before .before .before .contents .ensures .0)) ∙ c .before .if3 .left in
-    ((omega (arith, size-fits (a .hop-size) (now (a .vertices)) (now (a .walks)) (now (a .hops)) one), lengths-valid (a .hop-size) (now (a .vertices)) (now (a .walks)) (now (a .hops)) one two), length-is (a .hop-size) (now (a .vertices)) (now (a .walks)) (now (a .hops)) (now (a .list)) (sym (same-number (c .before .before .before .before .before .before .before .list-length .ensures)) ∙ c .before .before .before .before .before .if2 .left))
+    let told = c .before .before .before .before in
+    let two = c .before .before .before .before .before .before in
+    let one = c .before .before .before .before .before .before .before .before .before .before in
+    let a = c .before .before .before .before .before .before .before .before .before .before .before .before .before .before .before .before .before .args in
+    let uneven = sym (same-number (c .before .before .before .before .before .before .before .before .before .before .before .before .lengths .ensures)) ∙ one .if1 .left in
+    let bad = sym (same-number (told .contents .ensures .0)) ∙ c .before .before .if3 .left in (
+      (omega (arith, size-fits (a .hop-size) (now (a .vertices)) (now (a .walks)) (now (a .hops)) uneven), lengths-valid (a .hop-size) (now (a .vertices)) (now (a .walks)) (now (a .hops)) uneven bad),
+      (
+        length-is (a .hop-size) (now (a .vertices)) (now (a .walks)) (now (a .hops)) (now (a .list)) (sym (same-number (c .before .before .before .before .before .before .before .before .list-length .ensures)) ∙ two .if2 .left),
+        ap length (told .contents .ensures .1) ∙ length-replicate {A = ℕ} 2048 0,
+      ),
+    )
 
 returns-4 : tie.Need-returns-4
 returns-4 c =
-    let a = c .before .before .before .before .before .before .before .before .before .before .before .before .before .before .before .before .before .before .before .args in
-    let e = by-contents (a .hop-size) (now (a .vertices)) (now (a .walks)) (now (a .hops)) (now (a .list)) (sym (same-number (c .before .before .before .before .before .before .before .before .before .before .before .before .before .before .lengths .ensures)) ∙ c .before .before .before .before .before .before .before .before .before .before .before .before .if1 .left) (sym (same-number (c .before .before .before .before .before .before .before .before .before .before .list-length .ensures)) ∙ c .before .before .before .before .before .before .before .before .if2 .left) (c .before .before .before .before .before .before .contents .ensures .0) in
-    (e, (c .before .before .make .ensures ∙ made-by (a .hop-size) (now (a .vertices)) (now (a .walks)) (now (a .hops)) (now (a .list)) e (c .before .before .before .before .if3 .left), c .before .before .before .before .before .before .contents .ensures .1))
+    let told = c .before .before .before .before .before .before .before .before .before in
+    let a = c .before .before .before .before .before .before .before .before .before .before .before .before .before .before .before .before .before .before .before .before .before .before .args in
+    let e = by-contents (a .hop-size) (now (a .vertices)) (now (a .walks)) (now (a .hops)) (now (a .list)) (sym (same-number (c .before .before .before .before .before .before .before .before .before .before .before .before .before .before .before .before .before .lengths .ensures)) ∙ c .before .before .before .before .before .before .before .before .before .before .before .before .before .before .before .if1 .left) (sym (same-number (c .before .before .before .before .before .before .before .before .before .before .before .before .before .list-length .ensures)) ∙ c .before .before .before .before .before .before .before .before .before .before .before .if2 .left) (told .contents .ensures .0) in
+    (e, (c .before .before .before .before .make .ensures .0 ∙ made-by (a .hop-size) (now (a .vertices)) (now (a .walks)) (now (a .hops)) (now (a .list)) e (c .before .before .before .before .before .before .before .if3 .left), c .clear3 .ensures))
 
 pub courier-list-spec : {M : Type 1} → statement M
 courier-list-spec =
@@ -66,5 +77,6 @@ courier-list-spec =
     (λ c. search needs)
     returns-3
     make-requires
+    (λ c κs. search needs)
     (λ c. search needs)
     returns-4)
