@@ -2,6 +2,7 @@
 //! many vertices it holds. Both are called in the same way, by `Program`, and
 //! every answer of the one is held against the other's.
 
+pub mod boardings;
 pub mod bought;
 pub mod checks;
 pub mod clock;

@@ -16,6 +16,8 @@ macro_rules! declared {
 
 outside::calls!(declared);
 outside::courier_calls!(declared);
+#[cfg(boarding_call)]
+outside::boarding_calls!(declared);
 
 extern "C" {
     fn siltbrow_frame(
@@ -215,6 +217,20 @@ impl Courier for Linked {
                 answer.len(),
             )
         }
+    }
+}
+
+#[cfg(boarding_call)]
+impl boarding::call::Program for Linked {
+    fn run(&self, tables: Tables, q: Query, boarding: u32, limit: u32, lent: boarding::call::Lent, answer: &mut [u8]) -> u32 {
+        let boarding::call::Lent { settled, scratch } = lent;
+        call!(
+            siltbrow_run_boarding,
+            tables,
+            [q.record, q.offset, q.arrival, q.duration, q.speed, boarding, limit],
+            [],
+            [settled, scratch, answer]
+        )
     }
 }
 

@@ -1,5 +1,5 @@
 //! `bench speed ROUNDS [PAGE]`, `bench evening ROUNDS`, `bench timetable ROUNDS`,
-//! `bench courier ROUNDS` and `bench figures PAGE FOLDER`.
+//! `bench courier ROUNDS`, `bench boarding ROUNDS` and `bench figures PAGE FOLDER`.
 
 mod linked;
 
@@ -16,6 +16,7 @@ const USAGE: &str = "usage:
   bench evening ROUNDS          the evening load alone
   bench timetable ROUNDS        the reader of timetables alone
   bench courier ROUNDS          the courier alone
+  bench boarding ROUNDS         the run with a boarding time alone
   bench figures PAGE FOLDER     how many vertices are held, as numbers and pictures";
 
 /// The product is for x86-64; elsewhere its module is compiled once more.
@@ -35,6 +36,7 @@ fn main() -> ExitCode {
         ["evening", rounds] => counted(rounds).and_then(evening),
         ["timetable", rounds] => counted(rounds).and_then(timetable),
         ["courier", rounds] => counted(rounds).and_then(courier),
+        ["boarding", rounds] => counted(rounds).and_then(boarding),
         ["figures", page, folder] => draw(page, folder),
         _ => Err(USAGE.to_string()),
     };
@@ -89,6 +91,25 @@ fn courier(rounds: usize) -> Result<(), String> {
     Ok(())
 }
 
+/// The rows of the run with a boarding time; none before the header declares it.
+#[cfg(boarding_call)]
+fn boarding_table(rounds: usize) -> Result<Option<String>, String> {
+    bench::boardings::table(&Linked, rounds).map(Some)
+}
+
+#[cfg(not(boarding_call))]
+fn boarding_table(_: usize) -> Result<Option<String>, String> {
+    Ok(None)
+}
+
+/// Prints the rows of the run with a boarding time.
+fn boarding(rounds: usize) -> Result<(), String> {
+    let heading = heading(rounds);
+    let table = boarding_table(rounds)?.ok_or("include/siltbrow.h does not declare siltbrow_run_boarding yet")?;
+    print!("{heading}\n{table}");
+    Ok(())
+}
+
 /// Prints the times; puts them in a page where one is named, and the picture of
 /// growth in the folder `figures` beside it.
 fn measure(rounds: usize, page: Option<&str>) -> Result<(), String> {
@@ -114,6 +135,9 @@ fn measure(rounds: usize, page: Option<&str>) -> Result<(), String> {
         timetables::table(&Linked, rounds)?,
         couriers::table(&Linked, &Linked, rounds)?,
     ]
+    .into_iter()
+    .chain(boarding_table(rounds)?)
+    .collect::<Vec<_>>()
     .join("\n");
     let report = format!("{report}\n{}", verdict(&report));
     print!("{report}");

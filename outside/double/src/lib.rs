@@ -2,8 +2,9 @@
 //! that driver and judge work, and says nothing about the library. With
 //! OUTSIDE_MUTANT set it answers as that wrong version does; with TIMETABLE_WRONG
 //! it reads timetables as that wrong version of their reader; with COURIER_WRONG the
-//! courier is that wrong version.
+//! courier is that wrong version, with BOARDING_WRONG the run with a boarding time.
 
+use boarding::call::{Lent as Boarded, Program as Boarding};
 use courier::call::Program as Courier;
 use courier::quick::Quick;
 use courier::wrong;
@@ -195,6 +196,28 @@ impl<'a> Call<'a> {
         }
     }
 
+    /// What the quick run with a boarding time returns, or the wrong version of it that is asked for.
+    unsafe fn boarding(&self) -> u32 {
+        match boarding::wrong::Wrong::from_environment() {
+            Ok(None) => self.boarded(boarding::quick::Quick(boarding::wrong::Sound)),
+            Ok(Some(version)) => self.boarded(boarding::quick::Quick(version)),
+            Err(message) => {
+                eprintln!("double: {message}");
+                std::process::exit(2)
+            }
+        }
+    }
+
+    unsafe fn boarded<B: Boarding>(&self, program: B) -> u32 {
+        let lent = Boarded {
+            settled: self.write("settled"),
+            scratch: self.write("scratch"),
+        };
+        let (boarding, limit) = (self.number("boarding"), self.number("limit"));
+        let answer = self.write("answer");
+        program.run(self.tables(), self.query(), boarding, limit, lent, answer)
+    }
+
     unsafe fn carried<C: Courier>(&self, courier: C) -> u64 {
         let tables = self.tables();
         if self.name == "courier_list" {
@@ -266,6 +289,7 @@ unsafe fn answered(name: &str, given: &[(&'static str, Given)]) -> u64 {
     let returned = match Mutant::from_environment() {
         _ if name == "timetable" => call.timetable().into(),
         _ if name.starts_with("courier") => call.courier(),
+        _ if name == "run_boarding" => call.boarding().into(),
         Ok(None) => call.by(Fast(Sound)),
         Ok(Some(mutant)) => call.by(Fast(mutant)),
         Err(message) => {
@@ -290,6 +314,7 @@ macro_rules! exported {
 
 outside::calls!(exported);
 outside::courier_calls!(exported);
+outside::boarding_calls!(exported);
 
 exported! { siltbrow_timetable(
     stop_times: *const u8, stop_times_len: usize, stops: *const u8, stops_len: usize, trips: *const u8, trips_len: usize,

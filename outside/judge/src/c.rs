@@ -61,3 +61,16 @@ macro_rules! courier_calls {
         ) -> u32 }
     };
 }
+
+/// The same of the run with a boarding time.
+#[rustfmt::skip]
+#[macro_export]
+macro_rules! boarding_calls {
+    ($make:ident) => {
+        $make! { siltbrow_run_boarding(
+            vertices: *const u8, vertices_len: usize, walks: *const u8, walks_len: usize, hops: *const u8, hops_len: usize, hop_size: u32,
+            record: u32, offset: u32, arrival: i32, duration: u32, speed: u32, boarding: u32, limit: u32,
+            settled: *mut u8, settled_len: usize, scratch: *mut u8, scratch_len: usize, answer: *mut u8, answer_len: usize
+        ) -> u32 }
+    };
+}

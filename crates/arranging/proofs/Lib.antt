@@ -1,0 +1,12 @@
+pub mod WordLaws
+pub mod RankLaws
+pub mod StretchLaws
+pub mod RankedWords
+pub mod SinkLaws
+pub mod PartLaws
+pub mod BetweenLaws
+pub mod LayLaws
+pub mod WrittenStretch
+pub mod RunsOfTables
+pub mod Determined
+pub mod Staying

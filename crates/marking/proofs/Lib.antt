@@ -1,0 +1,4 @@
+pub mod Carrying
+pub mod Hops
+pub mod Pushing
+pub mod Moving

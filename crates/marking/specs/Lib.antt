@@ -1,0 +1,4 @@
+pub mod Setting
+pub mod Carried
+pub mod Pends
+pub mod Moves

@@ -1,0 +1,2 @@
+pub mod Offered
+pub mod Along

@@ -1,0 +1,3 @@
+pub mod Staying
+pub mod Following
+pub mod Turning

@@ -1,0 +1,2 @@
+pub mod AsDefined
+pub mod Determined
