@@ -3,7 +3,7 @@
 # make lib: the library for C. make install PREFIX=..: library, header and siltbrow.pc there.
 # make soak: millions of cases through the C calls, SEED=.. CASES=.. if given. It prints the seed: with it a failure comes again.
 # make fuzz: damaged tables, queries, rooms and jobs for an hour, SEED=.. SECONDS=.. if given.
-# make edits: the wrong programs that the gate leaves out, CRATES=.. if given; all take about half an hour.
+# make edits: the wrong programs that the gate leaves out, CRATES=.. if given; all take more than an hour.
 # make bench: the library's times beside those of two programs in Rust, and whether it bears the evening load. make figures: how many vertices it holds, into docs/.
 PREFIX = /usr/local
 INTO = $(DESTDIR)$(abspath $(PREFIX))
