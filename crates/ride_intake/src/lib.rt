@@ -16,14 +16,10 @@ ghost use Rattle.records.specs.Asked.{queryOf};
 ghost use Rattle.boarding.specs.RideAnswers.{rideEarly};
 ghost use Rattle.ride_intake.specs.Lending.{rideLent};
 
-// Refusal 1: the lengths of the tables, then that of the list's buffer.
-fn length_fault(vertices: &[u8], walks: &[u8], hops: &[u8], hop_size: usize, settled: &[u8]) -> Refusal
-    ensures { λ r. ⌜ told r ≡ chain (tableLengths «hop_size» (now (vertices .entry)) (now (walks .entry)) (now (hops .entry)) ∷ unless (wholeOf 8 (now (settled .entry))) 1 4 ∷ []) ⌝ }
+// Refusal 1, place 4: the list's buffer is a whole number of records.
+fn list_fault(settled: &[u8]) -> Refusal
+    ensures { λ r. ⌜ told r ≡ unless (wholeOf 8 (now (settled .entry))) 1 4 ⌝ }
 {
-    let uneven = audit::lengths(vertices, walks, hops, hop_size);
-    if uneven.number != 0 {
-        return uneven;
-    }
     if settled.len() % 8 != 0 {
         return refused(1, 4);
     }
@@ -31,14 +27,22 @@ fn length_fault(vertices: &[u8], walks: &[u8], hops: &[u8], hop_size: usize, set
 }
 
 // Refusal 7, place 5, and 18: the boarding time is at most 600 s, and the scratch has 4 bytes for each hop.
-fn mode_fault(vertices: &[u8], walks: &[u8], hops: &[u8], hop_size: usize, scratch: &[u8], boarding: u32) -> Refusal
+fn mode_fault(
+    vertices: &[u8],
+    walks: &[u8],
+    hops: &[u8],
+    hop_size: usize,
+    scratch: &[u8],
+    boarding: u32,
+) -> Refusal
     requires { ⌜ tableLengths «hop_size» (now vertices) (now walks) (now hops) .number ≡ 0 ⌝ }
     ensures { λ r. ⌜ told r ≡ chain (unless (leb boarding 600) 7 5 ∷ unless (leb (4 * hopCount (tablesOf «hop_size» (now (vertices .entry)) (now (walks .entry)) (now (hops .entry)))) (length (now (scratch .entry)))) 18 0 ∷ []) ⌝ }
 {
+    let enough = 4 * (hops.len() / hop_size) <= scratch.len();
     if 600 < boarding {
         return refused(7, 5);
     }
-    if scratch.len() < 4 * (hops.len() / hop_size) {
+    if !enough {
         return refused(18, 0);
     }
     words::fine()
@@ -57,7 +61,11 @@ pub fn ride_fault(
 ) -> Refusal
     ensures { λ r. ⌜ told r ≡ rideEarly (rideLent (now (vertices .entry)) (now (walks .entry)) (now (hops .entry)) «hop_size» (now (settled .entry)) (now (scratch .entry))) (queryOf q) boarding ⌝ }
 {
-    let cut = length_fault(vertices, walks, hops, hop_size, settled);
+    let uneven = audit::lengths(vertices, walks, hops, hop_size);
+    if uneven.number != 0 {
+        return uneven;
+    }
+    let cut = list_fault(settled);
     if cut.number != 0 {
         return cut;
     }
