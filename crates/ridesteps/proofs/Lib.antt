@@ -1,2 +1,3 @@
 pub mod Settling
 pub mod OneStep
+pub mod Riding

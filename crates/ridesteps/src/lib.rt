@@ -65,3 +65,55 @@ fn step(
         r,
     )
 }
+
+// Steps up to the limit: as many as it and the order allow, or the first for which the list has no room.
+pub fn steps(
+    vertices: &[u8],
+    walks: &[u8],
+    hops: &[u8],
+    a: Asked,
+    set: &mut [u16],
+    table: &mut [u8],
+    marks: &mut [u16],
+    stack: &mut [u32],
+    scratch: &[u8],
+    settled: &mut [u8],
+    start: Pending,
+    limit: u32,
+) -> Ridden
+    requires { ⌜ Judged (now vertices) (now walks) (now hops) a × Sorted (now vertices) (now hops) a (now scratch) ⌝ }
+    requires { ⌜ Opened (tables (now vertices) (now walks) (now hops) a) (query a) (mode (now hops) a) (now set) (state start (now table) (now marks) (now stack)) ⌝ }
+    ensures { λ r. ⌜ RidesEnd (tables (now (vertices .entry)) (now (walks .entry)) (now (hops .entry)) a) (query a) (mode (now (hops .entry)) a) (length (now (settled .entry))) limit (now (settled .exit)) r ⌝ }
+{
+    let mut p = start;
+    let mut n: usize = 0;
+    while n < limit as usize {
+        let Nearest::At(slot, x, d) = stepping::next(table, p.table, a.allowed) else {
+            return Ridden::Done(n, 1);
+        };
+        if n == settled.len() / 8 {
+            return Ridden::Full(n + 1);
+        }
+        records::add_settled(settled, n, x as u32, Ticks(d));
+        p = step(
+            vertices,
+            walks,
+            hops,
+            a,
+            set,
+            table,
+            marks,
+            stack,
+            scratch,
+            p,
+            x,
+            slot,
+            d,
+        );
+        n += 1;
+    }
+    match stepping::next(table, p.table, a.allowed) {
+        Nearest::At(_, _, _) => Ridden::Done(n, 0),
+        Nearest::Nothing => Ridden::Done(n, 1),
+    }
+}
