@@ -2,15 +2,15 @@
 use mathlib.Core.Path.{_≡_, refl, sym, ap, subst, fun-ext, _∙_}
 use mathlib.Core.Logic.{_⊎_, inl, inr}
 use mathlib.Core.Bool.{Bool, true, cond}
-use mathlib.Core.List.{List, [], _∷_, _++_}
+use mathlib.Core.List.{List, [], _∷_}
 use Prim.Native.Nat.{ℕ, suc, _≤_, _<_}
 use native.Mathlib.Omega.{arith}
 use lib.ListN.{length, take}
 use borrow.Author.Tests.{eq-eqb}
 use Rattle.journeys.specs.Counting.{none, In}
-use Rattle.journeys.specs.Tables.{Tables, hop, vertexCount, hopCount}
+use Rattle.journeys.specs.Tables.{Tables, hopCount}
 use Rattle.journeys.specs.Query.{Query, allowed}
-use Rattle.journeys.specs.Settled.{Settled, settled}
+use Rattle.journeys.specs.Settled.{settled}
 use Rattle.journeys.specs.Network.{distanceIn, within}
 use Rattle.journeys.specs.Records.{recordCount}
 use Rattle.journeys.specs.Valid.{Valid}
@@ -23,7 +23,7 @@ use Rattle.worktable.specs.declared.Table.{Table}
 use Rattle.worktable.proofs.MapLaws.{put-same, put-other}
 use Rattle.boarding.specs.Rides.{Mode}
 use Rattle.boarding.specs.RideOrder.{IsRideOrder}
-use Rattle.boarding.proofs.Searching.{Underway, Searching, settles, stays-closed, closes-step}
+use Rattle.boarding.proofs.Searching.{Underway, Searching, settles, closes-step}
 use Rattle.marks.specs.Marks.{bit}
 use Rattle.bitset.specs.Joined.{joined}
 use Rattle.improving.specs.Figures.{Plain, Ready, figures}
@@ -33,7 +33,7 @@ use Rattle.marking.specs.declared.Pending.{Pending}
 use Rattle.marking.proofs.Moving.{prefix-alighted}
 use Rattle.offering.specs.Offers.{Passable, passed}
 use Rattle.spreading.specs.Spreads.{Spread}
-use Rattle.ridesteps.specs.Between.{Between, Steps, Stepped}
+use Rattle.ridesteps.specs.Between.{Steps, Stepped}
 use Rattle.ridesteps.proofs.Settling.{without, members-next, settled-underway}
 
 -- ---- an entry leaves the map

@@ -1,14 +1,14 @@
 -- Where the steps with a boarding time stand after some of them, for the order of settling whichever list that is: what a step asks, what it leads to, and how they end. Assumes nothing.
 use mathlib.Core.Path.{_≡_, refl, sym, ap, subst, _∙_}
-use mathlib.Core.Logic.{_⊎_, inl, inr, ⊎-elim}
+use mathlib.Core.Logic.{inr, ⊎-elim}
 use mathlib.Core.List.{List, [], _∷_, _++_, flatMap}
-use Prim.Native.Nat.{ℕ, suc, _+_, _*_, _/_, _≤_, _<_, min}
+use Prim.Native.Nat.{ℕ, suc, _+_, _*_, _/_, _≤_, _<_}
 use native.Mathlib.Omega.{arith}
 use lib.ListN.{length, take, drop, length-append, length-take}
 use lib.Seq.{take-at, length-take-le}
 use borrow.Author.Tests.{le-leb, lt-leb}
 use Rattle.journeys.specs.Counting.{none}
-use Rattle.journeys.specs.Tables.{Tables, vertexCount, hopCount}
+use Rattle.journeys.specs.Tables.{Tables}
 use Rattle.journeys.specs.Query.{Query, allowed}
 use Rattle.journeys.specs.Settled.{Settled, settled}
 use Rattle.journeys.specs.Answers.{settledBytes}
@@ -27,18 +27,19 @@ use Rattle.boarding.specs.Rides.{Mode}
 use Rattle.boarding.specs.RideOrder.{IsRideOrder}
 use Rattle.boarding.proofs.RideOrder.{orderOf, order-is, order-size}
 use Rattle.boarding.proofs.Searching.{settles, ends, stays-closed}
-use Rattle.improving.specs.Figures.{figures}
-use Rattle.marking.specs.Pends.{State, figuresOf, Pends}
+use Rattle.marking.specs.Pends.{State, figuresOf}
 use Rattle.stepping.specs.Taken.{NextIs}
 use Rattle.ridesteps.specs.Between.{Between, Opened, Steps, Stepped}
-use Rattle.ridesteps.specs.Ended.{Lists, RidesOver, RidesShort, RiddenIs, RidesEnd}
+use Rattle.ridesteps.specs.Ended.{Lists, RiddenIs, RidesEnd}
 use Rattle.ridesteps.specs.declared.Ridden.the-variants.{Done, Full}
 use Rattle.ridesteps.proofs.OneStep.{first-figure}
 
--- what stands at the front when bytes are written behind it
-front-next : (d p : List ℕ) (at n : ℕ) → at ≤ length d → at + length p ≡ n → take n (written d at p) ≡ take at d ++ p
+-- what stands at the front when one entry more is listed
+listed-behind : (list : List ℕ) (n : ℕ) (y : Settled) → n < length list / 8 → take (8 * suc n) (written list (8 * n) (settledBytes y)) ≡ take (8 * n) list ++ settledBytes y
 unfolding written
-front-next d p at n h e = take-at (take at d ++ p) (drop (at + length p) d) n (omega (arith, length-append (take at d) p, length-take-le at d h))
+listed-behind list n y h =
+    take-at (take (8 * n) list ++ settledBytes y) (drop (8 * n + length (settledBytes y)) list) (8 * suc n)
+    (omega (arith, length-append (take (8 * n) list) (settledBytes y), length-take-le (8 * n) list (omega arith), length-settled y))
 
 -- n steps are made and listed
 abbrev pub Rides : Tables → Query → Mode → ℕ → ℕ → List ℕ → State → List ℕ → Type 0
@@ -157,20 +158,13 @@ module _ (N : Tables) (Q : Query) (M : Mode) (ok : Valid N Q) (long n : ℕ) (se
           subst (λ (m : ℕ). Between N Q M l m set′ s′ × Lists l long m list′) (let z : suc n ≡ n + 1 = omega arith in z)
           (step l O n (R l O .0), record { length-is = length-next; listed = front-is; room = room-next })
         where
-          entry : List ℕ
-          entry = settledBytes (settled x d)
-
           length-next : length list′ ≡ long
           length-next = ap length listed ∙ length-written list (8 * n) (settledBytes (settled x d)) (omega (arith, length-settled (settled x d), room)) ∙ long-is
-
-          -- what stands at the front when the entry is written behind it
-          behind : take (8 * suc n) (written list (8 * n) (settledBytes (settled x d))) ≡ take (8 * n) list ++ settledBytes (settled x d)
-          behind = front-next list (settledBytes (settled x d)) (8 * n) (8 * suc n) (omega (arith, room)) (omega (arith, length-settled (settled x d)))
 
           front-is : take (8 * suc n) list′ ≡ flatMap settledBytes (take (suc n) l)
           front-is =
               ap (take (8 * suc n)) listed
-              ∙ behind
+              ∙ listed-behind list n (settled x d) room
               ∙ ap (λ (z : List ℕ). z ++ settledBytes (settled x d)) (R l O .1 .listed)
               ∙ sym (ap (flatMap settledBytes) (further O .1) ∙ flat-snoc settledBytes (take n l) (settled x d))
 

@@ -1,6 +1,6 @@
 -- The foremost vertex is settled: the set has it and no other more, and what the records to it offer is what the theory of the search asks for. Assumes nothing.
 use mathlib.Core.Path.{_≡_, refl, sym, ap, subst, _∙_}
-use mathlib.Core.Logic.{_⊎_, inl, inr, ⊎-elim, _≢_}
+use mathlib.Core.Logic.{_⊎_, inl, inr, _≢_}
 use mathlib.Core.Bool.{Bool, true, false, cond, _&&_}
 use mathlib.Core.List.{List, [], _∷_, _++_}
 use Prim.Native.Nat.{ℕ, suc, _-_, _≤_, _<_, min}
@@ -15,7 +15,7 @@ use Rattle.journeys.specs.Settled.{Settled, settled}
 use Rattle.journeys.specs.Network.{distanceIn, within}
 use Rattle.journeys.specs.Records.{Record, from, to, recordAt, recordCount}
 use Rattle.journeys.specs.Valid.{Valid}
-use Rattle.journeys.proofs.Tests.{Test, same, other, test, TestLe, fits, over, testLe, never, split, and-both, and-true}
+use Rattle.journeys.proofs.Tests.{Test, same, other, test, TestLe, fits, over, testLe, never, split, and-both}
 use Rattle.journeys.proofs.Counting.{least-is, least-min}
 use Rattle.journeys.proofs.Known.{is-within, not-within, within-is, within-not}
 use Rattle.journeys.proofs.Firsts.{distance-snoc}

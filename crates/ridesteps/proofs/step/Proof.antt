@@ -1,5 +1,4 @@
 -- `ridesteps::step` meets its contract. Assumes nothing.
-use mathlib.Core.Path.{_≡_, refl, sym, _∙_}
 use native.Mathlib.Omega.{arith}
 use Rattle.journeys.proofs.Decoding.{vertex-count}
 use Rattle.marking.specs.Setting.{tables, query, mode}
