@@ -124,7 +124,7 @@ fn scratches(ground: &Ground, rng: &mut Rng) -> Vec<Case> {
         match rng.below(8) {
             0 => case.settled.clear(),
             1 => case.boarding = 601,
-            2 => bad_query(&mut case.query, rng),
+            2 => damage::query(&mut case.query, rng),
             3 => case.limit = rng.below(4) as u32,
             _ => {}
         }
@@ -170,7 +170,7 @@ fn harmed(ground: &Ground, rng: &mut Rng) -> Vec<Case> {
         let Bytes { vertices, walks, hops, hop_size } = broken.bytes(ground.bytes.hop_size == 20);
         let mut case = Case { vertices, walks, hops, hop_size, ..ground.case(rng) };
         if rng.chance(20) {
-            bad_query(&mut case.query, rng);
+            damage::query(&mut case.query, rng);
         }
         if rng.chance(20) {
             case.boarding = 601;
@@ -183,21 +183,15 @@ fn harmed(ground: &Ground, rng: &mut Rng) -> Vec<Case> {
     all
 }
 
-fn resize(bytes: &mut Vec<u8>, rng: &mut Rng) {
-    let len = bytes.len();
-    let len = rng.pick(&[0, len + 1, len.saturating_sub(1), len + 4, len.saturating_sub(4), len + 8, len + 12, len + 16, len + 20]);
-    bytes.resize(len, 0x5a);
-}
-
 fn bad_length(case: &mut Case, rng: &mut Rng) {
     match rng.below(8) {
-        0 => resize(&mut case.vertices, rng),
-        1 => resize(&mut case.walks, rng),
-        2 => resize(&mut case.hops, rng),
-        3 => case.hop_size = rng.pick(&[0, 1, 15, 16, 17, 19, 20, 21, 32, NONE]),
-        4 | 5 => resize(&mut case.settled, rng),
-        6 => resize(&mut case.scratch, rng),
-        _ => resize(&mut case.answer, rng),
+        0 => damage::resize(&mut case.vertices, rng),
+        1 => damage::resize(&mut case.walks, rng),
+        2 => damage::resize(&mut case.hops, rng),
+        3 => case.hop_size = rng.pick(&damage::HOP_SIZES),
+        4 | 5 => damage::resize(&mut case.settled, rng),
+        6 => damage::resize(&mut case.scratch, rng),
+        _ => damage::resize(&mut case.answer, rng),
     }
 }
 
@@ -212,23 +206,13 @@ fn cut(ground: &Ground, rng: &mut Rng) -> Vec<Case> {
     all
 }
 
-fn bad_query(query: &mut Query, rng: &mut Rng) {
-    match rng.below(5) {
-        0 => query.record = rng.pick(&[NONE, 0x8000_0000, query.record ^ 1, query.record ^ 0x1000_0000, query.record ^ 64]),
-        1 => query.offset = rng.pick(&[query.offset ^ 1, query.offset.wrapping_add(1), 100_001, NONE]),
-        2 => query.arrival = rng.pick(&[-1, 172_800, 172_801, i32::MIN, i32::MAX]),
-        3 => query.duration = rng.pick(&[0, 86_400, 86_401, NONE, 0x8000_0000]),
-        _ => query.speed = rng.pick(&[0, 1, 100, 101, NONE]),
-    }
-}
-
 /// Queries and boarding times at their limits and beyond.
 fn asked(ground: &Ground, rng: &mut Rng) -> Vec<Case> {
     let mut all = Vec::new();
     for _ in 0..14 {
         let mut case = ground.case(rng);
         if rng.chance(80) {
-            bad_query(&mut case.query, rng);
+            damage::query(&mut case.query, rng);
         }
         if rng.chance(40) {
             case.boarding = rng.pick(&[0, 600, 601, 602, 0x8000_0000, NONE, 0x1_0000]);
@@ -244,7 +228,7 @@ fn several(ground: &Ground, rng: &mut Rng) -> Vec<Case> {
     for _ in 0..14 {
         let mut case = ground.case(rng);
         if rng.chance(30) {
-            bad_query(&mut case.query, rng);
+            damage::query(&mut case.query, rng);
         }
         if rng.chance(40) {
             case.boarding = rng.pick(&[601, NONE]);

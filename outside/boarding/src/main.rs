@@ -3,7 +3,7 @@
 //! the wrong versions, `bench` the medians of the quick program. The last line is 'N passed, M failed'.
 
 use std::hint::black_box;
-use std::io::{self, Write};
+use std::io;
 use std::process::exit;
 use std::time::{Duration, Instant};
 
@@ -14,69 +14,46 @@ use boarding::quick::Quick;
 use boarding::wrong::{Sound, Wrong};
 use boarding::{definitions, exchange, journeys, marked, ordinary, rounds, scenes};
 use outside::commands::bench::middle;
+use outside::commands::exchange::Choice;
+use outside::commands::{program, Tally};
 use outside::records::{Settled, SETTLED};
+use outside::wire;
 
 const USAGE: &str = "boarding self|mutants|names|ordinary|make|judge [SEED [CASES]|marked|big], boarding bench [ROUNDS]";
 
-/// The cases that a command is about.
-enum Asked {
-    Marked,
-    Big,
-    Seed(u64, usize),
-}
-
-fn cases(asked: &Asked) -> Box<dyn Iterator<Item = Case>> {
-    match *asked {
-        Asked::Marked => Box::new(marked::all().into_iter().map(|(_, case, _)| case).chain(definitions::all().into_iter().map(|(case, ..)| case))),
-        Asked::Big => Box::new(big().into_iter().map(|(case, _)| case)),
-        Asked::Seed(seed, count) => Box::new(stream(seed).take(count)),
+fn cases(asked: Choice) -> Box<dyn Iterator<Item = Case>> {
+    match asked {
+        Choice::Marked => Box::new(marked::all().into_iter().map(|(_, case, _)| case).chain(definitions::all().into_iter().map(|(case, ..)| case))),
+        Choice::Big => Box::new(big().into_iter().map(|(case, _)| case)),
+        Choice::Seed(seed, count) => Box::new(stream(seed).take(count)),
     }
 }
 
-#[derive(Default)]
-struct Counts {
-    passed: u64,
-    failed: u64,
-}
-
-impl Counts {
-    fn note(&mut self, good: bool, tell: impl Fn() -> String) {
-        if good {
-            self.passed += 1;
-            return;
-        }
-        self.failed += 1;
-        if self.failed <= 3 {
-            println!("{}", tell());
-        }
-    }
-
-    /// One outcome, beside the right one.
-    fn compare(&mut self, case: &Case, right: &Outcome, got: &Outcome) {
-        let shown = |case: &Case| if case.small() { format!("{case:?}") } else { "a large case".to_string() };
-        let head = |outcome: &Outcome| if case.small() { format!("{outcome:?}") } else { format!("{} {:?}", outcome.value, outcome.answer) };
-        self.note(right == got, || format!("{}\nexpected\n{}\ngot\n{}", shown(case), head(right), head(got)));
-    }
+/// One outcome, beside the right one.
+fn compare(tally: &mut Tally, case: &Case, right: &Outcome, got: &Outcome) {
+    let small = case.small();
+    let head = |outcome: &Outcome| if small { format!("{outcome:?}") } else { format!("{} {:?}", outcome.value, outcome.answer) };
+    tally.compare(|| if small { format!("{case:?}") } else { "a large case".to_string() }, right, got, head);
 }
 
 /// What is told of the marked and the large cases; the two programs on one another; the plain one on the journeys.
-fn own(asked: &Asked) -> Counts {
-    let mut counts = Counts::default();
+fn own(asked: Choice) -> Tally {
+    let mut tally = Tally::new();
     match asked {
-        Asked::Marked => {
+        Choice::Marked => {
             for (name, case, told) in marked::all() {
                 for got in [case.by(&Quick(Sound)), case.by(&Plain)] {
-                    counts.note(got == told, || format!("{name}\nexpected\n{told:?}\ngot\n{got:?}"));
+                    tally.count(got == told, || format!("{name}\nexpected\n{told:?}\ngot\n{got:?}"));
                 }
             }
             for (i, (case, view, want)) in definitions::all().into_iter().enumerate() {
                 for got in [case.by(&Quick(Sound)), case.by(&Plain)] {
                     let got = view.of(&got);
-                    counts.note(got == want, || format!("row {i} of the definitions\nexpected\n{want:?}\ngot\n{got:?}"));
+                    tally.count(got == want, || format!("row {i} of the definitions\nexpected\n{want:?}\ngot\n{got:?}"));
                 }
             }
         }
-        Asked::Big => {
+        Choice::Big => {
             for (number, (case, (refusal, list))) in big().into_iter().enumerate() {
                 let after = right(&case);
                 // Where the way it is built tells no list, and nothing stops the run before its end, rounds over all records do.
@@ -84,40 +61,40 @@ fn own(asked: &Asked) -> Counts {
                 let list = list.or_else(|| whole.then(|| rounds::list(case.tables(), case.query, case.boarding)));
                 let got: Vec<Settled> = (0..case.answered(&after).map_or(0, |six| six.settled as usize)).map(|i| Settled::read(&after.settled, i)).collect();
                 let good = case.refusal(&after) == Some(refusal) && list.is_none_or(|list| list == got);
-                counts.note(good, || format!("large case {number}: {:?}, not {refusal:?}, or another list", case.answered(&after)));
+                tally.count(good, || format!("large case {number}: {:?}, not {refusal:?}, or another list", case.answered(&after)));
             }
         }
-        Asked::Seed(seed, count) => {
-            for case in stream(*seed).take(*count).filter(Case::small) {
-                counts.compare(&case, &case.by(&Plain), &right(&case));
+        Choice::Seed(seed, count) => {
+            for case in stream(seed).take(count).filter(Case::small) {
+                compare(&mut tally, &case, &case.by(&Plain), &right(&case));
             }
-            for ground in (0..*count as u64 / 10).filter_map(|index| by_journeys(*seed, index)) {
+            for ground in (0..count as u64 / 10).filter_map(|index| by_journeys(seed, index)) {
                 let wrong = journeys::mistimed(ground.bytes.tables(), ground.ridden.scene.query, ground.ridden.boarding);
-                counts.note(wrong.is_none(), || format!("{:?}\nnot as the journeys are: vertex {wrong:?}", ground.ridden));
+                tally.count(wrong.is_none(), || format!("{:?}\nnot as the journeys are: vertex {wrong:?}", ground.ridden));
             }
         }
     }
-    counts
+    tally
 }
 
 /// Each wrong version has to differ on a case by hand, and on one of the seed.
-fn mutants(seed: u64, count: usize) -> Counts {
-    let mut counts = Counts::default();
+fn mutants(seed: u64, count: usize) -> Tally {
+    let mut tally = Tally::new();
     let with = |cases: Vec<Case>| -> Vec<(Outcome, Case)> { cases.into_iter().map(|case| (right(&case), case)).collect() };
     let by_hand = with(marked::all().into_iter().map(|(_, case, _)| case).collect());
     let seeded = with(stream(seed).filter(Case::small).take(count).collect());
     for &wrong in Wrong::ALL {
         for (cases, kind) in [(&by_hand, "by hand"), (&seeded, "of the seed")] {
             let caught = cases.iter().any(|(right, case)| case.by(&Quick(wrong)) != *right);
-            counts.note(caught, || format!("not caught by the cases {kind}: {wrong:?}, {}", wrong.note()));
+            tally.count(caught, || format!("not caught by the cases {kind}: {wrong:?}, {}", wrong.note()));
         }
     }
-    counts
+    tally
 }
 
 /// Both programs without a boarding time, beside the ordinary run, and at boarding times that grow.
-fn usual(seed: u64, count: usize) -> Counts {
-    let mut counts = Counts::default();
+fn usual(seed: u64, count: usize) -> Tally {
+    let mut tally = Tally::new();
     for index in 0..count as u64 {
         let (ground, _) = ground(seed, index);
         let small = ground.roomy().small() && index % 4 == 0;
@@ -128,9 +105,9 @@ fn usual(seed: u64, count: usize) -> Counts {
             if small { ordinary::grows(&ground, &Plain) } else { None },
         ];
         let wrong = found.into_iter().flatten().next();
-        counts.note(wrong.is_none(), || wrong.clone().unwrap_or_default());
+        tally.count(wrong.is_none(), || wrong.clone().unwrap_or_default());
     }
-    counts
+    tally
 }
 
 /// How long the quick program takes, with all steps and with none, which is what judging and making ready cost.
@@ -155,65 +132,38 @@ fn bench(rounds: usize) {
     }
 }
 
-fn make(asked: &Asked) -> io::Result<()> {
-    let mut out = io::BufWriter::new(io::stdout().lock());
-    for case in cases(asked) {
-        exchange::put_case(&mut out, &case)?;
-    }
-    exchange::put_end(&mut out)?;
-    out.flush()
+fn judge(asked: Choice) -> io::Result<Tally> {
+    wire::judge(cases(asked), exchange::get_outcome, |tally, case, (got, stray)| {
+        compare(tally, case, &right(case), &got);
+        if stray {
+            tally.count(false, || "touched beside the slices, or in one that is only read".to_string());
+        }
+    })
 }
 
-fn judge(asked: &Asked) -> io::Result<Counts> {
-    let mut from = io::BufReader::new(io::stdin().lock());
-    let mut counts = Counts::default();
-    for case in cases(asked) {
-        let (got, stray) = exchange::get_outcome(&mut from)?;
-        counts.compare(&case, &right(&case), &got);
-        if stray {
-            counts.note(false, || "touched beside the slices, or in one that is only read".to_string());
+fn command(words: &[&str]) -> Option<io::Result<Tally>> {
+    let (&name, rest) = words.split_first()?;
+    match (name, rest) {
+        ("names", []) => {
+            Wrong::ALL.iter().for_each(|wrong| println!("{wrong:?}"));
+            exit(0);
         }
+        ("bench", rounds) => {
+            bench(rounds.first().map_or(Some(5), |rounds| rounds.parse().ok())?);
+            exit(0);
+        }
+        _ => {}
     }
-    exchange::get_end(&mut from)?;
-    Ok(counts)
+    Some(match (name, Choice::told(rest, 6_000)?) {
+        ("self", asked) => Ok(own(asked)),
+        ("mutants", Choice::Seed(seed, count)) => Ok(mutants(seed, count)),
+        ("ordinary", Choice::Seed(seed, count)) => Ok(usual(seed, count)),
+        ("judge", asked) => judge(asked),
+        ("make", asked) => wire::make(cases(asked), exchange::put_case).map(|()| exit(0)),
+        _ => return None,
+    })
 }
 
 fn main() {
-    let words: Vec<String> = std::env::args().skip(1).collect();
-    let word = |i: usize| words.get(i).map_or("", String::as_str);
-    let number = |i: usize, otherwise: u64| words.get(i).map_or(Some(otherwise), |word| word.parse().ok());
-    let asked = match word(1) {
-        "marked" => Some(Asked::Marked),
-        "big" => Some(Asked::Big),
-        _ => number(1, 1).zip(number(2, 6_000)).map(|(seed, count)| Asked::Seed(seed, count as usize)),
-    };
-    if word(0) == "names" {
-        Wrong::ALL.iter().for_each(|wrong| println!("{wrong:?}"));
-        exit(0);
-    }
-    if let ("bench", Some(rounds)) = (word(0), number(1, 5)) {
-        bench(rounds as usize);
-        exit(0);
-    }
-    let done = match (word(0), &asked) {
-        ("self", Some(asked)) => Ok(own(asked)),
-        ("mutants", Some(Asked::Seed(seed, count))) => Ok(mutants(*seed, *count)),
-        ("ordinary", Some(Asked::Seed(seed, count))) => Ok(usual(*seed, *count)),
-        ("judge", Some(asked)) => judge(asked),
-        ("make", Some(asked)) => make(asked).map(|()| exit(0)),
-        _ => {
-            eprintln!("{USAGE}");
-            exit(2);
-        }
-    };
-    match done {
-        Ok(Counts { passed, failed }) => {
-            println!("{passed} passed, {failed} failed");
-            exit(i32::from(failed != 0));
-        }
-        Err(error) => {
-            eprintln!("boarding: {error}");
-            exit(2);
-        }
-    }
+    program("boarding", USAGE, command)
 }

@@ -1,47 +1,6 @@
 //! Wrong versions of `quick`, each altered in one place. The cases have to tell every one of them from `plain`.
 
-/// What `quick` asks at each place that a wrong version alters.
-pub trait Fault: Copy {
-    fn is(self, wrong: Wrong) -> bool;
-}
-
-/// The right version: the compiler removes every altered place.
-#[derive(Clone, Copy)]
-pub struct Sound;
-
-impl Fault for Sound {
-    #[inline(always)]
-    fn is(self, _: Wrong) -> bool {
-        false
-    }
-}
-
-impl Fault for Wrong {
-    fn is(self, wrong: Wrong) -> bool {
-        self == wrong
-    }
-}
-
-macro_rules! wrongs {
-    ($($name:ident: $note:literal,)*) => {
-        #[derive(Clone, Copy, Debug, PartialEq, Eq)]
-        pub enum Wrong {
-            $(#[doc = $note] $name,)*
-        }
-
-        impl Wrong {
-            pub const ALL: &'static [Wrong] = &[$(Wrong::$name,)*];
-
-            pub fn note(self) -> &'static str {
-                match self {
-                    $(Wrong::$name => $note,)*
-                }
-            }
-        }
-    };
-}
-
-wrongs! {
+outside::wrong_versions! { Wrong by "BOARDING_WRONG":
     // What is refused.
     SettledLate: "the length of the settled buffer is judged behind the tables",
     SettledAny: "a settled buffer of no whole records is good",
@@ -116,15 +75,4 @@ wrongs! {
     SeedOneWay: "a one-way place at offset length does not seed \"to\"",
     SeedInnerWait: "a place inside the road pays the wait",
     SeedEndFree: "at offset length \"from\" pays no wait",
-}
-
-impl Wrong {
-    /// The one that BOARDING_WRONG names.
-    pub fn from_environment() -> Result<Option<Wrong>, String> {
-        let Ok(name) = std::env::var("BOARDING_WRONG") else {
-            return Ok(None);
-        };
-        let named = Wrong::ALL.iter().find(|wrong| format!("{wrong:?}") == name);
-        named.copied().map(Some).ok_or(format!("there is no wrong version {name}"))
-    }
 }

@@ -214,7 +214,7 @@ fn damaged(ground: &Ground, rng: &mut Rng) -> Vec<Case> {
         let kind = rng.pick(&[Kind::Run, Kind::Parts]);
         let mut case = Case { list, ..ground.case(kind, rng) };
         if rng.chance(30) {
-            bad_query(&mut case.query, rng);
+            damage::query(&mut case.query, rng);
         }
         if rng.chance(20) {
             case.held.clear();
@@ -247,30 +247,24 @@ fn harmed(ground: &Ground, rng: &mut Rng) -> Vec<Case> {
             case.list = lists[rng.below(lists.len())].clone();
         }
         if rng.chance(20) {
-            bad_query(&mut case.query, rng);
+            damage::query(&mut case.query, rng);
         }
         all.push(case);
     }
     all
 }
 
-fn resize(bytes: &mut Vec<u8>, rng: &mut Rng) {
-    let len = bytes.len();
-    let len = rng.pick(&[0, len + 1, len.saturating_sub(1), len + 4, len.saturating_sub(4), len + 8, len + 12, len + 16, len + 20]);
-    bytes.resize(len, 0x5a);
-}
-
 fn bad_length(case: &mut Case, rng: &mut Rng) {
     match rng.below(9) {
-        0 => resize(&mut case.vertices, rng),
-        1 => resize(&mut case.walks, rng),
-        2 => resize(&mut case.hops, rng),
-        3 => case.hop_size = rng.pick(&[0, 1, 15, 16, 17, 19, 20, 21, 32, NONE]),
-        4 => resize(&mut case.list, rng),
-        5 => resize(&mut case.held, rng),
-        6 => resize(&mut case.settled, rng),
-        7 => resize(if rng.chance(50) { &mut case.entries } else { &mut case.parts }, rng),
-        _ => resize(&mut case.answer, rng),
+        0 => damage::resize(&mut case.vertices, rng),
+        1 => damage::resize(&mut case.walks, rng),
+        2 => damage::resize(&mut case.hops, rng),
+        3 => case.hop_size = rng.pick(&damage::HOP_SIZES),
+        4 => damage::resize(&mut case.list, rng),
+        5 => damage::resize(&mut case.held, rng),
+        6 => damage::resize(&mut case.settled, rng),
+        7 => damage::resize(if rng.chance(50) { &mut case.entries } else { &mut case.parts }, rng),
+        _ => damage::resize(&mut case.answer, rng),
     }
 }
 
@@ -286,25 +280,15 @@ fn cut(ground: &Ground, rng: &mut Rng) -> Vec<Case> {
     all
 }
 
-fn bad_query(query: &mut Query, rng: &mut Rng) {
-    match rng.below(5) {
-        0 => query.record = rng.pick(&[NONE, 0x8000_0000, query.record ^ 1, query.record ^ 0x1000_0000, query.record ^ 64]),
-        1 => query.offset = rng.pick(&[query.offset ^ 1, query.offset.wrapping_add(1), 100_001, NONE]),
-        2 => query.arrival = rng.pick(&[-1, 172_800, 172_801, i32::MIN, i32::MAX]),
-        3 => query.duration = rng.pick(&[0, 86_400, 86_401, NONE, 0x8000_0000]),
-        _ => query.speed = rng.pick(&[0, 1, 100, 101, NONE]),
-    }
-}
-
 /// Queries at their limits and beyond.
 fn asked(ground: &Ground, rng: &mut Rng) -> Vec<Case> {
     let mut all = Vec::new();
     for _ in 0..14 {
         let kind = rng.pick(&[Kind::Run, Kind::Parts]);
         let mut case = ground.case(kind, rng);
-        bad_query(&mut case.query, rng);
+        damage::query(&mut case.query, rng);
         if rng.chance(30) {
-            bad_query(&mut case.query, rng);
+            damage::query(&mut case.query, rng);
         }
         all.push(case);
     }
@@ -351,7 +335,7 @@ fn several(ground: &Ground, rng: &mut Rng) -> Vec<Case> {
         let kind = rng.pick(&KINDS);
         let mut case = ground.case(kind, rng);
         if rng.chance(40) {
-            bad_query(&mut case.query, rng);
+            damage::query(&mut case.query, rng);
         }
         if rng.chance(40) && kind != Kind::List {
             let lists = wrong_lists(&ground.bytes, rng);

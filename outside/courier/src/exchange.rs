@@ -1,10 +1,10 @@
-//! Cases for the driver, and its answers. All numbers are big-endian; a slice is its length and its bytes.
+//! Cases for the driver, and its answers.
 
 use std::io::{self, Read, Write};
 
-use crate::call::{Case, Kind, Outcome};
+use outside::wire::{begin, bytes, put, slice, stray};
 
-const END: u8 = 0;
+use crate::call::{Case, Kind, Outcome};
 
 fn kind(case: &Case) -> u8 {
     match case.kind {
@@ -12,11 +12,6 @@ fn kind(case: &Case) -> u8 {
         Kind::Run => 2,
         Kind::Parts => 3,
     }
-}
-
-fn put(out: &mut impl Write, slice: &[u8]) -> io::Result<()> {
-    out.write_all(&(slice.len() as u32).to_be_bytes())?;
-    out.write_all(slice)
 }
 
 pub fn put_case(out: &mut impl Write, case: &Case) -> io::Result<()> {
@@ -39,28 +34,10 @@ pub fn put_case(out: &mut impl Write, case: &Case) -> io::Result<()> {
     slices.into_iter().try_for_each(|slice| put(out, slice))
 }
 
-pub fn put_end(out: &mut impl Write) -> io::Result<()> {
-    out.write_all(&[END])
-}
-
-fn number(from: &mut impl Read, bytes: usize) -> io::Result<u64> {
-    let mut read = [0; 8];
-    from.read_exact(&mut read[8 - bytes..])?;
-    Ok(u64::from_be_bytes(read))
-}
-
-fn slice(from: &mut impl Read) -> io::Result<Vec<u8>> {
-    let mut bytes = vec![0; number(from, 4)? as usize];
-    from.read_exact(&mut bytes)?;
-    Ok(bytes)
-}
-
 /// What the driver tells of a case, and whether anything else was changed.
 pub fn get_outcome(from: &mut impl Read, case: &Case) -> io::Result<(Outcome, bool)> {
-    if number(from, 1)? != u64::from(kind(case)) {
-        return Err(io::Error::other("no answer"));
-    }
-    let mut outcome = Outcome { value: number(from, 8)?, list: vec![], held: vec![], settled: vec![], parts: vec![], answer: vec![] };
+    begin(from, kind(case))?;
+    let mut outcome = Outcome { value: u64::from_be_bytes(bytes(from)?), list: vec![], held: vec![], settled: vec![], parts: vec![], answer: vec![] };
     match case.kind {
         Kind::List => outcome.list = slice(from)?,
         Kind::Run => {
@@ -73,12 +50,5 @@ pub fn get_outcome(from: &mut impl Read, case: &Case) -> io::Result<(Outcome, bo
             outcome.answer = slice(from)?;
         }
     }
-    Ok((outcome, number(from, 1)? != 0))
-}
-
-pub fn get_end(from: &mut impl Read) -> io::Result<()> {
-    if number(from, 1)? != u64::from(END) || from.read(&mut [0])? != 0 {
-        return Err(io::Error::other("more answers than cases"));
-    }
-    Ok(())
+    Ok((outcome, stray(from)?))
 }

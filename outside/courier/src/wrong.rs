@@ -1,47 +1,6 @@
 //! Wrong versions of `quick`, each altered in one place. The cases have to tell every one of them from `plain`.
 
-/// What `quick` asks at each place that a wrong version alters.
-pub trait Fault: Copy {
-    fn is(self, wrong: Wrong) -> bool;
-}
-
-/// The right version: the compiler removes every altered place.
-#[derive(Clone, Copy)]
-pub struct Sound;
-
-impl Fault for Sound {
-    #[inline(always)]
-    fn is(self, _: Wrong) -> bool {
-        false
-    }
-}
-
-impl Fault for Wrong {
-    fn is(self, wrong: Wrong) -> bool {
-        self == wrong
-    }
-}
-
-macro_rules! wrongs {
-    ($($name:ident: $note:literal,)*) => {
-        #[derive(Clone, Copy, Debug, PartialEq, Eq)]
-        pub enum Wrong {
-            $(#[doc = $note] $name,)*
-        }
-
-        impl Wrong {
-            pub const ALL: &'static [Wrong] = &[$(Wrong::$name,)*];
-
-            pub fn note(self) -> &'static str {
-                match self {
-                    $(Wrong::$name => $note,)*
-                }
-            }
-        }
-    };
-}
-
-wrongs! {
+outside::wrong_versions! { Wrong by "COURIER_WRONG":
     // The list.
     ListByTo: "the list is ordered by \"to\"",
     ListHopsFirst: "hops are numbered first",
@@ -112,15 +71,4 @@ wrongs! {
     PartsLoose: "an entry's distance may be above D",
     PartsRepeat: "a vertex may be listed twice",
     PartsTrue: "parts are made from the true distances",
-}
-
-impl Wrong {
-    /// The one that COURIER_WRONG names.
-    pub fn from_environment() -> Result<Option<Wrong>, String> {
-        let Ok(name) = std::env::var("COURIER_WRONG") else {
-            return Ok(None);
-        };
-        let named = Wrong::ALL.iter().find(|wrong| format!("{wrong:?}") == name);
-        named.copied().map(Some).ok_or(format!("there is no wrong version {name}"))
-    }
 }

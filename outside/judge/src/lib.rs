@@ -19,3 +19,5 @@ pub mod rng;
 pub mod show;
 pub mod slow;
 pub mod trips;
+pub mod wire;
+pub mod wrong;

@@ -4,7 +4,7 @@ use std::path::Path;
 use std::process::ExitCode;
 
 use outside::commands::exchange::{self, Choice};
-use outside::commands::{bench, fuzz, jobs, jobtext, mutants, selftest};
+use outside::commands::{bench, fuzz, jobs, jobtext, mutants, seeded, selftest};
 use outside::mutant::{Mutant, Sound};
 
 const USAGE: &str = "usage:
@@ -79,21 +79,9 @@ fn command(words: &[String]) -> Option<Result<(), String>> {
     })
 }
 
-/// An optional seed and an optional number of cases.
-fn seeded(words: &[&str], cases: usize) -> Option<(u64, usize)> {
-    match words {
-        [] => Some((1, cases)),
-        [seed] => Some((seed.parse().ok()?, cases)),
-        [seed, cases] => Some((seed.parse().ok()?, cases.parse().ok()?)),
-        _ => None,
-    }
-}
-
 fn choice(words: &[&str]) -> Option<Choice> {
     match words {
-        ["big"] => Some(Choice::Big),
-        ["marked"] => Some(Choice::Marked),
-        [_, _] => seeded(words, 0).map(|(seed, cases)| Choice::Seed(seed, cases)),
+        ["big"] | ["marked"] | [_, _] => Choice::told(words, 0),
         _ => None,
     }
 }

@@ -1,49 +1,7 @@
 //! Wrong versions of `fast`, each altered in one place. The self test has to
 //! tell every one of them from `slow`; a survivor shows a hole in the cases.
 
-/// What `fast` asks at each place that a mutant alters.
-pub trait Fault: Copy {
-    fn is(self, mutant: Mutant) -> bool;
-}
-
-/// The right version. Its answer is a constant, so that the compiler removes
-/// every altered place and the speed measured is that of the plain program.
-#[derive(Clone, Copy)]
-pub struct Sound;
-
-impl Fault for Sound {
-    #[inline(always)]
-    fn is(self, _: Mutant) -> bool {
-        false
-    }
-}
-
-impl Fault for Mutant {
-    fn is(self, mutant: Mutant) -> bool {
-        self == mutant
-    }
-}
-
-macro_rules! mutants {
-    ($($name:ident: $note:literal,)*) => {
-        #[derive(Clone, Copy, Debug, PartialEq, Eq)]
-        pub enum Mutant {
-            $(#[doc = $note] $name,)*
-        }
-
-        impl Mutant {
-            pub const ALL: &'static [Mutant] = &[$(Mutant::$name,)*];
-
-            pub fn note(self) -> &'static str {
-                match self {
-                    $(Mutant::$name => $note,)*
-                }
-            }
-        }
-    };
-}
-
-mutants! {
+crate::wrong_versions! { Mutant by "OUTSIDE_MUTANT":
     // The table check.
     VertexCountLoose: "65,537 vertices are accepted",
     WalkCountLoose: "262,145 walks are accepted",
@@ -351,25 +309,4 @@ mutants! {
     JobWalkLimit: "1,024 walks are too many",
     JobWideSpeed: "duration takes two bytes and speed two",
     JobRefusalEnd: "a refusal prints its end line too",
-}
-
-impl Mutant {
-    pub fn named(name: &str) -> Option<Mutant> {
-        let same = |m: &&Mutant| format!("{m:?}").eq_ignore_ascii_case(name);
-        Mutant::ALL.iter().find(same).copied()
-    }
-
-    /// The mutant that the variable OUTSIDE_MUTANT names, if it is set.
-    pub fn from_environment() -> Result<Option<Mutant>, String> {
-        let Ok(name) = std::env::var("OUTSIDE_MUTANT") else {
-            return Ok(None);
-        };
-        if name.is_empty() {
-            return Ok(None);
-        }
-        match Mutant::named(&name) {
-            Some(mutant) => Ok(Some(mutant)),
-            None => Err(format!("OUTSIDE_MUTANT: there is no mutant {name}")),
-        }
-    }
 }

@@ -2,7 +2,7 @@
 
 use crate::network::Network;
 use crate::outcome::Case;
-use crate::records::{word, NONE};
+use crate::records::{word, Query, NONE};
 use crate::rng::Rng;
 
 /// One way to break a record. The name tells the table, then the fault.
@@ -271,4 +271,37 @@ pub fn sweep(case: &Case, rng: &mut Rng) -> Vec<Case> {
     }
     cases.retain(|_| rng.chance(40));
     cases
+}
+
+/// A length beside the right one.
+pub fn resize(bytes: &mut Vec<u8>, rng: &mut Rng) {
+    let (len, less) = (bytes.len(), |by| bytes.len().saturating_sub(by));
+    let lens = [
+        0,
+        len + 1,
+        less(1),
+        len + 4,
+        less(4),
+        len + 8,
+        len + 12,
+        len + 16,
+        len + 20,
+    ];
+    bytes.resize(rng.pick(&lens), 0x5a);
+}
+
+/// Sizes of a hop, two of them good.
+pub const HOP_SIZES: [u32; 10] = [0, 1, 15, 16, 17, 19, 20, 21, 32, NONE];
+
+/// One field of a query at a limit or beyond.
+pub fn query(query: &mut Query, rng: &mut Rng) {
+    let Query { record, offset, .. } = *query;
+    let [last, high, middle] = [1, 0x1000_0000, 64].map(|bit| record ^ bit);
+    match rng.below(5) {
+        0 => query.record = rng.pick(&[NONE, 0x8000_0000, last, high, middle]),
+        1 => query.offset = rng.pick(&[offset ^ 1, offset.wrapping_add(1), 100_001, NONE]),
+        2 => query.arrival = rng.pick(&[-1, 172_800, 172_801, i32::MIN, i32::MAX]),
+        3 => query.duration = rng.pick(&[0, 86_400, 86_401, NONE, 0x8000_0000]),
+        _ => query.speed = rng.pick(&[0, 1, 100, 101, NONE]),
+    }
 }

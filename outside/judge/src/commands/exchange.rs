@@ -1,11 +1,10 @@
 //! `outside make` and `outside judge`: cases out to the library's driver,
-//! its answers back. Numbers are big-endian; a slice is its length in four
-//! bytes and then its bytes. README.md has the layout.
+//! its answers back, as `wire` has them. README.md has the layout.
 
-use std::io::{BufReader, BufWriter, ErrorKind, Read, Write};
+use std::io::{BufReader, Read, Write};
 use std::process::{Command, Stdio};
 
-use super::Tally;
+use super::{seeded, Tally};
 use crate::cases::{big, stream};
 use crate::marked::{self, Marked};
 use crate::mutant::Sound;
@@ -13,6 +12,7 @@ use crate::outcome::{Call, Case, Outcome};
 use crate::pair;
 use crate::records::Way;
 use crate::show;
+use crate::wire::{self, bytes, put, slice, END};
 
 /// Which cases are meant: those of a seed, the big ones, or the marked ones.
 #[derive(Clone, Copy)]
@@ -23,6 +23,15 @@ pub enum Choice {
 }
 
 impl Choice {
+    /// What is chosen by words: `big`, `marked`, or the words of `seeded`.
+    pub fn told(words: &[&str], cases: usize) -> Option<Choice> {
+        match words {
+            ["big"] => Some(Choice::Big),
+            ["marked"] => Some(Choice::Marked),
+            _ => seeded(words, cases).map(|(seed, cases)| Choice::Seed(seed, cases)),
+        }
+    }
+
     fn cases(self) -> Box<dyn Iterator<Item = Case>> {
         match self {
             Choice::Seed(seed, count) => Box::new(stream(seed).take(count)),
@@ -40,7 +49,6 @@ impl Choice {
     }
 }
 
-pub const END: u8 = 0;
 const CHECK: u8 = 1;
 const RUN: u8 = 2;
 const PARTS: u8 = 3;
@@ -66,23 +74,18 @@ fn kind(call: Call) -> u8 {
 }
 
 pub fn make(choice: Choice) -> Result<(), String> {
-    let mut out = BufWriter::with_capacity(1 << 16, std::io::stdout().lock());
-    let written = choice
-        .cases()
-        .try_for_each(|case| write_case(&mut out, &case))
-        .and_then(|()| out.write_all(&[END]))
-        .and_then(|()| out.flush());
+    let written = wire::make(choice.cases(), write_case);
     written.map_err(|error| format!("cannot write the cases: {error}"))
 }
 
 pub fn write_case(out: &mut impl Write, case: &Case) -> std::io::Result<()> {
     out.write_all(&[kind(case.call), u8::from(case.null)])?;
     if !case.call.takes_tables() {
-        write_slice(out, &case.hops)?;
-        return write_slice(out, &case.target);
+        put(out, &case.hops)?;
+        return put(out, &case.target);
     }
     for table in [&case.vertices, &case.walks, &case.hops] {
-        write_slice(out, table)?;
+        put(out, table)?;
     }
     out.write_all(&case.hop_size.to_be_bytes())?;
     if case.call.takes_query() {
@@ -96,32 +99,27 @@ pub fn write_case(out: &mut impl Write, case: &Case) -> std::io::Result<()> {
         out.write_all(&case.limit.to_be_bytes())?;
     }
     if case.call == Call::Runs {
-        write_slice(out, &case.queries)?;
+        put(out, &case.queries)?;
     }
     if case.call == Call::Patients {
         out.write_all(&case.gap.to_be_bytes())?;
         out.write_all(&case.arrivals.to_be_bytes())?;
-        write_slice(out, &case.patients)?;
-        write_slice(out, &case.report)?;
+        put(out, &case.patients)?;
+        put(out, &case.report)?;
     }
     if case.call.searches() {
-        write_slice(out, &case.held)?;
-        write_slice(out, &case.settled)?;
-        write_slice(out, &case.answer)?;
+        put(out, &case.held)?;
+        put(out, &case.settled)?;
+        put(out, &case.answer)?;
     }
     if case.call.takes_list() {
-        write_slice(out, &case.list)?;
+        put(out, &case.list)?;
     }
     if case.call.parts() {
-        write_slice(out, &case.parts)?;
-        write_slice(out, &case.parts_answer)?;
+        put(out, &case.parts)?;
+        put(out, &case.parts_answer)?;
     }
     Ok(())
-}
-
-fn write_slice(out: &mut impl Write, bytes: &[u8]) -> std::io::Result<()> {
-    out.write_all(&(bytes.len() as u32).to_be_bytes())?;
-    out.write_all(bytes)
 }
 
 /// What the driver wrote about one case.
@@ -168,8 +166,8 @@ pub fn judge(choice: Choice) -> Result<(), String> {
 pub fn ask(driver: &[String], case: &Case) -> Result<Outcome, String> {
     let (name, words) = driver.split_first().ok_or("no driver is named")?;
     let mut bytes = Vec::new();
-    let put = write_case(&mut bytes, case);
-    put.map_err(|error| format!("cannot write the case: {error}"))?;
+    let written = write_case(&mut bytes, case);
+    written.map_err(|error| format!("cannot write the case: {error}"))?;
     bytes.push(END);
     let failed = |error| format!("{name}: {error}");
     let mut child = Command::new(name)
@@ -249,45 +247,24 @@ fn names(touched: u16) -> String {
 }
 
 pub fn read_reply(input: &mut impl Read, case: &Case) -> std::io::Result<Reply> {
-    let [told] = read_bytes(input)?;
-    let right = kind(case.call);
-    if told != right {
-        let text = format!("kind {told} instead of {right}");
-        return Err(std::io::Error::new(ErrorKind::InvalidData, text));
-    }
+    wire::begin(input, kind(case.call))?;
     let mut outcome = case.before();
-    outcome.returned = u64::from_be_bytes(read_bytes(input)?);
+    outcome.returned = u64::from_be_bytes(bytes(input)?);
     if case.call.searches() {
-        outcome.held = read_slice(input)?;
-        outcome.settled = read_slice(input)?;
-        outcome.answer = read_slice(input)?;
+        outcome.held = slice(input)?;
+        outcome.settled = slice(input)?;
+        outcome.answer = slice(input)?;
     }
     if case.call == Call::Patients {
-        outcome.report = read_slice(input)?;
+        outcome.report = slice(input)?;
     }
     if case.call.parts() {
-        outcome.parts = read_slice(input)?;
-        outcome.parts_answer = read_slice(input)?;
+        outcome.parts = slice(input)?;
+        outcome.parts_answer = slice(input)?;
     }
     if !case.call.takes_tables() {
-        outcome.target = read_slice(input)?;
+        outcome.target = slice(input)?;
     }
-    let touched = u16::from_be_bytes(read_bytes(input)?);
+    let touched = u16::from_be_bytes(bytes(input)?);
     Ok(Reply { outcome, touched })
-}
-
-fn read_bytes<const N: usize>(input: &mut impl Read) -> std::io::Result<[u8; N]> {
-    let mut bytes = [0; N];
-    input.read_exact(&mut bytes)?;
-    Ok(bytes)
-}
-
-fn read_slice(input: &mut impl Read) -> std::io::Result<Vec<u8>> {
-    let len = u32::from_be_bytes(read_bytes(input)?);
-    let mut bytes = Vec::new();
-    let read = input.take(u64::from(len)).read_to_end(&mut bytes)?;
-    if read < len as usize {
-        return Err(ErrorKind::UnexpectedEof.into());
-    }
-    Ok(bytes)
 }

@@ -4,11 +4,12 @@
 use std::io::{BufReader, BufWriter, Read, Write};
 use std::time::{Duration, Instant};
 
-use super::exchange::{judge_one, read_reply, write_case, END};
+use super::exchange::{judge_one, read_reply, write_case};
 use super::jobs::{judge_job, printed};
 use super::Tally;
 use crate::cases::fuzz;
 use crate::show;
+use crate::wire::END;
 
 /// Writes cases for so many seconds.
 pub fn make(seed: u64, seconds: u64) -> Result<(), String> {

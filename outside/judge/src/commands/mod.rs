@@ -8,6 +8,37 @@ pub mod jobtext;
 pub mod mutants;
 pub mod selftest;
 
+use std::io;
+use std::process::exit;
+
+/// An optional seed and an optional number of cases.
+pub fn seeded(words: &[&str], cases: usize) -> Option<(u64, usize)> {
+    match words {
+        [] => Some((1, cases)),
+        [seed] => Some((seed.parse().ok()?, cases)),
+        [seed, cases] => Some((seed.parse().ok()?, cases.parse().ok()?)),
+        _ => None,
+    }
+}
+
+/// A judge as a program: its command on the words that it was started with, none
+/// where they fit nothing. It ends with 0, with 1 where something failed, and with
+/// 2 where nothing could be counted.
+pub fn program(
+    name: &str,
+    usage: &str,
+    command: impl FnOnce(&[&str]) -> Option<io::Result<Tally>>,
+) -> ! {
+    let words: Vec<String> = std::env::args().skip(1).collect();
+    let words: Vec<&str> = words.iter().map(String::as_str).collect();
+    match command(&words) {
+        Some(Ok(tally)) => exit(i32::from(tally.close().is_err())),
+        Some(Err(error)) => eprintln!("{name}: {error}"),
+        None => eprintln!("{usage}"),
+    }
+    exit(2)
+}
+
 /// Counts comparisons and shows the first few that fail.
 pub struct Tally {
     pub passed: usize,
@@ -34,6 +65,20 @@ impl Tally {
         if self.failed <= MOST_TOLD {
             println!("{}", told());
         }
+    }
+
+    /// One outcome beside the right one, each as `shown` writes it.
+    pub fn compare<T: PartialEq>(
+        &mut self,
+        case: impl FnOnce() -> String,
+        right: &T,
+        got: &T,
+        shown: impl Fn(&T) -> String,
+    ) {
+        self.count(right == got, || {
+            let (right, got) = (shown(right), shown(got));
+            format!("{}\nexpected\n{right}\ngot\n{got}", case())
+        });
     }
 
     /// Prints the last line; an error if anything failed.
