@@ -1,0 +1,2 @@
+pub mod RideRan
+pub mod RideCall
