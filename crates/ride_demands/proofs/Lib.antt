@@ -1,3 +1,4 @@
 pub mod Demands
 pub mod Vertices
+pub mod Places
 pub mod Longer
