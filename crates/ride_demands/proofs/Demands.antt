@@ -83,17 +83,17 @@ module _ (c : RideCall) (E : RideCompleted c) where
   abbrev early : Refusal
   early = rideEarly b Q (c .boarding)
 
-  abbrev a : RideAnswer
-  a = E .0 .answered (E .1) .1 .0
+  abbrev pub given : RideAnswer
+  given = E .0 .answered (E .1) .1 .0
 
-  A : RideAllowed b Q (c .boarding) (c .limit) a
-  A = E .0 .answered (E .1) .1 .1
+  pub allowed-is : RideAllowed b Q (c .boarding) (c .limit) given
+  allowed-is = E .0 .answered (E .1) .1 .1
 
-  number : (i : ℕ) (field : RideAnswer → ℕ) → ((x : RideAnswer) → be32 (rideAnswerBytes x) i ≡ field x) → be32 (c .answer) i ≡ field a
-  number i field h = ap (λ (l : List ℕ). be32 l i) (E .0 .answered (E .1) .1 .4) ∙ h a
+  number : (i : ℕ) (field : RideAnswer → ℕ) → ((x : RideAnswer) → be32 (rideAnswerBytes x) i ≡ field x) → be32 (c .answer) i ≡ field given
+  number i field h = ap (λ (l : List ℕ). be32 l i) (E .0 .answered (E .1) .1 .4) ∙ h given
 
   -- the six numbers are those of the answer
-  numbers-are : (refusal c ≡ a .refusal) × (place c ≡ a .place) × (settledCount c ≡ a .settledCount) × (partCount c ≡ a .partCount) × (heldCount c ≡ a .heldCount) × (finished c ≡ a .finished)
+  pub numbers-are : (refusal c ≡ given .refusal) × (place c ≡ given .place) × (settledCount c ≡ given .settledCount) × (partCount c ≡ given .partCount) × (heldCount c ≡ given .heldCount) × (finished c ≡ given .finished)
   numbers-are = (
     number 0 (λ x. x .refusal) (λ x. six-0 (x .refusal) (x .place) (x .settledCount) (x .partCount) (x .heldCount) (x .finished)),
     number 4 (λ x. x .place) (λ x. six-4 (x .refusal) (x .place) (x .settledCount) (x .partCount) (x .heldCount) (x .finished)),
@@ -108,7 +108,7 @@ module _ (c : RideCall) (E : RideCompleted c) where
   Says x =
       (refusal c ≡ x .refusal) × (place c ≡ x .place) × (settledCount c ≡ x .settledCount) × (finished c ≡ x .finished) × (c .settled ≡ x .settled) × (c .scratch ≡ x .scratch)
 
-  says : (x : RideAnswer) → a ≡ x → Says x
+  says : (x : RideAnswer) → given ≡ x → Says x
   says x e =
       let n = numbers-are in
       subst Says e (n .0, n .1, n .2, n .5, E .0 .answered (E .1) .1 .2, E .0 .answered (E .1) .1 .3)
@@ -122,12 +122,12 @@ module _ (c : RideCall) (E : RideCompleted c) where
   -- the list's buffer or of the scratch is changed.
   pub refused-first : early .number ≢ 0 → (refusal c ≡ early .number) × (place c ≡ early .place) × (c .settled ≡ b .settled) × (c .scratch ≡ b .scratch)
   unfolding rideRefused
-  refused-first n = let s = says (rideRefused early (b .settled) (b .scratch)) (A .refused n) in (s .0, s .1, s .4, s .5)
+  refused-first n = let s = says (rideRefused early (b .settled) (b .scratch)) (allowed-is .refused n) in (s .0, s .1, s .4, s .5)
 
   -- the answer by the one order of settling
-  over-order : early .number ≡ 0 → (l : List Settled) → Orders c l → a ≡ rideOver b l (c .limit)
+  over-order : early .number ≡ 0 → (l : List Settled) → Orders c l → given ≡ rideOver b l (c .limit)
   over-order sound l O =
-      let x = A .accepted sound in
+      let x = allowed-is .accepted sound in
       x .2 ∙ ap (λ (m : List Settled). rideOver b m (c .limit)) (order-unique (read c) Q (mode c) (ride-links b Q (c .boarding) sound .0) (x .1) O)
 
   -- Sound input is refused for room at the step behind the last that fits, with 9, and list and scratch are zero.
@@ -158,6 +158,16 @@ module _ (c : RideCall) (E : RideCompleted c) where
       (λ (h : room c < steps c l). absurd (let w : _≡_ {A = ℕ} 9 0 = sym (room-refused (accepted-sound accepted) l O h .0) ∙ accepted in omega (arith, w)))
       (le-or-lt (steps c l) (room c))
 
+  -- Only then is sound input refused with 9.
+  pub short-exactly : early .number ≡ 0 → (l : List Settled) → Orders c l → ((refusal c ≡ 9) × (place c ≡ room c + 1)) ↔ (room c < steps c l)
+  short-exactly sound l O = (
+    λ p.
+        ⊎-elim (λ (h : steps c l ≤ room c). absurd (let w : _≡_ {A = ℕ} 9 0 = sym (p .0) ∙ room-accepted sound l O h in omega (arith, w)))
+        (λ (h : room c < steps c l). h)
+        (le-or-lt (steps c l) (room c)),
+    λ h. let z = room-refused sound l O h in (z .0, z .1),
+  )
+
   -- A call is accepted exactly if its input is sound and its list has room after the steps made.
   pub accepted-exactly : (refusal c ≡ 0) ↔ ((early .number ≡ 0) × ((l : List Settled) → Orders c l → steps c l ≤ room c))
   accepted-exactly = (
@@ -176,21 +186,21 @@ module _ (c : RideCall) (E : RideCompleted c) where
       ⊎-elim
       (λ (t : eqb (early .number) 0 ≡ true).
       let sound = eqb-true (early .number) 0 t in
-      let x = A .accepted sound in
+      let x = allowed-is .accepted sound in
       ⊎-elim (λ (h : steps c (x .0) ≤ room c). absurd (n (room-accepted sound (x .0) (x .1) h)))
       (λ (h : room c < steps c (x .0)).
       let s = says (rideRefused (record { number = 9; place = room c + 1 }) (cleared (b .settled)) (cleared (b .scratch))) (x .2 ∙ over-short b (x .0) (c .limit) h) in
       (s .2, s .3))
       (le-or-lt (steps c (x .0)) (room c)))
-      (λ (t : eqb (early .number) 0 ≡ false). let s = says (rideRefused early (b .settled) (b .scratch)) (A .refused (eqb-false (early .number) 0 t)) in (s .2, s .3))
+      (λ (t : eqb (early .number) 0 ≡ false). let s = says (rideRefused early (b .settled) (b .scratch)) (allowed-is .refused (eqb-false (early .number) 0 t)) in (s .2, s .3))
       (split (eqb (early .number) 0))
 
   -- No answer counts a held record or a part, and 8 never occurs.
   pub none-held : (heldCount c ≡ 0) × (partCount c ≡ 0)
-  none-held = let z = fits.none-held b Q (c .boarding) (c .limit) a A in (numbers-are .4 ∙ z .0, numbers-are .3 ∙ z .1)
+  none-held = let z = fits.none-held b Q (c .boarding) (c .limit) given allowed-is in (numbers-are .4 ∙ z .0, numbers-are .3 ∙ z .1)
 
   pub never-8 : refusal c ≢ 8
-  never-8 e = fits.never-8 b Q (c .boarding) (c .limit) a A (sym (numbers-are .0) ∙ e)
+  never-8 e = fits.never-8 b Q (c .boarding) (c .limit) given allowed-is (sym (numbers-are .0) ∙ e)
 
   -- ---- what an accepted run leaves; l is the order of settling
   module _ (accepted : refusal c ≡ 0) where
