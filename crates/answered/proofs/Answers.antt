@@ -9,7 +9,7 @@ use lib.Dec.{eqb, leb}
 use lib.ListN.{length}
 use lib.Seq.{take-all}
 use borrow.Author.Tests.{eqb-true, eqb-false, eq-eqb, ne-eqb, leb-true}
-use Rattle.journeys.specs.Bytes.{be32, word, filled, cleared}
+use Rattle.journeys.specs.Bytes.{be32, filled, cleared}
 use Rattle.journeys.specs.Order.{Settled}
 use Rattle.journeys.specs.Network.{distanceIn, heldList}
 use Rattle.journeys.specs.Refusals as refusals
@@ -20,34 +20,28 @@ use Rattle.journeys.proofs.Refusals.{roomFor-is, roomFor-exactly, roomFor-first
 use Rattle.journeys.proofs.Ways.{Ways}
 use Rattle.journeys.proofs.Told as theory
 use Rattle.journeys.proofs.Told.{Told}
-use Rattle.words.proofs.Written.{word-back}
 use Rattle.calls.specs.CallBytes.{answerBytes}
+use Rattle.answered.proofs.SixNumbers.{six-0, six-4, six-8, six-12, six-16, six-20}
 use Rattle.answered.specs.Search.{Search, refusedAs, Orders, Ruled, refusal, place, settledCount, partCount, heldCount, finished, steps, S}
 
 -- the six numbers as they stand in the answer slice
 pub refusal-read : (a : Answer) → be32 (answerBytes a) 0 ≡ a .refusal
-unfolding be32 word
-refusal-read a = word-back (a .refusal)
+refusal-read a = six-0 (a .refusal) (a .place) (a .settledCount) 0 (a .heldCount) (a .finished)
 
 place-read : (a : Answer) → be32 (answerBytes a) 4 ≡ a .place
-unfolding be32 word
-place-read a = word-back (a .place)
+place-read a = six-4 (a .refusal) (a .place) (a .settledCount) 0 (a .heldCount) (a .finished)
 
 pub settled-read : (a : Answer) → be32 (answerBytes a) 8 ≡ a .settledCount
-unfolding be32 word
-settled-read a = word-back (a .settledCount)
+settled-read a = six-8 (a .refusal) (a .place) (a .settledCount) 0 (a .heldCount) (a .finished)
 
 parts-read : (a : Answer) → be32 (answerBytes a) 12 ≡ 0
-unfolding be32 word
-parts-read a = word-back 0
+parts-read a = six-12 (a .refusal) (a .place) (a .settledCount) 0 (a .heldCount) (a .finished)
 
 held-read : (a : Answer) → be32 (answerBytes a) 16 ≡ a .heldCount
-unfolding be32 word
-held-read a = word-back (a .heldCount)
+held-read a = six-16 (a .refusal) (a .place) (a .settledCount) 0 (a .heldCount) (a .finished)
 
-finished-read : (a : Answer) → be32 (answerBytes a) 20 ≡ a .finished
-unfolding be32 word
-finished-read a = word-back (a .finished)
+pub finished-read : (a : Answer) → be32 (answerBytes a) 20 ≡ a .finished
+finished-read a = six-20 (a .refusal) (a .place) (a .settledCount) 0 (a .heldCount) (a .finished)
 
 -- The call has completed as its contract says, with an answer slice of 24 bytes; and where its input is not refused, the distances are those of the network.
 pub record Complete (s : Search) : Type 1 where

@@ -12,10 +12,11 @@ use Rattle.journeys.proofs.CourierAnswers.{courier-unique}
 use Rattle.records.specs.Asked.{queryBy}
 use Rattle.courier_intake.specs.Lending.{courierLent}
 use Rattle.covering.specs.Lending.{courierPartsLent}
+use Rattle.answered.proofs.OneAnswer.{answers-one}
+use Rattle.siltbrow.specs.Ran.{answerBytes}
 use Rattle.siltbrow.specs.CourierCall.{CourierPartsCall, CourierPartsCompleted}
 use Rattle.siltbrow.specs.CourierRun.{CourierCall, CourierCompleted}
 use Rattle.siltbrow.proofs.PartsDetermined.{ran-one}
-use Rattle.siltbrow.proofs.Determined as run
 use Rattle.siltbrow.proofs.dispatch.siltbrow_courier as siltbrow_courier
 use Rattle.siltbrow.proofs.dispatch.siltbrow_courier.Kinds as runKinds
 use Rattle.siltbrow.proofs.dispatch.siltbrow_courier.Reads as siltbrow-courier
@@ -75,4 +76,4 @@ pub one-siltbrow-courier : (κs : _) (a : _) (z z′ : _) (e e′ : _) → siltb
     (z ≡ z′) × (c .held ≡ c′ .held) × (c .settled ≡ c′ .settled) × (c .answer ≡ c′ .answer)
 one-siltbrow-courier κs a z z′ e e′ p q =
     let c = courierRunCalled κs a z e in
-    run.answers-one (CourierAllowed (c .lent) (c .query) (c .limit)) (courier-unique (c .lent) (c .query) (c .limit)) _ _ _ _ _ _ _ _ _ z z′ p q
+    answers-one (λ a. a .held) (λ a. a .settled) answerBytes (CourierAllowed (c .lent) (c .query) (c .limit)) (courier-unique (c .lent) (c .query) (c .limit)) _ _ _ _ _ _ _ _ _ z z′ p q

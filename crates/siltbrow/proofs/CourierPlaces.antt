@@ -1,11 +1,10 @@
 -- The second demand, of the courier's part bytes: which places inside a road they cover, where an accepted and finished run's own list was handed to an accepted call for
 -- parts. Assumes nothing.
-use mathlib.Core.Path.{_≡_, sym, ap, ap₂, subst, _∙_}
+use mathlib.Core.Path.{_≡_, sym, ap, subst, _∙_}
 use mathlib.Core.Logic.{_⊎_, _↔_, _≢_}
 use mathlib.Core.List.{List, flatMap}
 use Prim.Native.Nat.{ℕ, _-_, _*_, _≤_, _<_}
-use lib.ListN.{length, take, replicate}
-use lib.Seq.{take-append-seam}
+use lib.ListN.{length, take}
 use Rattle.journeys.specs.Counting.{none}
 use Rattle.journeys.specs.Bytes.{filled}
 use Rattle.journeys.specs.Tables.{Tables, walk, walkCount}
@@ -18,9 +17,9 @@ use Rattle.journeys.specs.CourierJourneys.{InsideReached}
 use Rattle.journeys.specs.CourierOrder.{IsCourierOrder}
 use Rattle.journeys.specs.CourierPartAnswers.{CourierPartsLent}
 use Rattle.journeys.proofs.Valid.{on-either}
-use Rattle.covering.proofs.OwnList.{own-length, settled-back}
 use Rattle.siltbrow.specs.CourierRun.{CourierCall, CourierCompleted, CourierFollows, refusal, settledCount, finished, read}
 use Rattle.siltbrow.specs.CourierCall.{CourierPartsCall, CourierPartsCompleted, courierRefusal, courierCount, courierRead}
+use Rattle.siltbrow.proofs.ListHandedOn.{handed-on}
 use Rattle.siltbrow.proofs.PlacesInBytes.{LiesIn}
 use Rattle.siltbrow.proofs.CourierInBytes.{valid, theOrder, is-order, settled-are, finished-whole}
 use Rattle.siltbrow.proofs.CourierPartsDemands.{courier-place-covered}
@@ -31,15 +30,12 @@ Lies p = LiesIn (p .parts) (courierCount p)
 
 module _ (c : CourierCall) (E : CourierCompleted c) (accepted : refusal c ≡ 0) (f : finished c ≡ 1) where
   -- the counted records of the settled bytes are the whole order
-  whole-list : take (8 * settledCount c) (c .settled) ≡ flatMap settledBytes (theOrder c E accepted)
-  unfolding filled
+  whole-list : settledIn (take (8 * settledCount c) (c .settled)) ≡ theOrder c E accepted
   whole-list =
       let l = theOrder c E accepted in
       let are = settled-are c E accepted l (is-order c E accepted) in
       let e = finished-whole c E accepted l (is-order c E accepted) f in
-      let long : 8 * settledCount c ≡ length (flatMap settledBytes l) = ap (λ (n : ℕ). 8 * n) (are .0 ∙ ap length e) ∙ sym (own-length l) in
-      let bytes : c .settled ≡ filled (c .lent .lent .settled) (flatMap settledBytes l) = are .1 ∙ ap (λ (m : List Settled). filled (c .lent .lent .settled) (flatMap settledBytes m)) e in
-      ap₂ (λ (n : ℕ) (b : List ℕ). take n b) long bytes ∙ take-append-seam (flatMap settledBytes l) (replicate (length (c .lent .lent .settled) - length (flatMap settledBytes l)) 0)
+      handed-on (c .settled) (c .lent .lent .settled) (settledCount c) l (are .0 ∙ ap length e) (are .1 ∙ ap (λ (m : List Settled). filled (c .lent .lent .settled) (flatMap settledBytes m)) e)
 
   module _ (p : CourierPartsCall) (F : CourierPartsCompleted p) (own : CourierFollows c p) (fine : courierRefusal p ≡ 0) where
     same : courierRead p ≡ read c
@@ -51,7 +47,7 @@ module _ (c : CourierCall) (E : CourierCompleted c) (accepted : refusal c ≡ 0)
         let l = theOrder c E accepted in
         let O : IsCourierOrder (courierRead p) (p .query) l =
         subst (λ (q : Query). IsCourierOrder (courierRead p) q l) (sym (own .query)) (subst (λ (N : Tables). IsCourierOrder N (c .query) l) (sym same) (is-order c E accepted)) in
-        let list : settledIn (p .lent .lent .list) ≡ l = ap (λ (b : CourierPartsLent). settledIn (b .lent .list)) (own .lent) ∙ ap settledIn whole-list ∙ settled-back l in
+        let list : settledIn (p .lent .lent .list) ≡ l = ap (λ (b : CourierPartsLent). settledIn (b .lent .list)) (own .lent) ∙ whole-list in
         subst (λ (q : Query). (i x : ℕ) → i < walkCount (read c) → 0 < x → x < walk (read c) i .len → Lies p i x ↔ ((d : ℕ) × (d ≤ allowed q) × InsideReached (read c) q i x d)) (own .query)
         (subst (λ (N : Tables). (i x : ℕ) → i < walkCount N → 0 < x → x < walk N i .len → Lies p i x ↔ ((d : ℕ) × (d ≤ allowed (p .query)) × InsideReached N (p .query) i x d)) same
         (courier-place-covered p F fine l O list))

@@ -1,8 +1,7 @@
 -- Any two answers that the contract allows are equal. Assumes nothing.
-use mathlib.Core.Path.{_≡_, sym, ap, _∙_}
+use mathlib.Core.Path.{_≡_, sym, _∙_}
 use mathlib.Core.List.{List}
 use Prim.Native.Nat.{ℕ}
-use native.Mathlib.Decide.{ℕ-discrete}
 use lib.ListN.{length}
 use contract.Lifetimes.{Lfts}
 use borrow.Fn.World.{ArgsD}
@@ -10,11 +9,12 @@ use borrow.Fn.Kinds.{endedOf}
 use denote.Triple.Clauses.{AtExit}
 use denote.Ref.{now}
 use Rattle.journeys.specs.Query.{Query}
-use Rattle.journeys.specs.Answers.{Lent, Answer, Allowed}
+use Rattle.journeys.specs.Answers.{Lent, Allowed}
 use Rattle.journeys.proofs.Determined.{answer-unique}
 use Rattle.records.specs.Asked.{queryBy}
 use Rattle.intake.specs.Lending.{lent}
-use Rattle.siltbrow.specs.Ran.{answerBytes, RanBy, Ran}
+use Rattle.answered.proofs.OneAnswer.{answers-one}
+use Rattle.siltbrow.specs.Ran.{answerBytes, Ran}
 use Rattle.siltbrow.specs.Call.{Call, Completed}
 use Rattle.siltbrow.proofs.siltbrow_run as siltbrow_run
 use Rattle.siltbrow.proofs.siltbrow_run.Kinds as kinds
@@ -43,30 +43,9 @@ module _ (κs : Lfts 5) (args : ArgsD siltbrow_run.signature κs) (returned : �
 pub call-completed : (κs : _) (a : _) (z : _) (e : _) → siltbrow-run.Post κs a z e → length (called κs a z e .slice) ≡ 24 → Completed (called κs a z e)
 call-completed κs a z e p whole = (p, whole)
 
--- the answers for one slice of any length, where one answer is allowed at most
-pub answers-one : (allowed : Answer → Type 0) → ((x y : Answer) → allowed x → allowed y → x ≡ y) → (heldLent settledLent slice h s a h′ s′ a′ : List ℕ) (r r′ : ℕ)
-    → RanBy allowed heldLent settledLent slice h s a r → RanBy allowed heldLent settledLent slice h′ s′ a′ r′
-    → (r ≡ r′) × (h ≡ h′) × (s ≡ s′) × (a ≡ a′)
-answers-one allowed unique heldLent settledLent slice h s a h′ s′ a′ r r′ x y = go (ℕ-discrete (length slice) 24)
-  where
-    go : Dec (length slice ≡ 24) → (r ≡ r′) × (h ≡ h′) × (s ≡ s′) × (a ≡ a′)
-    go (yes e) =
-        let f = x .answered e in
-        let g = y .answered e in
-        let same = unique (f .1 .0) (g .1 .0) (f .1 .1) (g .1 .1) in (
-          f .0 ∙ sym (g .0),
-          f .1 .2 ∙ ap (λ (z : Answer). z .held) same ∙ sym (g .1 .2),
-          f .1 .3 ∙ ap (λ (z : Answer). z .settled) same ∙ sym (g .1 .3),
-          f .1 .4 ∙ ap answerBytes same ∙ sym (g .1 .4),
-        )
-    go (no n) =
-        let f = x .untouched n in
-        let g = y .untouched n in
-        (f .0 ∙ sym (g .0), f .1 ∙ sym (g .1), f .2 ∙ sym (g .2), f .3 ∙ sym (g .3))
-
 pub ran-one : (b : Lent) (Q : Query) (limit : ℕ) (slice h s a h′ s′ a′ : List ℕ) (r r′ : ℕ) → Ran b Q limit slice h s a r → Ran b Q limit slice h′ s′ a′ r′
     → (r ≡ r′) × (h ≡ h′) × (s ≡ s′) × (a ≡ a′)
-ran-one b Q limit = answers-one (Allowed b Q limit) (answer-unique b Q limit) (b .held) (b .settled)
+ran-one b Q limit = answers-one (λ a. a .held) (λ a. a .settled) answerBytes (Allowed b Q limit) (answer-unique b Q limit) (b .held) (b .settled)
 
 -- Two calls with the same arguments return the same and leave the same bytes in all three slices.
 pub one-siltbrow-run : (κs : _) (a : _) (z z′ : _) (e e′ : _) → siltbrow-run.Post κs a z e → siltbrow-run.Post κs a z′ e′

@@ -1,0 +1,4 @@
+pub mod Demands
+pub mod Vertices
+pub mod Places
+pub mod Longer

@@ -1,0 +1,3 @@
+pub mod RideRan
+pub mod RideCall
+pub mod RidePlaces

@@ -1,0 +1,2 @@
+pub mod RidePlaces
+pub mod NoTime
