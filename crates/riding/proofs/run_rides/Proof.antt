@@ -31,7 +31,7 @@ judged-requires c κs =
       record {
         valid = k .0;
         wide = wide b (queryOf (s .args .q)) (s .args .boarding) (s .args .limit) _ F fine;
-        boarding = k .1;
+        boarding = omega (arith, k .1);
         allowed = c .before .before .allowed .ensures;
       },
       omega (arith, k .2, hop-count (s .args .hop-size) (now (s .args .vertices)) (now (s .args .walks)) (now (s .args .hops))),
