@@ -71,6 +71,10 @@ in-offer-and block u {x} {y} f z k h = go (eqb (u / 2048) block) (test (u / 2048
     go true (same q) false = refl
     go false (other q) k = refl
 
+-- the same of a vertex that is known to be of the block
+pub in-block-and : {A : Type 0} (block u : ℕ) {x y : ℕ} (f : ℕ → A) (z : A) (k : Bool) → u / 2048 ≡ block → x ≡ y → cond k (f x) z ≡ cond (inBlock block u && k) (f y) z
+in-block-and block u {x} {y} f z k h e = ap (λ (q : ℕ). cond k (f q) z) e ∙ ap (λ (b : Bool). cond (b && k) (f y) z) (sym (eq-eqb (u / 2048) block h))
+
 -- what one record more counts
 pub noting-step : (R : Row) (block : ℕ) (m : Map) (j k : ℕ) {u x c y : ℕ} → u ≡ R .from j → x ≡ R .offer j → c ≡ noting R block m j k
     → y ≡ cond (inBlock block u && (missing (m u) && eqb (u % 2048) k)) (chance (R .allowed) x (R .departing u) c) c → y ≡ noting R block m (j + 1) k

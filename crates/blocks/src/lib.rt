@@ -203,6 +203,7 @@ pub fn meet_in_room(
     Arrived::Fits(enter_or_drop(held, t, vertices, row, u, offer, told))
 }
 
+// One record of a vertex of the block.
 fn add_one(
     held: &mut [u8],
     t: Table,
@@ -210,22 +211,19 @@ fn add_one(
     row: Directed,
     u: usize,
     offer: Ticks,
-    block: usize,
     counters: &[u16],
 ) -> Arrived
     requires { ⌜ InOrder t (now held) × (u < length (now vertices) / 12) × (length (now vertices) / 12 ≤ 65536) × Figure (offer .0) × (length (now counters) ≡ 2048) × (row .arriving .allowed .0 < distanceLimit) ⌝ }
-    requires { ⌜ (u / 2048 ≡ block → staysIn (now counters) (u % 2048) ≡ true → (0 < left (dueOf (now vertices) row u) (mapOf t (now held) u)) × (map.one (met (row .arriving .allowed .0) (offer .0) (dueOf (now vertices) row u) (mapOf t (now held) u)) ≡ 1)) ⌝ }
-    ensures { λ r. ⌜ ArrivedIs t (now (held .exit)) (put (mapOf t (now (held .entry))) u (cond (inBlock block u && staysIn (now (counters .entry)) (u % 2048)) (met (row .arriving .allowed .0) (offer .0) (dueOf (now (vertices .entry)) row u) (mapOf t (now (held .entry)) u)) (mapOf t (now (held .entry)) u))) r ⌝ }
+    requires { ⌜ (staysIn (now counters) (u % 2048) ≡ true → (0 < left (dueOf (now vertices) row u) (mapOf t (now held) u)) × (map.one (met (row .arriving .allowed .0) (offer .0) (dueOf (now vertices) row u) (mapOf t (now held) u)) ≡ 1)) ⌝ }
+    ensures { λ r. ⌜ ArrivedIs t (now (held .exit)) (put (mapOf t (now (held .entry))) u (cond (staysIn (now (counters .entry)) (u % 2048)) (met (row .arriving .allowed .0) (offer .0) (dueOf (now (vertices .entry)) row u) (mapOf t (now (held .entry)) u)) (mapOf t (now (held .entry)) u))) r ⌝ }
 {
-    if u / 2048 == block {
-        if stays(counters, u) {
-            return meet_in_room(held, t, vertices, row, u, offer);
-        }
+    if stays(counters, u) {
+        return meet_in_room(held, t, vertices, row, u, offer);
     }
     Arrived::Fits(t)
 }
 
-// The new vertices of a block that stay are met. There is no room where one finds no free slot.
+// The new vertices of a block that stay are met. There is no room where one finds no free slot. Most records of a long row are of other blocks: they are passed by before the table is handed on.
 fn add(
     held: &mut [u8],
     t: Table,
@@ -245,13 +243,16 @@ fn add(
     let mut j = 0;
     while j < n {
         let u = near_at(walks, hops, list, row, j);
-        let offer = offer_in(walks, hops, list, row, j, u, block);
-        let Arrived::Fits(next) = add_one(held, table, vertices, row, u, offer, block, counters)
-        else {
-            return Arrived::NoRoom;
-        };
-        table = next;
-        j += 1;
+        if u / 2048 == block {
+            let offer = brings_at(walks, hops, list, row, j);
+            let Arrived::Fits(next) = add_one(held, table, vertices, row, u, offer, counters) else {
+                return Arrived::NoRoom;
+            };
+            table = next;
+            j += 1;
+        } else {
+            j += 1;
+        }
     }
     Arrived::Fits(table)
 }

@@ -1,9 +1,10 @@
--- The search by halves in the right list. Assumes nothing.
-use mathlib.Core.Path.{_≡_, sym, ap, ap₂, subst, _∙_}
+-- Places in the right list, and the search by halves. Assumes nothing.
+use mathlib.Core.Path.{_≡_, refl, sym, ap, ap₂, subst, _∙_}
 use mathlib.Core.Logic.{_⊎_, inl, inr, ⊎-elim}
 use mathlib.Core.List.{List}
 use Prim.Native.Nat.{ℕ, zero, suc, _+_, _-_, _*_, _/_, _<_, _≤_}
 use native.Mathlib.Omega.{arith}
+use native.Mathlib.Nat.{mul-le-mul, div-le-self, le-trans}
 use lib.ListN.{length}
 use Rattle.journeys.specs.Bytes.{be32}
 use Rattle.journeys.proofs.Tests.{le-or-lt, last-or-below}
@@ -11,8 +12,8 @@ use Rattle.records.specs.Columns.{recordsIn}
 use Rattle.starts.specs.Sums.{departingOf, sums}
 use Rattle.starts.proofs.SumLaws.{sums-step}
 use Rattle.listing.specs.Places.{total, fromOf, below, same, rank, Sound}
-use Rattle.listing.proofs.PlaceLaws.{below-next, below-grows, below-all, below-most, same-grows, rank-below, every-place}
-use Rattle.stretches.proofs.Numbers.{stretch-walks, stretch-hops}
+use Rattle.listing.proofs.PlaceLaws.{below-next, below-grows, below-all, below-most, same-grows, same-before, rank-below, every-place}
+use Rattle.stretches.proofs.Numbers.{stretch-walks, stretch-hops, stretch-rises}
 use Rattle.stretches.specs.Stretch.{Right, Parted, stretchOf}
 use Rattle.stretches.specs.declared.Stretch.{Stretch}
 
@@ -41,6 +42,24 @@ at-place {F} {n} {list} s i l =
     let p = every-place F n (c .0) i (omega (arith, below-all F (c .0) n (c .1))) in
     let e : be32 list (4 * i) ≡ p .0 = ap (λ (j : ℕ). be32 list (4 * j)) (sym (p .3)) ∙ s .stands (p .0) (p .1) in
     (omega (arith, e, p .1), ap (rank F n) e ∙ p .3)
+
+-- the numbers of a vertex rise: where one falls, those of its vertex begin
+pub falls-first : {F : ℕ → ℕ} {n : ℕ} {list : List ℕ} → Right F n list → (i x : ℕ) → x ≡ be32 list (4 * i) → i < n → 0 < i → be32 list (4 * i) < be32 list (4 * (i - 1)) → i ≡ below F (F x) n
+falls-first {F} {n} {list} s i x e l a h = go (le-or-lt (same F (F x) x) 0)
+  where
+    low : x < n
+    low = omega (arith, e, at-place s i l .0)
+
+    here : rank F n x ≡ i
+    here = ap (rank F n) e ∙ at-place s i l .1
+
+    go : (same F (F x) x ≤ 0) ⊎ (0 < same F (F x) x) → i ≡ below F (F x) n
+    go (inl z) = omega (arith, here, z)
+    go (inr z) =
+        let rises = stretch-rises s (F x) (same F (F x) x - 1) (same F (F x) x) (omega (arith, z)) (same-before F (F x) x n low refl) in
+        let one : below F (F x) n + (same F (F x) x - 1) ≡ i - 1 = omega (arith, here, z) in
+        let two : be32 list (4 * (i - 1)) < be32 list (4 * i) = subst (λ (j : ℕ). be32 list (4 * j) < be32 list (4 * i)) one (subst (λ (j : ℕ). be32 list (4 * (below F (F x) n + (same F (F x) x - 1))) < be32 list (4 * j)) here rises) in
+        absurd (omega (arith, two, h))
 
 -- a turn of the search: x is the number in the middle
 module _ {F : ℕ → ℕ} {n : ℕ} {list : List ℕ} (s : Right F n list) (m x : ℕ) (l : m < n) (e : x ≡ be32 list (4 * m)) where
@@ -72,6 +91,13 @@ module _ {list : List ℕ} {ways first end lo hi : ℕ} (low : first ≤ lo) (hi
       go : (k ≤ m) ⊎ (m < k) → k ≤ m
       go (inl q) = q
       go (inr q) = absurd (omega (arith, p .walks m (omega arith) q, e))
+
+-- the share of the list that stands before a vertex, in tables of any size
+pub share-fits : {v n many : ℕ} → v < many → many ≤ 65536 → n ≤ 524288 → v * n ≤ 34359738368
+share-fits {v} {n} {many} a b c = let m : v * n ≤ 65536 * 524288 = mul-le-mul {n₁ = v} {m₁ = n} {n₂ = 65536} {m₂ = 524288} (omega arith) c in omega (arith, m)
+
+pub share-low : {v n many : ℕ} → v < many → many ≤ 65536 → n ≤ 524288 → v * n / many ≤ 34359738368
+share-low {v} {n} {many} a b c = let d : v * n / many ≤ v * n = div-le-self (v * n) many in let m : v * n ≤ 34359738368 = share-fits a b c in le-trans d m
 
 -- ---- the three numbers of a stretch
 module _ (size : ℕ) (v w h : List ℕ) (ok : Sound size v w h) (u : ℕ) where

@@ -1,7 +1,8 @@
 -- Where the records of a vertex stand in the right list. Assumes nothing.
 use mathlib.Core.Path.{_≡_}
 use mathlib.Core.List.{List}
-use Prim.Native.Nat.{ℕ, _-_, _*_, _<_, _≤_}
+use Prim.Native.Nat.{ℕ, _-_, _*_, _/_, _<_, _≤_}
+use lib.ListN.{length}
 use Rattle.journeys.specs.Bytes.{be32}
 use Rattle.records.specs.Columns.{recordsIn}
 use Rattle.listing.specs.Places.{total, fromOf, below, same, rank}
@@ -10,6 +11,10 @@ use Rattle.stretches.specs.declared.Stretch.{Stretch}
 -- F tells where each of n records leaves: every record stands in its place
 pub record Right (F : ℕ → ℕ) (n : ℕ) (list : List ℕ) : Type 0 where
   pub stands : (x : ℕ) → x < n → be32 list (4 * rank F n x) ≡ x
+
+-- place i of the list has a number below the one before it, or there is no such place
+abbrev pub Falls : List ℕ → ℕ → Type 0
+Falls list i = i < length list / 4 → (0 < i) × (be32 list (4 * i) < be32 list (4 * (i - 1)))
 
 -- m divides the numbers from `first` up to `end`: those below `ways`, then the others
 pub record Parted (list : List ℕ) (ways first end m : ℕ) : Type 0 where

@@ -1,14 +1,17 @@
 // Where the records of a vertex stand in the right list of records by "from".
-// Promises: the first place, and how many walks and then how many hops leave the vertex. The first place is sought by halves, so at most 20 records are read for it, and the first hop by the list alone.
+// Promises: the first place, and how many walks and then how many hops leave the vertex. The first place is told from a vertex near by where tables are even, for which one record is read, and else sought by halves, for which at most 20 are; the first hop is sought by the list alone.
 // Rests on: where records leave (`listing`) and how many (`starts`), numbers in bytes (`words`).
 use listing::from_of;
+use starts::between;
 use starts::departing_of;
+use words::lesser;
 use words::word_at;
 ghost use mathlib.Core.Path.{_≡_};
 ghost use Prim.Native.Nat.{ℕ, _*_, _/_, _≤_};
 ghost use lib.ListN.{length};
 ghost use Rattle.listing.specs.Places.{total, fromOf, below, Sound};
-ghost use Rattle.stretches.specs.Stretch.{Right, Parted, stretchOf};
+ghost use Rattle.starts.specs.Sums.{sums};
+ghost use Rattle.stretches.specs.Stretch.{Right, Falls, Parted, stretchOf};
 
 // Where the numbers of a vertex begin in the list, how many are walks, and how many hops stand behind those.
 pub struct Stretch {
@@ -18,6 +21,14 @@ pub struct Stretch {
 }
 
 const WALK_SIZE: usize = 16;
+
+const VERTEX_SIZE: usize = 12;
+
+// How many places are looked at for one where the numbers of a vertex begin.
+const LOOK: usize = 32;
+
+// How many counts are added up, less than.
+const REACH: u32 = 256;
 
 // How many of n numbers stand before those of vertex v: those that leave a vertex before it.
 fn before(walks: &[u8], hops: &[u8], hop_size: usize, list: &[u8], v: u32, n: usize) -> usize
@@ -37,6 +48,61 @@ fn before(walks: &[u8], hops: &[u8], hop_size: usize, list: &[u8], v: u32, n: us
         }
     }
     lo
+}
+
+// The first place behind `at` whose number is less than the one before it; the end of the list where none of 31 is so. The numbers of a vertex rise, so those of a vertex begin there.
+fn fall(list: &[u8], at: usize) -> usize
+    requires { ⌜ (at ≤ 34359738368) × (length (now list) / 4 ≤ 524288) ⌝ }
+    ensures { λ r. ⌜ Falls (now (list .entry)) r ⌝ }
+{
+    let n = list.len() / 4;
+    let end = lesser(at + LOOK, n);
+    let mut i = at + 1;
+    while i < end {
+        if word_at(list, 4 * i) < word_at(list, 4 * (i - 1)) {
+            return i;
+        }
+        i += 1;
+    }
+    n
+}
+
+// Where the numbers of v begin, told from those of w.
+fn moved(vertices: &[u8], first: usize, w: u32, v: u32) -> usize
+    requires { ⌜ (w ≤ length (now vertices) / 12) × (v ≤ length (now vertices) / 12) × (first ≡ sums (now vertices) w) × ((u : ℕ) → sums (now vertices) u ≤ 524288) ⌝ }
+    ensures { λ r. ⌜ r ≡ sums (now (vertices .entry)) v ⌝ }
+{
+    if w < v {
+        return first + between(vertices, w as usize, v as usize) as usize;
+    }
+    first - between(vertices, v as usize, w as usize) as usize
+}
+
+// Where the numbers of v begin. Where vertices have about as many records each, its place in the list is about its share of it: what stands there leaves a vertex near v, and the counts between the two are few.
+fn first_place(
+    vertices: &[u8],
+    walks: &[u8],
+    hops: &[u8],
+    hop_size: usize,
+    list: &[u8],
+    v: u32,
+) -> usize
+    requires { ⌜ Sound «hop_size» (now vertices) (now walks) (now hops) × (length (now list) ≡ 4 * total «hop_size» (now walks) (now hops)) ⌝ }
+    requires { ⌜ Right (fromOf «hop_size» (now walks) (now hops)) (total «hop_size» (now walks) (now hops)) (now list) ⌝ }
+    ensures { λ r. ⌜ r ≡ below (fromOf «hop_size» (now (walks .entry)) (now (hops .entry))) v (total «hop_size» (now (walks .entry)) (now (hops .entry))) ⌝ }
+{
+    let n = list.len() / 4;
+    let many = vertices.len() / VERTEX_SIZE;
+    if (v as usize) < many {
+        let i = fall(list, v as usize * n / many);
+        if i < n {
+            let w = from_of(walks, hops, hop_size, word_at(list, 4 * i) as usize);
+            if (w < v + REACH) & (v < w + REACH) {
+                return moved(vertices, i, w, v);
+            }
+        }
+    }
+    before(walks, hops, hop_size, list, v, n)
 }
 
 // Where walks end and hops begin among the numbers from `first` up to `end`: those of walks are below `ways`, so the list alone tells.
@@ -94,6 +160,6 @@ pub fn find(
     requires { ⌜ Right (fromOf «hop_size» (now walks) (now hops)) (total «hop_size» (now walks) (now hops)) (now list) ⌝ }
     ensures { λ r. ⌜ r ≡ stretchOf «hop_size» (now (walks .entry)) (now (hops .entry)) v ⌝ }
 {
-    let first = before(walks, hops, hop_size, list, v, list.len() / 4);
+    let first = first_place(vertices, walks, hops, hop_size, list, v);
     parted(vertices, walks, hops, hop_size, list, v, first)
 }

@@ -1,18 +1,12 @@
--- `find`: the first place is sought by halves. Assumes nothing.
-use native.Mathlib.Omega.{arith}
+-- `find`: the first place, and the three numbers from it. Assumes nothing.
 use borrow.Author.Needs.{needs}
 use Rattle.stretches.proofs.find.Statement.{statement}
 use Rattle.stretches.proofs.find.Tie as tie
 
-before-requires : tie.Need-before-requires
-before-requires c κs =
-    let p = c .before .before .before .before .pre in
-    ((p .0 .0 .wide, p .0 .0 .few, p .0 .1, omega (arith, p .0 .1)), p .1)
-
 parted-requires : tie.Need-parted-requires
 parted-requires c κs =
     let p = c .before .before .before .before .before .pre in
-    (p .0, (p .1, c .before2 .ensures))
+    (p .0, (p .1, c .first-place .ensures))
 
 pub find-spec : {M : Type 1} → statement M
-find-spec = tie.close (tie.spec before-requires parted-requires (λ c. search needs))
+find-spec = tie.close (tie.spec (λ c κs. search needs) parted-requires (λ c. search needs))
