@@ -13,17 +13,27 @@ ghost use Rattle.feed.specs.Fields.{rowOf, field, same};
 ghost use Rattle.feed.specs.Values.{number, valueOf, timeOrBlank, secondsOf};
 ghost use Rattle.feed.specs.Stops.{orOther};
 ghost use Rattle.values.specs.Readings.{timeRead};
+ghost use Rattle.rows.specs.Placed.{placeOf};
 ghost use Rattle.halts.specs.Halts.{timedIn, secondsRead, First};
+
+// The number in field k of a line, which begins at a place.
+pub fn number_from(line: &[u8], k: usize, at: usize) -> u32
+    requires { ⌜ (k < length (rowOf (now line) .fields)) × (at ≡ placeOf (now line) k) × (number none (field (rowOf (now line)) k) ≡ true) ⌝ }
+    ensures { λ r. ⌜ r ≡ valueOf (field (rowOf (now (line .entry))) k) ⌝ }
+{
+    let read = rows::number_from(line, k, at, 4294967295);
+    match read {
+        Number::Value(v) => v,
+        Number::Bad => 0,
+    }
+}
 
 pub fn number_of(line: &[u8], k: usize) -> u32
     requires { ⌜ (k < length (rowOf (now line) .fields)) × (number none (field (rowOf (now line)) k) ≡ true) ⌝ }
     ensures { λ r. ⌜ r ≡ valueOf (field (rowOf (now (line .entry))) k) ⌝ }
 {
-    let read = rows::number_in(line, k, 4294967295);
-    match read {
-        Number::Value(v) => v,
-        Number::Bad => 0,
-    }
+    let at = rows::field_place(line, k);
+    number_from(line, k, at)
 }
 
 // A time as it is given, and 0 where it is left blank.
@@ -50,12 +60,12 @@ fn seconds_between(line: &[u8], start: usize, stop: usize) -> u32
     }
 }
 
-// The field is looked for once.
-fn moment_in(line: &[u8], k: usize) -> Moment
-    requires { ⌜ (k < length (rowOf (now line) .fields)) × (timeOrBlank (field (rowOf (now line)) k) ≡ true) ⌝ }
+// The field that begins at a place.
+fn moment_in(line: &[u8], k: usize, at: usize) -> Moment
+    requires { ⌜ (k < length (rowOf (now line) .fields)) × (timeOrBlank (field (rowOf (now line)) k) ≡ true) × (at ≡ placeOf (now line) k) ⌝ }
     ensures { λ r. ⌜ (r .blank ≡ empty (field (rowOf (now (line .entry))) k)) × (r .seconds ≡ secondsOf (field (rowOf (now (line .entry))) k)) ⌝ }
 {
-    let span = rows::field_span(line, k);
+    let span = rows::span_from(line, k, at);
     let seconds = seconds_between(line, span.start, span.stop);
     Moment {
         blank: span.start == span.stop,
@@ -69,15 +79,22 @@ fn either(blank: bool, other: u32, own: u32) -> u32
     if blank { other } else { own }
 }
 
-pub fn times_of(line: &[u8], arrival: usize, departure: usize) -> Times
-    requires { ⌜ (arrival < length (rowOf (now line) .fields)) × (timeOrBlank (field (rowOf (now line)) arrival) ≡ true) ⌝ }
-    requires { ⌜ (departure < length (rowOf (now line) .fields)) × (timeOrBlank (field (rowOf (now line)) departure) ≡ true) ⌝ }
+// The times in two columns, which begin at two places.
+pub fn times_of(
+    line: &[u8],
+    arrival: usize,
+    departure: usize,
+    earlier: usize,
+    later: usize,
+) -> Times
+    requires { ⌜ (arrival < length (rowOf (now line) .fields)) × (timeOrBlank (field (rowOf (now line)) arrival) ≡ true) × (earlier ≡ placeOf (now line) arrival) ⌝ }
+    requires { ⌜ (departure < length (rowOf (now line) .fields)) × (timeOrBlank (field (rowOf (now line)) departure) ≡ true) × (later ≡ placeOf (now line) departure) ⌝ }
     ensures { λ r. ⌜ (r .timed ≡ timedIn (now (line .entry)) arrival departure)
         × (r .arrival ≡ orOther (field (rowOf (now (line .entry))) arrival) (field (rowOf (now (line .entry))) departure))
         × (r .departure ≡ orOther (field (rowOf (now (line .entry))) departure) (field (rowOf (now (line .entry))) arrival)) ⌝ }
 {
-    let first = moment_in(line, arrival);
-    let second = moment_in(line, departure);
+    let first = moment_in(line, arrival, earlier);
+    let second = moment_in(line, departure, later);
     let reached = either(first.blank, second.seconds, first.seconds);
     let left = either(second.blank, first.seconds, second.seconds);
     Times {

@@ -26,6 +26,10 @@ module _ (text : List ℕ) (stop next : ℕ) (s : stop ≡ 0 + width (drop 0 tex
       let whole : stop - 0 ≡ stop = omega arith in
       (rw (first, whole) refl, rw first refl)
 
+  pub first-row : rowOf (take stop text) ≡ header text
+  unfolding header
+  first-row = ap rowOf (parts text s n .0)
+
   pub opened : (C : Columns) → columnsOnce (header text) ≡ true → Found (take stop text) C → Opened text next C
   unfolding header
   opened C h f =

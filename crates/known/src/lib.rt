@@ -11,7 +11,7 @@ ghost use Rattle.feed.specs.Fields.{rowOf};
 ghost use Rattle.feed.specs.Ids.{idsRefusal};
 ghost use Rattle.journeys.specs.Refusals.{fine};
 ghost use Rattle.lines.specs.Spans.{bytesIn};
-ghost use Rattle.rows.specs.Placed.{fieldSpan};
+ghost use Rattle.rows.specs.Placed.{placeOf, fieldSpan};
 ghost use Rattle.naming.specs.Named.{foundFrom};
 ghost use Rattle.words.specs.Told.{told};
 ghost use Rattle.known.specs.Counted.{counted, idKnown, Slots, Listed};
@@ -32,13 +32,30 @@ fn look_between(
     idtable::find(b, n, m, list, &line[start..stop])
 }
 
-// The place, counted from 1, of the first line of a list that has the id in field k of a line; 0 where none has it.
+// The place, counted from 1, of the first line of a list that has the id in field k of a line, which begins at a place; 0 where none has it.
+pub fn listed_from(
+    b: &[u8],
+    n: usize,
+    m: usize,
+    list: &[u8],
+    line: &[u8],
+    k: usize,
+    at: usize,
+) -> usize
+    requires { ⌜ Slots n (now b) × Listed (now list) n m (now b) × (k < length (rowOf (now line) .fields)) × (at ≡ placeOf (now line) k) ⌝ }
+    ensures { λ r. ⌜ r ≡ foundFrom (now (list .entry)) 0 (bytesIn (now (line .entry)) (fieldSpan (now (line .entry)) k)) ⌝ }
+{
+    let span = rows::span_from(line, k, at);
+    look_between(b, n, m, list, line, span.start, span.stop)
+}
+
+// The same for a field that is looked for from the line's start.
 pub fn listed_at(b: &[u8], n: usize, m: usize, list: &[u8], line: &[u8], k: usize) -> usize
     requires { ⌜ Slots n (now b) × Listed (now list) n m (now b) × (k < length (rowOf (now line) .fields)) ⌝ }
     ensures { λ r. ⌜ r ≡ foundFrom (now (list .entry)) 0 (bytesIn (now (line .entry)) (fieldSpan (now (line .entry)) k)) ⌝ }
 {
-    let span = rows::field_span(line, k);
-    look_between(b, n, m, list, line, span.start, span.stop)
+    let at = rows::field_place(line, k);
+    listed_from(b, n, m, list, line, k, at)
 }
 
 // The line between two places of a text has a listed id in field k. Empty lines are passed over.

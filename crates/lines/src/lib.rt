@@ -126,12 +126,44 @@ fn opens(line: &[u8], at: usize) -> bool
     line[at] == 34
 }
 
+// No field ends within two bytes, four: all are above comma and quote.
+fn two_plain(line: &[u8], i: usize) -> bool
+    requires { ⌜ i + 2 ≤ length (now line) ⌝ }
+    ensures { λ r. ⌜ (r ≡ true → plainStop (now (line .entry)) i ≡ plainStop (now (line .entry)) (i + 2)) ⌝ }
+{
+    (44 < line[i]) & (44 < line[i + 1])
+}
+
+fn four_plain(line: &[u8], i: usize) -> bool
+    requires { ⌜ i + 4 ≤ length (now line) ⌝ }
+    ensures { λ r. ⌜ (r ≡ true → plainStop (now (line .entry)) i ≡ plainStop (now (line .entry)) (i + 4)) ⌝ }
+{
+    let first = two_plain(line, i);
+    let second = two_plain(line, i + 2);
+    first & second
+}
+
+// As far as four bytes at once tell that a plain field goes on.
+fn plain_run(line: &[u8], at: usize) -> usize
+    requires { ⌜ at ≤ length (now line) ⌝ }
+    ensures { λ r. ⌜ (r ≤ length (now (line .entry))) × (plainStop (now (line .entry)) r ≡ plainStop (now (line .entry)) at) ⌝ }
+{
+    let mut i = at;
+    while 3 < line.len() - i {
+        if !four_plain(line, i) {
+            return i;
+        }
+        i += 4;
+    }
+    i
+}
+
 // The first comma or quote from a place on, or the line's end.
 fn plain_stop(line: &[u8], at: usize) -> usize
     requires { ⌜ at ≤ length (now line) ⌝ }
     ensures { λ r. ⌜ r ≡ plainStop (now (line .entry)) at ⌝ }
 {
-    let mut i = at;
+    let mut i = plain_run(line, at);
     while i < line.len() {
         let b = line[i];
         if (b == 44) | (b == 34) {

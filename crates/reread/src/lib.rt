@@ -38,11 +38,12 @@ fn halt_of(
     requires { ⌜ Ready c (now stops) (now trips) (now bs) ns ms (now bt) nt mt × (entryGood c (now stops) (now trips) (now line) ≡ true) ⌝ }
     ensures { λ r. ⌜ stopIs r ≡ stopRead c (now (stops .entry)) (now (trips .entry)) number (now (line .entry)) ⌝ }
 {
-    let vertex = stoplist::vertex_of(bs, ns, ms, stops, line, c.stop);
-    let trip = known::listed_at(bt, nt, mt, trips, line, c.trip);
+    let p = stoplist::places_in(line, c);
+    let vertex = stoplist::vertex_of(bs, ns, ms, stops, line, c.stop, p.stop);
+    let trip = known::listed_from(bt, nt, mt, trips, line, c.trip, p.trip);
     let own = spelling::number_at(trips, trip - 1);
-    let sequence = halts::number_of(line, c.sequence);
-    let times = halts::times_of(line, c.arrival, c.departure);
+    let sequence = halts::number_from(line, c.sequence, p.sequence);
+    let times = halts::times_of(line, c.arrival, c.departure, p.arrival, p.departure);
     Halt {
         line: number,
         trip,

@@ -1,3 +1,4 @@
 pub mod Quoteless
 pub mod Fields
+pub mod Picks
 pub mod Determined

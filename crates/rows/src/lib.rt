@@ -1,19 +1,27 @@
 // The fields of a line by their numbers.
-// Promises: whether a line has so many fields with its quotes in order, and what a field says as a number or as a time, as the definitions of `feed` read it.
+// Promises: whether a line has so many fields with its quotes in order, where a field begins and what it says as a number, as the definitions of `feed` read it; and where five columns begin, by one pass over the line.
 // Rests on: places in a line (`lines`), numbers and times (`values`).
 use lines::Span;
 use lines::Stand;
 use values::Number;
-use values::Time;
 ghost use mathlib.Core.Path.{_≡_};
-ghost use mathlib.Core.Bool.{_&&_};
+ghost use mathlib.Core.Bool.{cond, _&&_};
 ghost use Prim.Native.Nat.{_+_, _-_, _<_, _≤_};
 ghost use lib.Dec.{eqb};
 ghost use lib.ListN.{length, take, drop};
-ghost use Rattle.feed.specs.Lines.{empty};
 ghost use Rattle.feed.specs.Fields.{rowOf, field};
-ghost use Rattle.values.specs.Readings.{numberRead, timeRead};
-ghost use Rattle.rows.specs.Placed.{placeOf, fieldSpan};
+ghost use Rattle.values.specs.Readings.{numberRead};
+ghost use Rattle.rows.specs.Placed.{placeOf, fieldSpan, nowhere, placesOf};
+
+// Where the five columns of a line begin, if it has as many fields as are wanted and its quotes are in order.
+pub struct Places {
+    pub fits: bool,
+    pub trip: usize,
+    pub arrival: usize,
+    pub departure: usize,
+    pub stop: usize,
+    pub sequence: usize,
+}
 
 // The line has so many fields, and its quotes are in order.
 pub fn has_fields(line: &[u8], count: usize) -> bool
@@ -29,7 +37,7 @@ pub fn has_fields(line: &[u8], count: usize) -> bool
 }
 
 // Where a field begins.
-fn field_place(line: &[u8], k: usize) -> usize
+pub fn field_place(line: &[u8], k: usize) -> usize
     ensures { λ r. ⌜ r ≡ placeOf (now (line .entry)) k ⌝ }
 {
     let stand = lines::pass(line, k);
@@ -40,13 +48,21 @@ fn field_place(line: &[u8], k: usize) -> usize
     }
 }
 
-// The bytes of a field, without the quotes around it.
+// The bytes of a field that begins at a place, without the quotes around it.
+pub fn span_from(line: &[u8], k: usize, at: usize) -> Span
+    requires { ⌜ (k < length (rowOf (now line) .fields)) × (at ≡ placeOf (now line) k) ⌝ }
+    ensures { λ r. ⌜ r ≡ fieldSpan (now (line .entry)) k ⌝ }
+{
+    lines::span_at(line, at)
+}
+
+// The same for a field that is looked for from the line's start.
 pub fn field_span(line: &[u8], k: usize) -> Span
     requires { ⌜ k < length (rowOf (now line) .fields) ⌝ }
     ensures { λ r. ⌜ r ≡ fieldSpan (now (line .entry)) k ⌝ }
 {
     let at = field_place(line, k);
-    lines::span_at(line, at)
+    span_from(line, k, at)
 }
 
 fn number_between(line: &[u8], start: usize, stop: usize, most: u32) -> Number
@@ -56,36 +72,91 @@ fn number_between(line: &[u8], start: usize, stop: usize, most: u32) -> Number
     values::read_number(&line[start..stop], most)
 }
 
-// A field as a number up to a greatest.
+// A field that begins at a place, as a number up to a greatest.
+pub fn number_from(line: &[u8], k: usize, at: usize, most: u32) -> Number
+    requires { ⌜ (k < length (rowOf (now line) .fields)) × (at ≡ placeOf (now line) k) ⌝ }
+    ensures { λ r. ⌜ r ≡ numberRead most (field (rowOf (now (line .entry))) k) ⌝ }
+{
+    let span = span_from(line, k, at);
+    number_between(line, span.start, span.stop, most)
+}
+
+// The same for a field that is looked for from the line's start.
 pub fn number_in(line: &[u8], k: usize, most: u32) -> Number
     requires { ⌜ k < length (rowOf (now line) .fields) ⌝ }
     ensures { λ r. ⌜ r ≡ numberRead most (field (rowOf (now (line .entry))) k) ⌝ }
 {
-    let span = field_span(line, k);
-    number_between(line, span.start, span.stop, most)
+    let at = field_place(line, k);
+    number_from(line, k, at, most)
 }
 
-fn time_between(line: &[u8], start: usize, stop: usize) -> Time
-    requires { ⌜ (start ≤ stop) × (stop ≤ length (now line)) ⌝ }
-    ensures { λ r. ⌜ r ≡ timeRead (take (stop - start) (drop start (now (line .entry)))) ⌝ }
+fn pick(k: usize, c: usize, at: usize, old: usize) -> usize
+    ensures { λ r. ⌜ r ≡ cond (eqb k c) at old ⌝ }
 {
-    values::read_time(&line[start..stop])
+    if k == c { at } else { old }
 }
 
-// A field as a time.
-pub fn time_in(line: &[u8], k: usize) -> Time
-    requires { ⌜ k < length (rowOf (now line) .fields) ⌝ }
-    ensures { λ r. ⌜ r ≡ timeRead (field (rowOf (now (line .entry))) k) ⌝ }
+fn no_places() -> Places
+    ensures { λ r. ⌜ r ≡ nowhere ⌝ }
 {
-    let span = field_span(line, k);
-    time_between(line, span.start, span.stop)
+    Places {
+        fits: false,
+        trip: 0,
+        arrival: 0,
+        departure: 0,
+        stop: 0,
+        sequence: 0,
+    }
 }
 
-// A field of no bytes.
-pub fn blank_in(line: &[u8], k: usize) -> bool
-    requires { ⌜ k < length (rowOf (now line) .fields) ⌝ }
-    ensures { λ r. ⌜ r ≡ empty (field (rowOf (now (line .entry))) k) ⌝ }
+// Where five columns begin in a line of so many fields.
+pub fn places_of(
+    line: &[u8],
+    count: usize,
+    trip: usize,
+    arrival: usize,
+    departure: usize,
+    stop: usize,
+    sequence: usize,
+) -> Places
+    requires { ⌜ (trip < count) × (arrival < count) × (departure < count) × (stop < count) × (sequence < count) ⌝ }
+    ensures { λ r. ⌜ r ≡ placesOf count trip arrival departure stop sequence (now (line .entry)) ⌝ }
 {
-    let span = field_span(line, k);
-    span.start == span.stop
+    let mut at = 0;
+    let mut k: usize = 0;
+    let mut t = 0;
+    let mut a = 0;
+    let mut d = 0;
+    let mut p = 0;
+    let mut q = 0;
+    loop {
+        t = pick(k, trip, at, t);
+        a = pick(k, arrival, at, a);
+        d = pick(k, departure, at, d);
+        p = pick(k, stop, at, p);
+        q = pick(k, sequence, at, q);
+        let stand = lines::some_fields(line, at, 1);
+        match stand {
+            Stand::Begins(next) => {
+                at = next;
+                k += 1;
+            }
+            Stand::Ended(_) => {
+                if k + 1 != count {
+                    return no_places();
+                }
+                return Places {
+                    fits: true,
+                    trip: t,
+                    arrival: a,
+                    departure: d,
+                    stop: p,
+                    sequence: q,
+                };
+            }
+            Stand::Broken(_) => {
+                return no_places();
+            }
+        }
+    }
 }

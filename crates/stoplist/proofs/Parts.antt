@@ -19,8 +19,10 @@ use Rattle.feed.specs.Ids.{listLine, idsRefusal, numberOf}
 use Rattle.feed.specs.Stops.{orOther}
 use Rattle.lines.specs.Rows.{undoubled}
 use Rattle.lines.specs.Spans.{bytesIn}
-use Rattle.rows.specs.Placed.{fieldSpan}
+use Rattle.rows.specs.declared.Places.{Places}
+use Rattle.rows.specs.Placed.{fieldSpan, placesOf}
 use Rattle.rows.proofs.Fields.{value, pairs}
+use Rattle.rows.proofs.Picks.{fits-counted}
 use Rattle.naming.specs.Named.{lineAt, foundFrom}
 use Rattle.naming.proofs.Meaning.{number-is}
 use Rattle.known.specs.Counted.{idKnown}
@@ -106,6 +108,7 @@ other-small f g a b = omega (arith, other-most f g a b)
 -- ---- the tests of a good line
 module _ (C : Columns) (stops trips l : List ℕ) (g : entryGood C stops trips l ≡ true) where
   pub record Good : Type 0 where
+    pub counted : (rowOf l .sound && eqb (length (rowOf l .fields)) (C .count)) ≡ true
     pub many : length (rowOf l .fields) ≡ C .count
     pub arrival : timeOrBlank (field (rowOf l) (C .arrival)) ≡ true
     pub departure : timeOrBlank (field (rowOf l) (C .departure)) ≡ true
@@ -122,7 +125,10 @@ module _ (C : Columns) (stops trips l : List ℕ) (g : entryGood C stops trips l
       let p2 = and-both (rowOf l .sound && eqb (length (rowOf l .fields)) (C .count) && timeOrBlank (field (rowOf l) (C .arrival))) (timeOrBlank (field (rowOf l) (C .departure))) (p3 .0) in
       let p1 = and-both (rowOf l .sound && eqb (length (rowOf l .fields)) (C .count)) (timeOrBlank (field (rowOf l) (C .arrival))) (p2 .0) in
       let p0 = and-both (rowOf l .sound) (eqb (length (rowOf l .fields)) (C .count)) (p1 .0) in
-      record { many = eqb-true _ _ (p0 .1); arrival = p1 .1; departure = p2 .1; sequence = p3 .1; stop = k .0; trip = k .1 }
+      record { counted = p1 .0; many = eqb-true _ _ (p0 .1); arrival = p1 .1; departure = p2 .1; sequence = p3 .1; stop = k .0; trip = k .1 }
+
+  pub all-fit : {r : Places} → r ≡ placesOf (C .count) (C .trip) (C .arrival) (C .departure) (C .stop) (C .sequence) l → r .fits ≡ true
+  all-fit e = fits-counted (C .count) (C .trip) (C .arrival) (C .departure) (C .stop) (C .sequence) l e ∙ good .counted
 
   pub below : {c : ℕ} → c < C .count → c < length (rowOf l .fields)
   below {c} h = subst (λ (n : ℕ). c < n) (sym (good .many)) h

@@ -1,13 +1,8 @@
 -- A stop of a trip as one record, made from its line. Assumes nothing.
-use mathlib.Core.Path.{_≡_}
-use mathlib.Core.Logic.{_⊎_}
 use mathlib.Core.Bool.{Bool, cond, _&&_}
 use mathlib.Core.List.{List, [], _∷_}
-use Prim.Native.Nat.{ℕ, _+_, _*_, _<_, _≤_, _^_}
-use lib.ListN.{length, getD}
-use Rattle.table_bytes.specs.Columns.{at}
-use Rattle.feed.specs.Trips.{noStop}
-use Rattle.journeys.specs.Counting.{none, one}
+use Prim.Native.Nat.{ℕ, _+_, _*_, _<_, _^_}
+use Rattle.journeys.specs.Counting.{one}
 use Rattle.feed.specs.Lines.{empty}
 use Rattle.feed.specs.Fields.{rowOf, field}
 use Rattle.feed.specs.Values.{valueOf}
@@ -54,8 +49,3 @@ pub record Inside (C : Columns) : Type 0 where
   pub departure : C .departure < C .count
   pub stop : C .stop < C .count
   pub sequence : C .sequence < C .count
-
--- n records hold these stops one by one, and how many there are is told; n + 1 where there are more
-pub record Filled (n : ℕ) (W : List ℕ) (E : List Stop) (r : ℕ) : Type 0 where
-  pub told : ((r ≡ length E) × (r ≤ n)) ⊎ ((r ≡ n + 1) × (n < length E))
-  pub each : r ≤ n → (i : ℕ) → i < r → at W i ≡ packed (getD E i noStop)

@@ -7,14 +7,13 @@ ghost use Prim.Native.Nat.{ℕ, _+_, _*_, _-_, _<_, _≤_, _^_};
 ghost use lib.ListN.{length, take, drop, set, getD};
 ghost use Rattle.journeys.specs.Counting.{none, one};
 ghost use Rattle.journeys.specs.Refusals.{fine};
-ghost use Rattle.feed.specs.Lines.{empty, linesOf, firstBadLine};
 ghost use Rattle.feed.specs.Fields.{rowOf, field};
 ghost use Rattle.feed.specs.Ids.{idsRefusal, numberOf};
-ghost use Rattle.feed.specs.Trips.{noStop};
-ghost use Rattle.table_bytes.specs.Columns.{at};
 ghost use Rattle.sorting.specs.Sorted.{recs};
 ghost use Rattle.known.specs.Counted.{Slots, Listed, idKnown};
-ghost use Rattle.stoplist.specs.Made.{packed, stopMade, stopsMade, entryGood, Inside, Filled};
+ghost use Rattle.rows.specs.Placed.{placeOf, placesOf};
+ghost use Rattle.stoplist.specs.Made.{packed, stopMade, entryGood, Inside};
+use rows::Places;
 use sorting::put;
 
 // How many fields a line has, and in which of them the five columns stand.
@@ -33,14 +32,30 @@ fn bit(timed: bool) -> u64
     if timed { 1 } else { 0 }
 }
 
-// The vertex that a list has for the id in field k of a line.
-pub fn vertex_of(b: &[u8], n: usize, m: usize, list: &[u8], line: &[u8], k: usize) -> u32
-    requires { ⌜ Slots n (now b) × Listed (now list) n m (now b) × (k < length (rowOf (now line) .fields)) ⌝ }
+// The vertex that a list has for the id in field k of a line, which begins at a place.
+pub fn vertex_of(b: &[u8], n: usize, m: usize, list: &[u8], line: &[u8], k: usize, at: usize) -> u32
+    requires { ⌜ Slots n (now b) × Listed (now list) n m (now b) × (k < length (rowOf (now line) .fields)) × (at ≡ placeOf (now line) k) ⌝ }
     requires { ⌜ (idsRefusal 65535 (now list) ≡ fine) × (idKnown (now list) k (now line) ≡ true) ⌝ }
     ensures { λ r. ⌜ (r ≡ numberOf (now (list .entry)) (field (rowOf (now (line .entry))) k)) × (r ≤ 65535) ⌝ }
 {
-    let place = known::listed_at(b, n, m, list, line, k);
+    let place = known::listed_from(b, n, m, list, line, k, at);
     spelling::number_at(list, place - 1)
+}
+
+// Where the columns of a line begin.
+pub fn places_in(line: &[u8], c: Columns) -> Places
+    requires { ⌜ Inside c ⌝ }
+    ensures { λ r. ⌜ r ≡ placesOf (c .count) (c .trip) (c .arrival) (c .departure) (c .stop) (c .sequence) (now (line .entry)) ⌝ }
+{
+    rows::places_of(
+        line,
+        c.count,
+        c.trip,
+        c.arrival,
+        c.departure,
+        c.stop,
+        c.sequence,
+    )
 }
 
 // A stop from its fields becomes record j.
@@ -95,10 +110,11 @@ fn write_line(
     requires { ⌜ Slots nt (now bt) × Listed (now trips) nt mt (now bt) × (idsRefusal none (now trips) ≡ fine) × (length (now trips) < 4294967296) ⌝ }
     ensures { λ _. ⌜ recs n (now (b .exit)) ≡ set (recs n (now (b .entry))) j (packed (stopMade c (now (stops .entry)) (now (trips .entry)) number (now (line .entry)))) ⌝ }
 {
-    let vertex = vertex_of(bs, ns, ms, stops, line, c.stop);
-    let trip = known::listed_at(bt, nt, mt, trips, line, c.trip);
-    let sequence = halts::number_of(line, c.sequence);
-    let times = halts::times_of(line, c.arrival, c.departure);
+    let p = places_in(line, c);
+    let vertex = vertex_of(bs, ns, ms, stops, line, c.stop, p.stop);
+    let trip = known::listed_from(bt, nt, mt, trips, line, c.trip, p.trip);
+    let sequence = halts::number_from(line, c.sequence, p.sequence);
+    let times = halts::times_of(line, c.arrival, c.departure, p.arrival, p.departure);
     put_stop(
         b,
         n,
@@ -153,64 +169,4 @@ pub fn write_part(
         mt,
         trips,
     );
-}
-
-// The stops of the lines from a place on become records; how many there are, or n + 1 where n records do not hold them.
-pub fn fill(
-    b: &mut [u8],
-    n: usize,
-    text: &[u8],
-    from: usize,
-    c: Columns,
-    bs: &[u8],
-    ns: usize,
-    ms: usize,
-    stops: &[u8],
-    bt: &[u8],
-    nt: usize,
-    mt: usize,
-    trips: &[u8],
-) -> usize
-    requires { ⌜ (length (now b) ≡ 20 * n) × Inside c × (from ≤ length (now text)) × (length (now text) < 4294967294) × (firstBadLine 13 (entryGood c (now stops) (now trips)) 2 (linesOf (drop from (now text))) ≡ fine) ⌝ }
-    requires { ⌜ Slots ns (now bs) × Listed (now stops) ns ms (now bs) × (idsRefusal 65535 (now stops) ≡ fine) ⌝ }
-    requires { ⌜ Slots nt (now bt) × Listed (now trips) nt mt (now bt) × (idsRefusal none (now trips) ≡ fine) × (length (now trips) < 4294967296) ⌝ }
-    ensures { λ r. ⌜ Filled n (recs n (now (b .exit))) (stopsMade c (now (stops .entry)) (now (trips .entry)) 2 (linesOf (drop from (now (text .entry))))) r ⌝ }
-{
-    let mut at = from;
-    let mut line: u32 = 2;
-    let mut j = 0;
-    while at < text.len() {
-        let stop = lines::line_stop(text, at);
-        let next = lines::line_next(text, stop);
-        if at < stop {
-            if j == n {
-                return n + 1;
-            }
-            write_part(
-                b,
-                n,
-                j,
-                line,
-                text,
-                at,
-                stop,
-                c,
-                bs,
-                ns,
-                ms,
-                stops,
-                bt,
-                nt,
-                mt,
-                trips,
-            );
-            j += 1;
-            line += 1;
-            at = next;
-        } else {
-            line += 1;
-            at = next;
-        }
-    }
-    j
 }

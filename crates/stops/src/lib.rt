@@ -5,23 +5,25 @@ use values::Number;
 use values::Time;
 use words::Refusal;
 ghost use mathlib.Core.Path.{_≡_};
-ghost use mathlib.Core.Bool.{_||_};
+ghost use mathlib.Core.Bool.{true, _&&_, _||_};
 ghost use Prim.Native.Nat.{_+_, _-_, _<_, _≤_};
+ghost use lib.Dec.{eqb};
 ghost use lib.ListN.{length, take, drop};
 ghost use Rattle.feed.specs.Lines.{empty, linesOf, firstBadLine};
 ghost use Rattle.feed.specs.Fields.{rowOf, field};
 ghost use Rattle.feed.specs.Values.{timeOrBlank};
 ghost use Rattle.journeys.specs.Refusals.{orElse};
 ghost use Rattle.feed.specs.Stops.{headerRefusal, linesRefusal};
+ghost use Rattle.rows.specs.Placed.{placeOf};
 ghost use Rattle.words.specs.Told.{told};
 ghost use Rattle.stops.specs.StopLines.{lineGood, faultBelow};
 
-// A field that is a time, or blank.
-fn time_or_blank(line: &[u8], k: usize) -> bool
-    requires { ⌜ k < length (rowOf (now line) .fields) ⌝ }
+// A field that begins at a place is a time, or blank.
+fn time_or_blank(line: &[u8], k: usize, at: usize) -> bool
+    requires { ⌜ (k < length (rowOf (now line) .fields)) × (at ≡ placeOf (now line) k) ⌝ }
     ensures { λ r. ⌜ r ≡ timeOrBlank (field (rowOf (now (line .entry))) k) ⌝ }
 {
-    let span = rows::field_span(line, k);
+    let span = rows::span_from(line, k, at);
     let start = span.start;
     let stop = span.stop;
     if start == stop {
@@ -34,25 +36,53 @@ fn time_or_blank(line: &[u8], k: usize) -> bool
     }
 }
 
-// A line with so many fields, and with times and a sequence in these columns.
-fn stop_line(line: &[u8], count: usize, arrival: usize, departure: usize, sequence: usize) -> bool
-    requires { ⌜ (arrival < count) × (departure < count) × (sequence < count) × (count < 18446744073709551615) ⌝ }
+// A line with so many fields has times and a sequence in these columns, which begin at three places.
+pub fn timely(
+    line: &[u8],
+    count: usize,
+    arrival: usize,
+    departure: usize,
+    sequence: usize,
+    first: usize,
+    second: usize,
+    third: usize,
+) -> bool
+    requires { ⌜ (arrival < count) × (departure < count) × (sequence < count) × ((rowOf (now line) .sound && eqb (length (rowOf (now line) .fields)) count) ≡ true) ⌝ }
+    requires { ⌜ (first ≡ placeOf (now line) arrival) × (second ≡ placeOf (now line) departure) × (third ≡ placeOf (now line) sequence) ⌝ }
     ensures { λ r. ⌜ r ≡ lineGood count arrival departure sequence (now (line .entry)) ⌝ }
 {
-    if !rows::has_fields(line, count) {
+    if !time_or_blank(line, arrival, first) {
         return false;
     }
-    if !time_or_blank(line, arrival) {
+    if !time_or_blank(line, departure, second) {
         return false;
     }
-    if !time_or_blank(line, departure) {
-        return false;
-    }
-    let read = rows::number_in(line, sequence, 4294967295);
+    let read = rows::number_from(line, sequence, third, 4294967295);
     match read {
         Number::Value(_) => true,
         Number::Bad => false,
     }
+}
+
+// A line with so many fields, and with times and a sequence in these columns. No other column is looked for.
+fn stop_line(line: &[u8], count: usize, arrival: usize, departure: usize, sequence: usize) -> bool
+    requires { ⌜ (arrival < count) × (departure < count) × (sequence < count) × (count < 18446744073709551615) ⌝ }
+    ensures { λ r. ⌜ r ≡ lineGood count arrival departure sequence (now (line .entry)) ⌝ }
+{
+    let p = rows::places_of(line, count, arrival, arrival, departure, arrival, sequence);
+    if !p.fits {
+        return false;
+    }
+    timely(
+        line,
+        count,
+        arrival,
+        departure,
+        sequence,
+        p.arrival,
+        p.departure,
+        p.sequence,
+    )
 }
 
 // The line between two places of a text. Empty lines are passed over.

@@ -3,11 +3,11 @@ use mathlib.Core.Path.{_≡_, refl, sym, ap, ap₂, subst, _∙_}
 use mathlib.Core.Logic.{_⊎_, inl, inr, ⊎-elim, _≢_}
 use mathlib.Core.Bool.{Bool, true, false, cond}
 use mathlib.Core.List.{List, [], _∷_, _++_, flatMap}
-use Prim.Native.Nat.{ℕ, _/_, _≤_}
+use Prim.Native.Nat.{ℕ, _+_, _/_, _≤_}
 use native.Mathlib.Omega.{arith}
 use native.Mathlib.Decide.{ℕ-discrete}
 use lib.Dec.{eqb, leb}
-use lib.ListN.{length}
+use lib.ListN.{length, take, drop}
 use borrow.Author.Tests.{eq-eqb, ne-eqb}
 use Rattle.journeys.specs.Counting.{none}
 use Rattle.journeys.specs.Bytes.{word, filled, cleared}
@@ -15,12 +15,19 @@ use Rattle.journeys.specs.Refusals.{Refusal, fine, unless, orElse, tableOf}
 use Rattle.journeys.proofs.Tests.{split, cond-true, cond-false}
 use Rattle.journeys.proofs.Refusals.{or-fine, or-first, or-next, unless-good, unless-bad, unless-fine}
 use Rattle.feed.specs.Lines.{linesOf}
+use Rattle.feed.specs.Fields.{Row, rowOf}
+use Rattle.lines.specs.Ends.{width, endWidth}
 use Rattle.feed.specs.Ids.{listLine, idsRefusal}
 use Rattle.feed.specs.Stops.{header, columnsOnce, headerRefusal, stopLine, below, idsKnown, linesRefusal, knownRefusal}
 use Rattle.feed.specs.Answers.{Feed, Passed, feedHops, feedRefusal, hopCount, targetAfter}
-use Rattle.vetting.specs.Vetted.{textRefusal}
 use Rattle.vetting.proofs.LineLaws.{line-number, line-fine}
-use Rattle.vetting.proofs.VettedLaws.{ids-fine}
+use Rattle.vetting.specs.Vetted.{textRefusal, opens, allFit}
+use Rattle.vetting.proofs.VettedLaws.{ids-fine, fit-lines}
+use Rattle.vetting.proofs.FitLaws.{Open, all-open}
+use Rattle.stoplist.specs.declared.Columns.{Columns}
+use Rattle.stoplist.specs.Made.{entryGood}
+use Rattle.headings.specs.Opened.{Opened}
+use Rattle.headings.proofs.OpenedLaws.{first-row}
 use Rattle.timetable_laws.proofs.Demands.{count-most}
 use Rattle.departures.specs.Answered.{told}
 use Rattle.departures.specs.declared.Answer.{Answer}
@@ -106,6 +113,22 @@ vetted text stops trips e =
     let q = or-fine (idsRefusal none trips) _ (p .1) in
     let r = or-fine (headerRefusal text) _ (q .1) in
     record { stops-fine = ids-fine 65535 stops (p .0); trips-fine = ids-fine none trips (q .0); columns = unless-fine (columnsOnce (header text)) 12 1 (omega arith) (r .0); header-fine = r .0; lines-fine = rest-fine text (r .1) }
+
+-- line 1 by its place
+pub opening-of : (text stops trips : List ℕ) (stop next : ℕ) → stop ≡ 0 + width (drop 0 text) → next ≡ stop + endWidth (drop stop text) → opens (rowOf (take stop text)) stops trips ≡ true → Open (header text) stops trips
+opening-of text stops trips stop next s n e = all-open (header text) stops trips (ap (λ (H : Row). opens H stops trips) (sym (first-row text stop next s n)) ∙ e)
+
+-- the lists and line 1 are not refused, and all lines are let pass
+pub fitted : (text stops trips : List ℕ) (from : ℕ) (C : Columns) → Opened text from C → Open (header text) stops trips → allFit (entryGood C stops trips) (linesOf (drop from text)) ≡ true → Vetted text stops trips
+unfolding headerRefusal
+fitted text stops trips from C o w e =
+    record {
+      stops-fine = ids-fine 65535 stops (w .stops-none);
+      trips-fine = ids-fine none trips (w .trips-none);
+      columns = w .columns;
+      header-fine = ap (λ (r : Refusal). r .number) (unless-good (columnsOnce (header text)) 12 1 (w .columns));
+      lines-fine = fit-lines text from C o stops trips e (w .sound);
+    }
 
 -- ---- the answer of the definitions
 module _ (F : Feed) where

@@ -1,3 +1,4 @@
 pub mod LineLaws
+pub mod FitLaws
 pub mod VettedLaws
 pub mod Determined

@@ -9,7 +9,7 @@ use lib.Dec.{eqb}
 use lib.ListN.{length, getD, drop}
 use Rattle.journeys.specs.Counting.{none}
 use Rattle.journeys.specs.Refusals.{Refusal, fine, unless, orElse}
-use Rattle.journeys.proofs.Refusals.{or-fine, or-first, or-next, unless-fine}
+use Rattle.journeys.proofs.Refusals.{or-fine, or-first, or-next, unless-good, unless-fine}
 use Rattle.journeys.proofs.Tests.{and-both}
 use Rattle.feed.specs.Lines.{linesOf, firstBadLine}
 use Rattle.feed.specs.Fields.{Row, rowOf}
@@ -21,8 +21,11 @@ use Rattle.lowest.specs.Lower.{lowerOf}
 use Rattle.lowest.proofs.BothTests.{both-tests}
 use Rattle.stoplist.specs.declared.Columns.{Columns}
 use Rattle.headings.specs.Opened.{Opened}
-use Rattle.vetting.specs.Vetted.{textRefusal}
+use Rattle.stops.specs.StopLines.{lineGood}
+use Rattle.stoplist.specs.Made.{entryGood}
+use Rattle.vetting.specs.Vetted.{textRefusal, allFit}
 use Rattle.vetting.proofs.LineLaws.{line-fine, weaker}
+use Rattle.vetting.proofs.FitLaws.{all-fine, is-timely, both-known}
 
 pub ids-fine : (most : ℕ) (list : List ℕ) → idsRefusal most list .number ≡ 0 → idsRefusal most list ≡ fine
 unfolding idsRefusal
@@ -65,9 +68,39 @@ module _ (text : List ℕ) (from : ℕ) (C : Columns) (o : Opened text from C) w
       rw (o .rest, o .found .count)
       (weaker 13 refl (stopLine (header text)) (counted (length (header text .fields))) (line-counted (header text)) 2 (below text) (lines-good text e))
 
+  -- by the columns of line 1 the tests are those of the definition
+  line-same : (l : List ℕ) → lineGood (C .count) (C .arrival) (C .departure) (C .sequence) l ≡ stopLine (header text) l
+  unfolding lineGood stopLine inColumn header
+  line-same l = rw (o .found .count, o .found .arrival, o .found .departure, o .found .sequence) refl
+
+  known-same : (stops trips l : List ℕ) → (idKnown stops (C .stop) l && idKnown trips (C .trip) l) ≡ idsKnown (header text) stops trips l
+  unfolding idKnown idsKnown inColumn header
+  known-same stops trips l = rw (o .found .stop, o .found .trip) refl
+
   pub known-lower : (stops trips : List ℕ) (a b : Refusal) → a ≡ firstBadLine 14 (idKnown stops (C .stop)) 2 (linesOf (drop from text))
       → b ≡ firstBadLine 14 (idKnown trips (C .trip)) 2 (linesOf (drop from text)) → lowerOf a b ≡ knownRefusal text stops trips
   unfolding knownRefusal idsKnown inColumn idKnown header
   known-lower stops trips a b p q =
       rw (p, q, o .rest, o .found .stop, o .found .trip)
       (sym (both-tests 14 refl (λ l. idKnown stops (column stopName (header text)) l) (λ l. idKnown trips (column tripName (header text)) l) 2 (below text)))
+
+  -- where 13 and 14 let all lines pass
+  module _ (stops trips : List ℕ) (e : allFit (entryGood C stops trips) (linesOf (drop from text)) ≡ true) where
+    good-below : allFit (entryGood C stops trips) (below text) ≡ true
+    good-below = ap (allFit (entryGood C stops trips)) (sym (o .rest)) ∙ e
+
+    pub fit-lines : header text .sound ≡ true → linesRefusal text ≡ fine
+    unfolding linesRefusal
+    fit-lines h =
+        or-next (unless (header text .sound) 13 1) _ (ap (λ (r : Refusal). r .number) (unless-good (header text .sound) 13 1 h))
+        ∙ all-fine 13 (entryGood C stops trips) (stopLine (header text)) timely 2 (below text) good-below
+      where
+        timely : (l : List ℕ) → entryGood C stops trips l ≡ true → stopLine (header text) l ≡ true
+        timely l g = sym (line-same l) ∙ is-timely C stops trips l g
+
+    pub fit-known : knownRefusal text stops trips ≡ fine
+    unfolding knownRefusal
+    fit-known = all-fine 14 (entryGood C stops trips) (idsKnown (header text) stops trips) listed 2 (below text) good-below
+      where
+        listed : (l : List ℕ) → entryGood C stops trips l ≡ true → idsKnown (header text) stops trips l ≡ true
+        listed l g = sym (known-same stops trips l) ∙ both-known C stops trips l g

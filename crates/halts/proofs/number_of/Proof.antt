@@ -1,14 +1,10 @@
 use borrow.Author.Needs.{needs}
-use mathlib.Core.Path.{_≡_, refl, sym, ap, _∙_}
-use Rattle.halts.proofs.Readings.{number-told, number-never}
+use mathlib.Core.Path.{_≡_}
 use Rattle.halts.proofs.number_of.Statement.{statement}
 use Rattle.halts.proofs.number_of.Tie as tie
 
-returns : tie.Need-returns
-returns c = number-told _ _ (sym (c .before .before .before .number-in .ensures) ∙ c .before .read .given .1)
-
-returns-2 : tie.Need-returns-2
-returns-2 c = number-never _ (sym (c .before .before .number-in .ensures) ∙ c .enum-told .given .1) (c .before .before .before .before .pre .1)
+number-from-requires : tie.Need-number-from-requires
+number-from-requires c κs = let p = c .before .before .pre in (p .0, c .field-place .ensures, p .1)
 
 pub number-of-spec : {M : Type 1} → statement M
-number-of-spec = tie.close (tie.spec (λ c κs. search needs) (λ c. c .match .keys1) (λ c. c .match .keys2) returns returns-2)
+number-of-spec = tie.close (tie.spec (λ c κs. search needs) number-from-requires (λ c. c .number-from .ensures))

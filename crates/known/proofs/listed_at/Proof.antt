@@ -1,17 +1,10 @@
 use borrow.Author.Needs.{needs}
-use mathlib.Core.Path.{_≡_, refl, sym, ap, _∙_}
-use Rattle.rows.proofs.Fields.{within}
-use Rattle.known.proofs.Lookups.{bytes-between}
+use mathlib.Core.Path.{_≡_}
 use Rattle.known.proofs.listed_at.Statement.{statement}
 use Rattle.known.proofs.listed_at.Tie as tie
 
-look-between-requires : tie.Need-look-between-requires
-look-between-requires c κs =
-    let p = c .before .before .before .before .pre in
-    ((p .0, p .1), within _ _ (p .2) _ (c .field-span .ensures))
-
-returns : tie.Need-returns
-returns c = c .look-between .ensures ∙ bytes-between _ _ _ _ (c .before .field-span .ensures)
+listed-from-requires : tie.Need-listed-from-requires
+listed-from-requires c κs = let p = c .before .before .before .before .pre in (p .0, p .1, p .2, c .field-place .ensures)
 
 pub listed-at-spec : {M : Type 1} → statement M
-listed-at-spec = tie.close (tie.spec (λ c κs. search needs) look-between-requires returns)
+listed-at-spec = tie.close (tie.spec (λ c κs. search needs) listed-from-requires (λ c. c .listed-from .ensures))

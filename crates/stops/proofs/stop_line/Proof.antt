@@ -1,56 +1,26 @@
-use native.Mathlib.Omega.{arith}
-use mathlib.Core.Path.{_≡_, refl, sym, ap, _∙_}
-use borrow.Author.Tests.{not-true, not-false}
-use Rattle.stops.proofs.StopLines.{long, other-count, bad-arrival, bad-departure, good-sequence, bad-sequence}
 use borrow.Author.Needs.{needs}
+use mathlib.Core.Path.{_≡_, sym, ap, _∙_}
+use borrow.Author.Tests.{not-true, not-false}
+use Rattle.rows.proofs.Picks.{fits-counted, arrival-placed, departure-placed, sequence-placed}
+use Rattle.stops.proofs.StopLines.{other-count}
 use Rattle.stops.proofs.stop_line.Statement.{statement}
 use Rattle.stops.proofs.stop_line.Tie as tie
 
-has-fields-requires : tie.Need-has-fields-requires
-has-fields-requires c κs = search needs
+places-of-requires : tie.Need-places-of-requires
+places-of-requires c κs = let p = c .before .pre in (p .0, p .0, p .1, p .0, p .2)
 
 returns : tie.Need-returns
-returns c = sym (other-count _ _ _ _ _ (sym (c .before .has-fields .ensures) ∙ not-true _ (c .if1 .taken)))
+returns c =
+    let places = c .before .before in
+    sym (other-count _ _ _ _ _ (sym (fits-counted _ _ _ _ _ _ _ (places .places-of .ensures)) ∙ not-true _ (c .if1 .taken)))
 
-time-or-blank-requires : tie.Need-time-or-blank-requires
-time-or-blank-requires c κs = omega (arith, long (c .before .before .before .args .count) 0 0 0 (c .before .before .before .args .line .now) (sym (c .before .has-fields .ensures) ∙ not-false _ (c .if1 .left)))
-
-returns-2 : tie.Need-returns-2
-returns-2 c = sym (bad-arrival _ _ _ _ _ (sym (c .before .before .before .has-fields .ensures) ∙ not-false _ (c .before .before .if1 .left)) (sym (c .before .time-or-blank .ensures) ∙ not-true _ (c .if2 .taken)))
-
-time-or-blank-requires-2 : tie.Need-time-or-blank-requires-2
-time-or-blank-requires-2 c κs = omega (arith, long (c .before .before .before .before .before .args .count) 0 0 0 (c .before .before .before .before .before .args .line .now) (sym (c .before .before .before .has-fields .ensures) ∙ not-false _ (c .before .before .if1 .left)))
-
-returns-3 : tie.Need-returns-3
-returns-3 c = sym (bad-departure _ _ _ _ _ (sym (c .before .before .before .before .before .has-fields .ensures) ∙ not-false _ (c .before .before .before .before .if1 .left)) (sym (c .before .before .before .time-or-blank .ensures) ∙ not-false _ (c .before .before .if2 .left)) (sym (c .before .time-or-blank2 .ensures) ∙ not-true _ (c .if3 .taken)))
-
-number-in-requires : tie.Need-number-in-requires
-number-in-requires c κs = omega (arith, long (c .before .before .before .before .before .before .before .args .count) 0 0 0 (c .before .before .before .before .before .before .before .args .line .now) (sym (c .before .before .before .before .before .has-fields .ensures) ∙ not-false _ (c .before .before .before .before .if1 .left)))
-
-enum-told : tie.Need-enum-told
-enum-told c = search needs
-
-enum-told-2 : tie.Need-enum-told-2
-enum-told-2 c = search needs
-
-returns-4 : tie.Need-returns-4
-returns-4 c = sym (good-sequence _ _ _ _ _ (sym (c .before .before .before .before .before .before .before .before .has-fields .ensures) ∙ not-false _ (c .before .before .before .before .before .before .before .if1 .left)) (sym (c .before .before .before .before .before .before .time-or-blank .ensures) ∙ not-false _ (c .before .before .before .before .before .if2 .left)) (sym (c .before .before .before .before .time-or-blank2 .ensures) ∙ not-false _ (c .before .before .before .if3 .left)) _ (sym (c .before .before .number-in .ensures) ∙ c .enum-told .given .1))
-
-returns-5 : tie.Need-returns-5
-returns-5 c = sym (bad-sequence _ _ _ _ _ (sym (c .before .before .before .before .before .before .before .before .has-fields .ensures) ∙ not-false _ (c .before .before .before .before .before .before .before .if1 .left)) (sym (c .before .before .before .before .before .before .time-or-blank .ensures) ∙ not-false _ (c .before .before .before .before .before .if2 .left)) (sym (c .before .before .before .before .time-or-blank2 .ensures) ∙ not-false _ (c .before .before .before .if3 .left)) (sym (c .before .before .number-in .ensures) ∙ c .enum-told2 .given .1))
+timely-requires : tie.Need-timely-requires
+timely-requires c κs =
+    let places = c .before .before in
+    let p = places .before .before .pre in
+    let e = places .places-of .ensures in
+    let g = not-false _ (c .if1 .left) in
+    ((p .0, p .1, p .2, sym (fits-counted _ _ _ _ _ _ _ e) ∙ g), (arrival-placed _ _ _ _ _ _ _ e g, departure-placed _ _ _ _ _ _ _ e g, sequence-placed _ _ _ _ _ _ _ e g))
 
 pub stop-line-spec : {M : Type 1} → statement M
-stop-line-spec =
-    tie.close
-    (tie.spec
-    has-fields-requires
-    returns
-    time-or-blank-requires
-    returns-2
-    time-or-blank-requires-2
-    returns-3
-    number-in-requires
-    enum-told
-    enum-told-2
-    returns-4
-    returns-5)
+stop-line-spec = tie.close (tie.spec places-of-requires returns timely-requires (λ c. c .timely .ensures))

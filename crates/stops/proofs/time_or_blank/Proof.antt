@@ -10,24 +10,24 @@ use Rattle.stops.proofs.time_or_blank.Tie as tie
 returns : tie.Need-returns
 returns c =
     let span = c .before in
-    sym (blank-good _ (sym (as-blank _ _ (span .before .before .pre) _ (span .field-span .ensures)) ∙ eq-eqb _ _ (c .if1 .taken)))
+    sym (blank-good _ (sym (as-blank _ _ (span .before .before .pre .0) _ (span .span-from .ensures)) ∙ eq-eqb _ _ (c .if1 .taken)))
 
 sub-read-time : tie.Need-sub-read-time
-sub-read-time c = let span = c .before in within _ _ (span .before .before .pre) _ (span .field-span .ensures) .0
+sub-read-time c = let span = c .before in within _ _ (span .before .before .pre .0) _ (span .span-from .ensures) .0
 
 part-read-time-start : tie.Need-part-read-time-start
-part-read-time-start c = let span = c .before in omega (arith, within _ _ (span .before .before .pre) _ (span .field-span .ensures))
+part-read-time-start c = let span = c .before in omega (arith, within _ _ (span .before .before .pre .0) _ (span .span-from .ensures))
 
 part-read-time-end : tie.Need-part-read-time-end
-part-read-time-end c = let span = c .before in omega (arith, within _ _ (span .before .before .pre) _ (span .field-span .ensures))
+part-read-time-end c = let span = c .before in omega (arith, within _ _ (span .before .before .pre .0) _ (span .span-from .ensures))
 
 returns-2 : tie.Need-returns-2
 returns-2 c =
     let read = c .before .before in
     let else = read .before .before in
     let span = else .before in
-    let h = span .before .before .pre in
-    let e = span .field-span .ensures in
+    let h = span .before .before .pre .0 in
+    let e = span .span-from .ensures in
     sym (time-good _ _ (sym (as-blank _ _ h _ e) ∙ ne-eqb _ _ (else .if1 .left)) (sym (as-time _ _ h _ e) ∙ sym (read .read-time .ensures) ∙ c .enum-told .given .1))
 
 returns-3 : tie.Need-returns-3
@@ -35,8 +35,8 @@ returns-3 c =
     let read = c .before .before in
     let else = read .before .before in
     let span = else .before in
-    let h = span .before .before .pre in
-    let e = span .field-span .ensures in
+    let h = span .before .before .pre .0 in
+    let e = span .span-from .ensures in
     sym (time-bad _ (sym (as-blank _ _ h _ e) ∙ ne-eqb _ _ (else .if1 .left)) (sym (as-time _ _ h _ e) ∙ sym (read .read-time .ensures) ∙ c .enum-told2 .given .1))
 
 pub time-or-blank-spec : {M : Type 1} → statement M

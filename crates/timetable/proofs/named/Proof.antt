@@ -5,45 +5,36 @@ use Rattle.timetable.proofs.named.Tie as tie
 use Rattle.timetable.proofs.named.Reads as reads
 use Rattle.timetable.proofs.named.Lts as lts
 use Rattle.idtable.proofs.build.Reads as build-reads
-use Rattle.timetable.proofs.judged.Reads as judged-reads
+use Rattle.timetable.proofs.opened.Reads as opened-reads
 
--- src/lib.rt:108:28
 slice-aggregate-build : tie.Need-slice-aggregate-build
 slice-aggregate-build c = search needs
 
--- src/lib.rt:108:9
 build-requires : tie.Need-build-requires
 build-requires c κs = search needs
 
--- src/lib.rt:109:28
 slice-aggregate-build-2 : tie.Need-slice-aggregate-build-2
 slice-aggregate-build-2 c = search needs
 
--- src/lib.rt:109:9
 build-requires-2 : tie.Need-build-requires-2
 build-requires-2 c κs = search needs
 
--- src/lib.rt:110:20
-slice-aggregate-judged : tie.Need-slice-aggregate-judged
-slice-aggregate-judged c = search needs
+slice-aggregate-opened : tie.Need-slice-aggregate-opened
+slice-aggregate-opened c = search needs
 
--- src/lib.rt:110:44
-slice-aggregate-judged-2 : tie.Need-slice-aggregate-judged-2
-slice-aggregate-judged-2 c = search needs
+slice-aggregate-opened-2 : tie.Need-slice-aggregate-opened-2
+slice-aggregate-opened-2 c = search needs
 
--- src/lib.rt:110:5
-judged-requires : tie.Need-judged-requires
-judged-requires c κs =
+opened-requires : tie.Need-opened-requires
+opened-requires c κs =
     let second = c .before .before .before .before in
     let first = second .before .before .before in
     let s = first .before .before .before .before .before .before in
-    ((s .pre .0, s .pre .1), (search needs, first .build .ensures, search needs, second .build2 .ensures))
+    (s .pre, (search needs, first .build .ensures, search needs, second .build2 .ensures))
 
--- src/lib.rt:101:1
 same-length : tie.Need-same-length
 same-length c = search needs
 
--- src/lib.rt:101:1
 returns : tie.Need-returns
 returns c = search needs
 
@@ -55,8 +46,8 @@ named-spec =
     build-requires
     slice-aggregate-build-2
     build-requires-2
-    slice-aggregate-judged
-    slice-aggregate-judged-2
-    judged-requires
+    slice-aggregate-opened
+    slice-aggregate-opened-2
+    opened-requires
     same-length
     returns)
