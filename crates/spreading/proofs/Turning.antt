@@ -1,14 +1,16 @@
 -- A pending hop is taken from the stack or by the cursor and followed; when none is left, all is closed. Assumes nothing.
 use mathlib.Core.Path.{_≡_, refl, sym, ap, subst, _∙_}
 use mathlib.Core.Logic.{_⊎_, inl, inr, ⊎-elim, _≢_}
-use mathlib.Core.Bool.{Bool, true, false}
+use mathlib.Core.Bool.{Bool, true, false, _||_}
 use mathlib.Core.List.{List}
 use Prim.Native.Nat.{ℕ, suc, _+_, _-_, _*_, _≤_, _<_}
 use native.Mathlib.Omega.{arith}
 use lib.ListN.{length, getD}
+use lib.Dec.{ltb}
+use borrow.Author.Tests.{ltb-true, ltb-false}
 use Rattle.journeys.specs.Tables.{Tables, hop, hopCount}
 use Rattle.journeys.specs.Query.{Query}
-use Rattle.journeys.proofs.Tests.{never, same-or-below, last-or-below}
+use Rattle.journeys.proofs.Tests.{never, or-cases, or-none, same-or-below, last-or-below}
 use Rattle.boarding.specs.Rides.{Mode, Stays}
 use Rattle.marks.specs.Marks.{bit}
 use Rattle.marking.specs.Carried.{Carries}
@@ -152,3 +154,13 @@ module _ (N : Tables) (Q : Query) (M : Mode) (set : List ℕ) where
       go i j il st h (inr (inl (n, l, q))) = absurd (let z : ⊥ = omega (arith, e) in z)
       go i j il st h (inr (inr (inl q))) = absurd (let z : ⊥ = omega (arith, a .fit .low j h) in z)
       go i j il st h (inr (inr (inr f))) = f i il st
+
+-- ---- the test for more: a word on the stack, or a hop from the cursor on
+module _ {height cursor n : ℕ} where
+  pub more-passed : ltb 0 height || ltb cursor n ≡ true → height ≡ 0 → cursor < n
+  more-passed t e = ⊎-elim (λ (h : ltb 0 height ≡ true). absurd (let z : ⊥ = omega (arith, ltb-true 0 height h, e) in z)) (λ (h : ltb cursor n ≡ true). ltb-true cursor n h) (or-cases (ltb 0 height) (ltb cursor n) t)
+
+  pub no-more : ltb 0 height || ltb cursor n ≡ false → (height ≡ 0) × (n ≤ cursor)
+  no-more t =
+      let o = or-none (ltb 0 height) (ltb cursor n) t in
+      (omega (arith, ltb-false 0 height (o .0)), ltb-false cursor n (o .1))

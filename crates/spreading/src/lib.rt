@@ -142,3 +142,104 @@ fn follow(
         j,
     )
 }
+
+// One pending hop is taken, from the stack if it has one, and followed.
+fn turn(
+    vertices: &[u8],
+    walks: &[u8],
+    hops: &[u8],
+    a: Asked,
+    set: &[u16],
+    table: &mut [u8],
+    marks: &mut [u16],
+    stack: &mut [u32],
+    scratch: &[u8],
+    p: Pending,
+) -> Pending
+    requires { ⌜ Judged (now vertices) (now walks) (now hops) a × Fit (tables (now vertices) (now walks) (now hops) a) (query a) (now set) (state p (now table) (now marks) (now stack)) ⌝ }
+    requires { ⌜ Sorted (now vertices) (now hops) a (now scratch) × Pends (tables (now vertices) (now walks) (now hops) a) (mode (now hops) a) (hopCount (tables (now vertices) (now walks) (now hops) a)) (state p (now table) (now marks) (now stack)) × Prefix (tables (now vertices) (now walks) (now hops) a) (mode (now hops) a) (marksOf (state p (now table) (now marks) (now stack))) ⌝ }
+    requires { ⌜ (p .height ≡ 0 → p .cursor < hopCount (tables (now vertices) (now walks) (now hops) a)) ⌝ }
+    ensures { λ r. ⌜ Turned (tables (now (vertices .entry)) (now (walks .entry)) (now (hops .entry)) a) (query a) (mode (now (hops .entry)) a) (now (set .entry)) (state p (now (table .entry)) (now (marks .entry)) (now (stack .entry))) (state r (now (table .exit)) (now (marks .exit)) (now (stack .exit))) ⌝ }
+{
+    let height = p.height;
+    let t = p.table;
+    if 0 < height {
+        let top = height - 1;
+        let j = stack[top] as usize;
+        return follow(
+            vertices,
+            walks,
+            hops,
+            a,
+            set,
+            table,
+            marks,
+            stack,
+            scratch,
+            Pending {
+                table: t,
+                height: top,
+                cursor: p.cursor,
+            },
+            j,
+        );
+    }
+    let at = p.cursor;
+    let next = Pending {
+        table: t,
+        height: height,
+        cursor: at + 1,
+    };
+    if !member(marks, at) {
+        return next;
+    }
+    follow(
+        vertices,
+        walks,
+        hops,
+        a,
+        set,
+        table,
+        marks,
+        stack,
+        scratch,
+        next,
+        at,
+    )
+}
+
+// The pending hops are followed until none is left.
+pub fn spread(
+    vertices: &[u8],
+    walks: &[u8],
+    hops: &[u8],
+    a: Asked,
+    set: &[u16],
+    table: &mut [u8],
+    marks: &mut [u16],
+    stack: &mut [u32],
+    scratch: &[u8],
+    p: Pending,
+) -> Pending
+    requires { ⌜ Judged (now vertices) (now walks) (now hops) a × Fit (tables (now vertices) (now walks) (now hops) a) (query a) (now set) (state p (now table) (now marks) (now stack)) ⌝ }
+    requires { ⌜ Sorted (now vertices) (now hops) a (now scratch) × Pends (tables (now vertices) (now walks) (now hops) a) (mode (now hops) a) (hopCount (tables (now vertices) (now walks) (now hops) a)) (state p (now table) (now marks) (now stack)) × Prefix (tables (now vertices) (now walks) (now hops) a) (mode (now hops) a) (marksOf (state p (now table) (now marks) (now stack))) ⌝ }
+    ensures { λ r. ⌜ Spread (tables (now (vertices .entry)) (now (walks .entry)) (now (hops .entry)) a) (query a) (mode (now (hops .entry)) a) (now (set .entry)) (state p (now (table .entry)) (now (marks .entry)) (now (stack .entry))) (state r (now (table .exit)) (now (marks .exit)) (now (stack .exit))) ⌝ }
+{
+    let count = hops.len() / a.size;
+    let mut q = p;
+    while (0 < q.height) | (q.cursor < count) {
+        q = turn(
+            vertices,
+            walks,
+            hops,
+            a,
+            set,
+            table,
+            marks,
+            stack,
+            scratch,
+            q,
+        );
+    }
+    q
+}

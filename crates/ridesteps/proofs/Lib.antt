@@ -1,0 +1,4 @@
+pub mod Settling
+pub mod OneStep
+pub mod Riding
+pub mod Determined
