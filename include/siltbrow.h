@@ -10,7 +10,8 @@
  * Below the calls stand names for the numbers used here, and a few inline
  * functions for the bytes. examples/streets.c is one query, examples/server.c
  * answers many at once from threads, examples/timetable.c begins with an
- * operator's timetable, examples/courier.c sends a courier out.
+ * operator's timetable, examples/courier.c sends a courier out,
+ * examples/prams.c gives passengers time to change.
  *
  * The tables are big-endian records of fixed size with no header, numbered
  * from 0. Times are signed seconds from midnight of the service day; all other
@@ -26,7 +27,8 @@
  * Every call that takes the three tables takes the size of a hop record behind
  * them: hop_size, 16 or 20, the same for the whole table. A caller that knows
  * no trips passes 16 (SILTBROW_HOP_SIZE), and its tables stay as they are. A
- * trip says which vehicle a ride belongs to; no answer depends on it.
+ * trip says which vehicle a ride belongs to; no answer depends on it but that of
+ * siltbrow_run_boarding.
  *
  * The wait of a walk is spent at its "to" end, as at the lights of a crossing.
  * Offset "length" lies past it and every smaller offset before it. A table
@@ -420,6 +422,33 @@
  * They are judged in this order. Refusals 1 to 7, 21 and 22 change no byte of
  * the part buffer; 10 leaves it zero.
  *
+ * siltbrow_run_boarding is siltbrow_run for passengers who need time to change:
+ * one must stand at the stop "boarding" seconds before a departure, 0 to 600,
+ * exactly that long being enough. Staying in the vehicle needs none. Hops of one
+ * trip, not 0, are one ride where each starts at the vertex where the last ended
+ * and not before its arrival; the boarding time is spent once for each ride, the
+ * first one too, and one may leave after any of its hops. Hops of 16 bytes, and
+ * those of trip 0, are rides of their own. Tables, query and limit are those of
+ * siltbrow_run. There is no held list, and one buffer more:
+ *
+ *   settled, 8 bytes: vertex, distance, as of siltbrow_run and in its order,
+ *            with zero behind the records
+ *   scratch: 4 bytes for each hop (SILTBROW_SCRATCH_BYTES) or more, of any
+ *            contents. It is zero afterwards, all of it.
+ *   answer, what is returned: as of siltbrow_run; the held count is 0
+ *
+ * With a boarding time of 0 it settles what siltbrow_run does, in every byte,
+ * whatever the trips are. A longer time settles no vertex that a shorter one
+ * does not. siltbrow_parts makes the parts of its list.
+ *
+ *   refusals 1 to 6: as in siltbrow_run, but of 1 the places are 0, 1, 2 and 4
+ *   refusal 7:  the query, as in the run; then the boarding time (place: 5)
+ *   refusal 18: the scratch has less than 4 bytes for each hop (place: 0)
+ *   refusal 9:  too little room for settled records (the step)
+ *
+ * They are judged in this order. Refusals 1 to 7 and 18 change no byte of the
+ * two lent buffers; 9 leaves both zero.
+ *
  * Until it returns, a call uses its buffers, its target and its answer alone:
  * they overlap neither one another nor what the call reads.
  *
@@ -445,7 +474,9 @@
  * - A call uses less than 8 KB of stack, 4,096 bytes of them for its arrays;
  *   siltbrow_judge less than 264 KB, 256 KB of them for an array;
  *   siltbrow_timetable less than 144 KB, 131,072 bytes of them for its arrays,
- *   whatever the texts: a line of a million fields takes no more.
+ *   whatever the texts: a line of a million fields takes no more;
+ *   siltbrow_run_boarding less than 1,136 KB, 1,155,072 bytes of them for its
+ *   arrays.
  * - The library is code for x86-64 Linux. It needs memset and nothing else.
  *   siltbrow_frame compares floats: call it with denormal numbers as they are,
  *   not taken for zero (the bit DAZ of MXCSR, which -ffast-math can set).
@@ -458,8 +489,9 @@
 #include <string.h>
 
 /* The second number moves where a call changes, the third where only the
- * inside does; the first becomes 1 when all calls are there.
+ * inside does; the first is 1 since all calls are there.
  *
+ * 1.0: siltbrow_run_boarding is new, and with it refusal 18.
  * 0.12: siltbrow_courier_list, siltbrow_courier and siltbrow_courier_parts are
  *      new, and with them refusal 22.
  * 0.11: siltbrow_timetable is new, and with it refusals 12 to 17 and 29.
@@ -484,9 +516,9 @@
  *      refusal 10 is gone from it; siltbrow_parts makes the parts. A page that
  *      shows streets calls it with the records that the run has settled.
  * 0.2: siltbrow_frame is new. */
-#define SILTBROW_VERSION "0.12.0"
-#define SILTBROW_VERSION_MAJOR 0
-#define SILTBROW_VERSION_MINOR 12
+#define SILTBROW_VERSION "1.0.0"
+#define SILTBROW_VERSION_MAJOR 1
+#define SILTBROW_VERSION_MINOR 0
 #define SILTBROW_VERSION_PATCH 0
 
 #ifdef __cplusplus
@@ -584,6 +616,16 @@ uint32_t siltbrow_courier_parts(const uint8_t *vertices, size_t vertices_len,
                                 uint8_t *parts, size_t parts_len,
                                 uint8_t *answer, size_t answer_len);
 
+uint32_t siltbrow_run_boarding(const uint8_t *vertices, size_t vertices_len,
+                               const uint8_t *walks, size_t walks_len,
+                               const uint8_t *hops, size_t hops_len, uint32_t hop_size,
+                               uint32_t record, uint32_t offset, int32_t arrival,
+                               uint32_t duration, uint32_t speed,
+                               uint32_t boarding, uint32_t limit,
+                               uint8_t *settled, size_t settled_len,
+                               uint8_t *scratch, size_t scratch_len,
+                               uint8_t *answer, size_t answer_len);
+
 /* The bytes of each record, of an entry of siltbrow_judge, of a query of
  * siltbrow_runs, of a count of patients or a figure of their report, of a point
  * of the coordinate table, of a number of the courier's list, of the answer of
@@ -629,13 +671,15 @@ uint32_t siltbrow_courier_parts(const uint8_t *vertices, size_t vertices_len,
 #define SILTBROW_MAX_PATIENTS 65535u
 #define SILTBROW_MAX_GAP 3600u
 #define SILTBROW_MAX_ARRIVALS 96u
+#define SILTBROW_MAX_BOARDING 600u
 
 /* The refusals: 1 to 6 of the check; 1 to 9 of a run, one or many; 1 to 7, 21 and 10 of
  * parts; 1, 21, 23 and 24 of a frame; 1 of a move, and 11 where it goes
  * backward; 1 to 7 and 25 to 28 of siltbrow_judge; 1 to 7, 19, 20, 8 and 9 of
  * siltbrow_patients; 1, 29 and 12 to 17 of siltbrow_timetable; 1 to 6 of
  * siltbrow_courier_list, 1 to 6, 22, 7, 8 and 9 of siltbrow_courier, 1 to 6, 22,
- * 7, 21 and 10 of siltbrow_courier_parts. */
+ * 7, 21 and 10 of siltbrow_courier_parts; 1 to 7, 18 and 9 of
+ * siltbrow_run_boarding. */
 #define SILTBROW_ACCEPTED 0u
 #define SILTBROW_BAD_LENGTH 1u
 #define SILTBROW_BAD_WALK 2u
@@ -654,6 +698,7 @@ uint32_t siltbrow_courier_parts(const uint8_t *vertices, size_t vertices_len,
 #define SILTBROW_SEQUENCE_REPEATED 15u
 #define SILTBROW_BAD_STOP 16u
 #define SILTBROW_HOP_ROOM 17u
+#define SILTBROW_SCRATCH_ROOM 18u
 #define SILTBROW_TOO_MANY_PATIENTS 19u
 #define SILTBROW_BAD_EVENING 20u
 #define SILTBROW_BAD_ENTRY 21u
@@ -685,6 +730,10 @@ uint32_t siltbrow_courier_parts(const uint8_t *vertices, size_t vertices_len,
 #define SILTBROW_COURIER_LIST_BYTES(walks_len, hops_len, hop_size) \
     (((walks_len) / SILTBROW_WALK_SIZE + (hops_len) / (hop_size)) * SILTBROW_NUMBER_SIZE)
 
+/* The bytes of scratch that siltbrow_run_boarding needs, from those of the hops
+ * and the size of a hop, which is not 0. */
+#define SILTBROW_SCRATCH_BYTES(hops_len, hop_size) ((hops_len) / (hop_size) * SILTBROW_NUMBER_SIZE)
+
 /* The bytes of the target of a move, from those of its source. */
 #define SILTBROW_FORWARD_BYTES(source_len) ((source_len) / SILTBROW_HOP_SIZE * SILTBROW_HOP_WITH_TRIP_SIZE)
 #define SILTBROW_BACKWARD_BYTES(source_len) ((source_len) / SILTBROW_HOP_WITH_TRIP_SIZE * SILTBROW_HOP_SIZE)
@@ -695,7 +744,8 @@ uint32_t siltbrow_courier_parts(const uint8_t *vertices, size_t vertices_len,
 #define SILTBROW_SETTLED_BYTES(vertices_len) ((vertices_len) / SILTBROW_VERTEX_SIZE * SILTBROW_SETTLED_SIZE)
 #define SILTBROW_PART_BYTES(walks_len) (((walks_len) / SILTBROW_WALK_SIZE + 2u) * SILTBROW_PART_SIZE)
 
-/* The answer of a run, or of a courier's; "parts" is 0. */
+/* The answer of a run, or of a courier's; "parts" is 0, and "held" too where the
+ * run has a boarding time. */
 typedef struct siltbrow_answer {
     uint32_t refusal;
     uint32_t place;
@@ -906,6 +956,7 @@ static inline const char *siltbrow_refusal_text(uint32_t refusal)
     case SILTBROW_SEQUENCE_REPEATED: return "an earlier line of the trip has the sequence";
     case SILTBROW_BAD_STOP: return "the first or last stop of a trip has no time, or times fall";
     case SILTBROW_HOP_ROOM: return "there is too little room for hops";
+    case SILTBROW_SCRATCH_ROOM: return "the scratch has less than 4 bytes for each hop";
     case SILTBROW_TOO_MANY_PATIENTS: return "a vertex has more than 65,535 patients";
     case SILTBROW_BAD_EVENING: return "the gap, the number of arrivals or the last arrival is outside its limits";
     case SILTBROW_BAD_ENTRY: return "an entry of the list names no vertex, one that an earlier entry has or, for parts, a distance above the duration";
@@ -932,7 +983,7 @@ static inline const char *siltbrow_place_text(uint32_t refusal)
     case SILTBROW_HOP_ORDER:
     case SILTBROW_KNOWN_TRIP: return "hop record";
     case SILTBROW_BAD_VERTEX: return "vertex record";
-    case SILTBROW_BAD_QUERY: return "field: 0 record, 1 offset, 2 arrival or departure, 3 duration, 4 speed";
+    case SILTBROW_BAD_QUERY: return "field: 0 record, 1 offset, 2 arrival or departure, 3 duration, 4 speed, 5 boarding time";
     case SILTBROW_HELD_ROOM:
     case SILTBROW_SETTLED_ROOM: return "step";
     case SILTBROW_PART_ROOM: return "step: 0 at the query place, otherwise the entry of the list plus 1";

@@ -565,9 +565,54 @@ static void courier_parts_test(void)
     fill();
 }
 
+static uint8_t scratch[SILTBROW_SCRATCH_BYTES(sizeof hops, SILTBROW_HOP_SIZE) + 3];
+
+static siltbrow_answer board(uint32_t boarding, size_t settled_len, size_t scratch_len)
+{
+    uint8_t bytes[SILTBROW_ANSWER_SIZE];
+    memset(settled, 9, sizeof settled);
+    memset(scratch, 9, sizeof scratch);
+    count(siltbrow_run_boarding(vertices, sizeof vertices, walks, sizeof walks, hops, sizeof hops, SILTBROW_HOP_SIZE, 0, 300, 36000, 200, 10, boarding,
+                                SILTBROW_NO_LIMIT, settled, settled_len, scratch, scratch_len, bytes, sizeof bytes) == 0, "a run with a boarding time");
+    return siltbrow_read_answer(bytes);
+}
+
+static int scratch_is(uint8_t byte)
+{
+    for (size_t i = 0; i < sizeof scratch; i++)
+        if (scratch[i] != byte)
+            return 0;
+    return 1;
+}
+
+/* The place is 300 from vertex 1 on a long road, D is 2,000, and a ride leaves vertex 0 100 seconds before T. */
+static void boarding_test(void)
+{
+    size_t s = sizeof settled, need = SILTBROW_SCRATCH_BYTES(sizeof hops, SILTBROW_HOP_SIZE);
+    put4(hops, 0, 1, 35900, 35960);
+    count(need == 2 * SILTBROW_NUMBER_SIZE, "a number for each hop");
+    siltbrow_answer all = board(60, s, sizeof scratch);
+    count(all.refusal == SILTBROW_ACCEPTED && all.settled == 2 && all.parts == 0 && all.held == 0 && all.finished == 1 && scratch_is(0), "who can board in time");
+    count(siltbrow_get(settled) == 1 && siltbrow_get(settled + 4) == 300 && siltbrow_get(settled + 8) == 0 && siltbrow_get(settled + 12) == 1600, "when one must start");
+    count(board(100, s, need).settled == 2 && siltbrow_get(settled + 12) == 2000, "just within the duration");
+    count(board(101, s, need).settled == 1 && siltbrow_get(settled + 8) == 0, "a second more is too long");
+    count(board(0, s, need).settled == 2 && siltbrow_get(settled + 12) == 1000, "no boarding time");
+    count(board(SILTBROW_MAX_BOARDING, s, need).refusal == SILTBROW_ACCEPTED, "the longest boarding time");
+    refused(board(SILTBROW_MAX_BOARDING + 1, s, need - 1), SILTBROW_BAD_QUERY, 5, "a boarding time that is too long, before the scratch");
+    count(scratch_is(9) && settled[0] == 9, "it changes nothing");
+    refused(board(60, s, need - 1), SILTBROW_SCRATCH_ROOM, 0, "too little scratch");
+    count(scratch_is(9) && settled[0] == 9, "that changes nothing either");
+    refused(board(601, s - 1, need), SILTBROW_BAD_LENGTH, 4, "a cut settled record");
+    refused(board(60, SILTBROW_SETTLED_SIZE, sizeof scratch), SILTBROW_SETTLED_ROOM, 2, "no room for the second vertex");
+    count(scratch_is(0) && settled[0] == 0 && settled[SILTBROW_SETTLED_SIZE] == 9, "it leaves both zero");
+    count(siltbrow_run_boarding(vertices, sizeof vertices, walks, sizeof walks, hops, sizeof hops, SILTBROW_HOP_SIZE, 0, 300, 36000, 200, 10, 60,
+                                SILTBROW_NO_LIMIT, settled, s, scratch, need, NULL, 0) == 1, "an answer with a boarding time that is too short");
+    fill();
+}
+
 static void text_test(void)
 {
-    static const uint32_t refusals[] = {0, 1, 2, 3, 4, 5, 6, 7, 8, 9, 10, SILTBROW_KNOWN_TRIP, 12, 13, 14, 15, 16, 17, SILTBROW_TOO_MANY_PATIENTS, SILTBROW_BAD_EVENING, SILTBROW_BAD_ENTRY, SILTBROW_OTHER_LIST, SILTBROW_BAD_POINT, SILTBROW_EMPTY_LIST, 25, 26, 27, 28, SILTBROW_BAD_ID_LINE, 99};
+    static const uint32_t refusals[] = {0, 1, 2, 3, 4, 5, 6, 7, 8, 9, 10, SILTBROW_KNOWN_TRIP, 12, 13, 14, 15, 16, 17, SILTBROW_SCRATCH_ROOM, SILTBROW_TOO_MANY_PATIENTS, SILTBROW_BAD_EVENING, SILTBROW_BAD_ENTRY, SILTBROW_OTHER_LIST, SILTBROW_BAD_POINT, SILTBROW_EMPTY_LIST, 25, 26, 27, 28, SILTBROW_BAD_ID_LINE, 99};
     char version[32];
     for (size_t a = 0; a < sizeof refusals / sizeof *refusals; a++)
         for (size_t b = 0; b < a; b++)
@@ -597,6 +642,7 @@ int main(void)
     courier_list_test();
     courier_test();
     courier_parts_test();
+    boarding_test();
     text_test();
     printf("%u passed, %u failed\n", passed, failed);
     return failed != 0;

@@ -9,7 +9,7 @@
 
 #include "siltbrow.h"
 
-enum { SIDE = 160, VERTICES = SIDE * SIDE, WALKS = 4 * SIDE * (SIDE - 1), STACK = 1 << 20, MOST = 8192, MOST_JUDGE = MOST + (1 << 18), MOST_READING = 147456, FIELDS = 1000000, LINES = 20000, TRIPS = 20000 };
+enum { SIDE = 160, VERTICES = SIDE * SIDE, WALKS = 4 * SIDE * (SIDE - 1), STACK = 1 << 21, MOST = 8192, MOST_JUDGE = MOST + (1 << 18), MOST_READING = 147456, MOST_BOARDING = 1136 * 1024, FIELDS = 1000000, LINES = 20000, TRIPS = 20000 };
 
 static uint8_t vertices[VERTICES * SILTBROW_VERTEX_SIZE];
 static uint8_t walks[WALKS * SILTBROW_WALK_SIZE];
@@ -168,6 +168,37 @@ static void *carry_parts(void *unused)
     return unused;
 }
 
+/* The same grid with rides: one trip through all vertices in turn, or, to a hub, rides of many trips from all others to vertex 0. */
+enum { HOPS = VERTICES - 1 };
+static uint8_t stops[sizeof vertices], rides[HOPS * SILTBROW_HOP_WITH_TRIP_SIZE], scratch[SILTBROW_SCRATCH_BYTES(sizeof rides, SILTBROW_HOP_WITH_TRIP_SIZE)];
+
+static void make_rides(int hub)
+{
+    memcpy(stops, vertices, sizeof stops);
+    for (uint32_t v = 0; v < VERTICES; v++) {
+        int leaves = hub ? v > 0 : v < HOPS;
+        siltbrow_put(stops + 12 * v + 4, v == 0 ? 0 : hub ? HOPS : v - 1);
+        siltbrow_put(stops + 12 * v + 8, siltbrow_get(vertices + 12 * v + 8) + ((uint32_t)leaves << 16));
+    }
+    for (uint32_t j = 0; j < HOPS; j++) {
+        uint8_t *at = rides + SILTBROW_HOP_WITH_TRIP_SIZE * j;
+        siltbrow_put(at, hub ? j + 1 : j);
+        siltbrow_put(at + 4, hub ? 0 : j + 1);
+        siltbrow_put(at + 8, hub ? 5000 + j * 7919 % 20000 : 5000 + j);
+        siltbrow_put(at + 12, hub ? 5060 + j * 7919 % 20000 : 5001 + j);
+        siltbrow_put_trip(at, hub ? 1 + j * 31 % 97 : 1);
+    }
+}
+
+static void *board(void *unused)
+{
+    uint8_t here = 0;
+    top = &here;
+    (void)siltbrow_run_boarding(stops, sizeof stops, walks, sizeof walks, rides, sizeof rides, SILTBROW_HOP_WITH_TRIP_SIZE, WALKS / 2, 10, 36000,
+                                SILTBROW_MAX_DURATION, 14, 60, limit, settled, sizeof settled, scratch, sizeof scratch, answer, sizeof answer);
+    return unused;
+}
+
 /* The frame of all vertices, which stand in the settled buffer. */
 static void *frame(void *unused)
 {
@@ -301,6 +332,13 @@ int main(void)
     list_len = sizeof settled;
     size_t carrying_parts = used(carry_parts);
     carried = carried && siltbrow_read_parts(answer).parts >= WALKS && listing < MOST && carrying < MOST && carrying_parts < MOST;
+    limit = SILTBROW_NO_LIMIT;
+    make_rides(0);
+    size_t boarding = used(board);
+    int boarded = siltbrow_read_answer(answer).settled == VERTICES;
+    make_rides(1);
+    size_t at_hub = used(board);
+    boarded = boarded && siltbrow_read_answer(answer).settled == VERTICES && boarding < MOST_BOARDING && at_hub < MOST_BOARDING;
     size_t depth = used(check);
     for (uint32_t v = 0; v < VERTICES; v++)
         siltbrow_put(settled + 8 * v, v);
@@ -316,8 +354,8 @@ int main(void)
     read = read && siltbrow_read_timetable(answer).refusal == SILTBROW_HOP_ROOM;
     printf("a check uses %zu bytes of stack, a run at most %zu, parts at most %zu, a frame %zu, the moves %zu and %zu, judging %zu, queries %zu and %zu, an evening %zu, a timetable %zu, with little room %zu, with a line of a million fields %zu\n", depth, most, covering,
            framing, moving, back, judging, several, single, reporting, reading, in_turn, wide_line);
-    printf("the courier's list uses %zu, his run %zu, his parts %zu\n", listing, carrying, carrying_parts);
-    int good = carried && whole > 0 && framed && depth > 1000 && most > 1000 && covering > 1000 && framing > 1000 && depth < MOST && most < MOST
+    printf("the courier's list uses %zu, his run %zu, his parts %zu; a run with a boarding time %zu, to a hub %zu\n", listing, carrying, carrying_parts, boarding, at_hub);
+    int good = boarded && carried && whole > 0 && framed && depth > 1000 && most > 1000 && covering > 1000 && framing > 1000 && depth < MOST && most < MOST
                && covering < MOST && framing < MOST && moving < MOST && back < MOST && right && judging < MOST_JUDGE && shared && several < MOST && single < MOST && reached == VERTICES && reporting < MOST && read && reading < MOST_READING && in_turn < MOST_READING && wide_line < MOST_READING && memcmp(narrow, walks, sizeof walks) == 0;
     printf("%d passed, %d failed\n", good, !good);
     return !good;
