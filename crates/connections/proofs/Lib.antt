@@ -1,3 +1,2 @@
 pub mod GatherLaws
 pub mod Consecutive
-pub mod Determined

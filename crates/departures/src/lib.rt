@@ -1,9 +1,9 @@
-// The stops of all trips of a timetable, judged and made into hops in the slice where their records stand.
-// Promises: refusals 15 and 16 with the number of their line, else the number of hops; and every byte of the slice, as the definitions of `feed` say.
-// Rests on: the records sorted (`sorting`) and judged (`succession`), the hops gathered (`connections`), in order (`hoporder`) and written out (`hopbytes`).
+// The end of a timetable's answer: the hops of all trips in the slice where their records stand, or a refusal and zeros.
+// Promises: every byte of the slice, as the definitions of `feed` say; and, as laws, that stops judged by their records are judged as the definitions judge them.
+// Rests on: the records sorted (`sorting`), their laws (`succession`, `connections`), the hops in order (`hoporder`) and written out (`hopbytes`).
 use sorting::sort;
 ghost use mathlib.Core.Path.{_≡_};
-ghost use Prim.Native.Nat.{ℕ, _+_, _*_, _<_, _≤_};
+ghost use Prim.Native.Nat.{_*_, _≤_};
 ghost use lib.ListN.{length};
 ghost use Rattle.journeys.specs.Counting.{joined};
 ghost use Rattle.journeys.specs.Bytes.{filled, cleared};
@@ -11,10 +11,7 @@ ghost use Rattle.table_bytes.specs.Columns.{at};
 ghost use Rattle.sorting.specs.Sorted.{recs, sorted};
 ghost use Rattle.hoporder.specs.Hops.{hopOut};
 ghost use Rattle.hopbytes.specs.Listing.{tripAt, OnTrips};
-ghost use Rattle.departures.specs.Answered.{told, tripsRefusal, tripsHops, tripsBytes};
-ghost use Rattle.departures.specs.Entries.{stopsAt, Listed};
-
-const NONE: u32 = 0xFFFF_FFFF;
+ghost use Rattle.departures.specs.Answered.{told};
 
 // A refusal, both numbers 0 where there is none; and the number of hops.
 pub struct Answer {
@@ -52,43 +49,4 @@ pub fn refuse(b: &mut [u8], number: u32, place: u32) -> Answer
         place,
         hops: 0,
     }
-}
-
-// A slice that is nothing but the records of stops.
-fn judge(b: &mut [u8], n: usize, trips: &[u8]) -> Answer
-    requires { ⌜ (length (now b) ≡ 20 * n) × Listed (now trips) (recs n (now b)) ⌝ }
-    ensures { λ r. ⌜ (told r ≡ tripsRefusal (stopsAt (now (trips .entry)) (recs n (now (b .entry)))))
-        × (r .hops ≡ tripsHops (stopsAt (now (trips .entry)) (recs n (now (b .entry)))))
-        × (now (b .exit) ≡ tripsBytes (stopsAt (now (trips .entry)) (recs n (now (b .entry)))) (now (b .entry)))
-        × (r .hops ≤ n) ⌝ }
-{
-    sort(b, n);
-    let fifteen = succession::repeated(b, n);
-    if fifteen != NONE {
-        return refuse(b, 15, fifteen);
-    }
-    let sixteen = succession::late(b, n);
-    if sixteen != NONE {
-        return refuse(b, 16, sixteen);
-    }
-    let k = connections::gather(b, n);
-    finish(b, k, trips);
-    Answer {
-        number: 0,
-        place: 0,
-        hops: k,
-    }
-}
-
-// The first n records are those of the stops, in the order of their lines; behind them the slice is free.
-pub fn hops_of(b: &mut [u8], n: usize, trips: &[u8]) -> Answer
-    requires { ⌜ (20 * n ≤ length (now b)) × Listed (now trips) (recs n (now b)) ⌝ }
-    ensures { λ r. ⌜ (told r ≡ tripsRefusal (stopsAt (now (trips .entry)) (recs n (now (b .entry)))))
-        × (r .hops ≡ tripsHops (stopsAt (now (trips .entry)) (recs n (now (b .entry)))))
-        × (now (b .exit) ≡ tripsBytes (stopsAt (now (trips .entry)) (recs n (now (b .entry)))) (now (b .entry)))
-        × (r .hops ≤ n) ⌝ }
-{
-    let end = 20 * n;
-    words::zero(&mut b[end..]);
-    judge(&mut b[..end], n, trips)
 }

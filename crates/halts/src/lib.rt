@@ -1,20 +1,20 @@
-// A stop of a trip as its line has it, and the lines of a timetable that have one.
-// Promises: trip, sequence and times of a line, and which line is the next that is not empty, as the definitions of `feed` say.
-// Rests on: lines (`lines`), the fields of a line (`rows`).
+// A stop of a trip as its line has it.
+// Promises: sequence and times of a line, as the definitions of `feed` say.
+// Rests on: the fields of a line (`rows`), numbers and times (`values`).
 use values::Number;
 use values::Time;
 ghost use mathlib.Core.Path.{_≡_};
 ghost use mathlib.Core.Bool.{true, cond};
-ghost use Prim.Native.Nat.{_+_, _-_, _<_, _≤_};
+ghost use Prim.Native.Nat.{_-_, _<_, _≤_};
 ghost use lib.ListN.{length, take, drop};
 ghost use Rattle.journeys.specs.Counting.{none};
 ghost use Rattle.feed.specs.Lines.{empty};
-ghost use Rattle.feed.specs.Fields.{rowOf, field, same};
+ghost use Rattle.feed.specs.Fields.{rowOf, field};
 ghost use Rattle.feed.specs.Values.{number, valueOf, timeOrBlank, secondsOf};
 ghost use Rattle.feed.specs.Stops.{orOther};
 ghost use Rattle.values.specs.Readings.{timeRead};
 ghost use Rattle.rows.specs.Placed.{placeOf};
-ghost use Rattle.halts.specs.Halts.{timedIn, secondsRead, First};
+ghost use Rattle.halts.specs.Halts.{timedIn, secondsRead};
 
 // The number in field k of a line, which begins at a place.
 pub fn number_from(line: &[u8], k: usize, at: usize) -> u32
@@ -102,44 +102,4 @@ pub fn times_of(
         arrival: reached,
         departure: left,
     }
-}
-
-fn same_parts(line: &[u8], start: usize, stop: usize, own: &[u8], first: usize, last: usize) -> bool
-    requires { ⌜ (start ≤ stop) × (stop ≤ length (now line)) × (first ≤ last) × (last ≤ length (now own)) ⌝ }
-    ensures { λ r. ⌜ r ≡ same (take (stop - start) (drop start (now (line .entry)))) (take (last - first) (drop first (now (own .entry)))) ⌝ }
-{
-    header::same_bytes(&line[start..stop], &own[first..last])
-}
-
-// Two lines have the same id in field k.
-pub fn same_field(line: &[u8], own: &[u8], k: usize) -> bool
-    requires { ⌜ (k < length (rowOf (now line) .fields)) × (k < length (rowOf (now own) .fields)) ⌝ }
-    ensures { λ r. ⌜ r ≡ same (field (rowOf (now (line .entry))) k) (field (rowOf (now (own .entry))) k) ⌝ }
-{
-    let a = rows::field_span(line, k);
-    let b = rows::field_span(own, k);
-    same_parts(line, a.start, a.stop, own, b.start, b.stop)
-}
-
-pub struct Spot {
-    pub at: usize,
-    pub line: usize,
-}
-
-// The next line that is not empty, from a place on where a line with a number begins.
-pub fn first_stop(text: &[u8], place: usize, number: usize) -> Spot
-    requires { ⌜ (place ≤ length (now text)) × (number ≤ place + 2) ⌝ }
-    ensures { λ r. ⌜ First (now (text .entry)) place number (r .at) (r .line) ⌝ }
-{
-    let mut at = place;
-    let mut line = number;
-    while at < text.len() {
-        let stop = lines::line_stop(text, at);
-        if at < stop {
-            return Spot { at, line };
-        }
-        at = lines::line_next(text, stop);
-        line += 1;
-    }
-    Spot { at, line }
 }

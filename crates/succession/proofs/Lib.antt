@@ -2,4 +2,3 @@ pub mod SomeLaws
 pub mod OrderLaws
 pub mod TimeLaws
 pub mod Rearranged
-pub mod Determined
