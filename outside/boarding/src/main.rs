@@ -9,6 +9,7 @@ use std::time::{Duration, Instant};
 
 use boarding::call::{Case, Outcome};
 use boarding::cases::{big, by_journeys, ground, right, stream, Ground};
+use boarding::mapped::Mapped;
 use boarding::plain::Plain;
 use boarding::quick::Quick;
 use boarding::wrong::{Sound, Wrong};
@@ -36,18 +37,18 @@ fn compare(tally: &mut Tally, case: &Case, right: &Outcome, got: &Outcome) {
     tally.compare(|| if small { format!("{case:?}") } else { "a large case".to_string() }, right, got, head);
 }
 
-/// What is told of the marked and the large cases; the two programs on one another; the plain one on the journeys.
+/// What is told of the marked and the large cases; the programs on one another; the plain one on the journeys.
 fn own(asked: Choice) -> Tally {
     let mut tally = Tally::new();
     match asked {
         Choice::Marked => {
             for (name, case, told) in marked::all() {
-                for got in [case.by(&Quick(Sound)), case.by(&Plain)] {
+                for got in [case.by(&Quick(Sound)), case.by(&Mapped), case.by(&Plain)] {
                     tally.count(got == told, || format!("{name}\nexpected\n{told:?}\ngot\n{got:?}"));
                 }
             }
             for (i, (case, view, want)) in definitions::all().into_iter().enumerate() {
-                for got in [case.by(&Quick(Sound)), case.by(&Plain)] {
+                for got in [case.by(&Quick(Sound)), case.by(&Mapped), case.by(&Plain)] {
                     let got = view.of(&got);
                     tally.count(got == want, || format!("row {i} of the definitions\nexpected\n{want:?}\ngot\n{got:?}"));
                 }
@@ -62,11 +63,16 @@ fn own(asked: Choice) -> Tally {
                 let got: Vec<Settled> = (0..case.answered(&after).map_or(0, |six| six.settled as usize)).map(|i| Settled::read(&after.settled, i)).collect();
                 let good = case.refusal(&after) == Some(refusal) && list.is_none_or(|list| list == got);
                 tally.count(good, || format!("large case {number}: {:?}, not {refusal:?}, or another list", case.answered(&after)));
+                compare(&mut tally, &case, &after, &case.by(&Mapped));
             }
         }
         Choice::Seed(seed, count) => {
-            for case in stream(seed).take(count).filter(Case::small) {
-                compare(&mut tally, &case, &case.by(&Plain), &right(&case));
+            for case in stream(seed).take(count) {
+                let quick = right(&case);
+                compare(&mut tally, &case, &quick, &case.by(&Mapped));
+                if case.small() {
+                    compare(&mut tally, &case, &case.by(&Plain), &quick);
+                }
             }
             for ground in (0..count as u64 / 10).filter_map(|index| by_journeys(seed, index)) {
                 let wrong = journeys::mistimed(ground.bytes.tables(), ground.ridden.scene.query, ground.ridden.boarding);

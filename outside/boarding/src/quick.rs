@@ -44,7 +44,7 @@ struct Search<'a, F> {
     hops_of: Vec<u32>,
 }
 
-fn hop_count(tables: Tables) -> usize {
+pub(crate) fn hop_count(tables: Tables) -> usize {
     tables.hops.len() / tables.hop_size as usize
 }
 
@@ -384,7 +384,7 @@ fn short<F: Fault>(tables: Tables, scratch: usize, fault: F) -> bool {
 }
 
 /// 1 to 7 and 18.
-fn refused<F: Fault>(tables: Tables, query: Query, boarding: u32, lent: &Lent, fault: F) -> Option<Refusal> {
+pub(crate) fn refused<F: Fault>(tables: Tables, query: Query, boarding: u32, lent: &Lent, fault: F) -> Option<Refusal> {
     let room = [(4, lent.settled.len(), SETTLED)];
     let long = |lengths: &[(usize, usize, usize)]| judge_lengths(tables, lengths, mutant::Sound);
     let records = || judge_records(tables, mutant::Sound);
@@ -432,7 +432,7 @@ fn leave<F: Fault>(refusal: Refusal, list: &[Settled], lent: &mut Lent, fault: F
     }
 }
 
-fn write(settled: &mut [u8], list: &[Settled]) {
+pub(crate) fn write(settled: &mut [u8], list: &[Settled]) {
     settled.chunks_exact_mut(SETTLED).zip(list).for_each(|(slot, entry)| slot.copy_from_slice(&entry.bytes()));
 }
 
