@@ -16,7 +16,6 @@ macro_rules! declared {
 
 outside::calls!(declared);
 outside::courier_calls!(declared);
-#[cfg(boarding_call)]
 outside::boarding_calls!(declared);
 
 extern "C" {
@@ -220,7 +219,6 @@ impl Courier for Linked {
     }
 }
 
-#[cfg(boarding_call)]
 impl boarding::call::Program for Linked {
     fn run(&self, tables: Tables, q: Query, boarding: u32, limit: u32, lent: boarding::call::Lent, answer: &mut [u8]) -> u32 {
         let boarding::call::Lent { settled, scratch } = lent;

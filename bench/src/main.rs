@@ -7,7 +7,7 @@ use std::fs::{read_to_string, write};
 use std::path::Path;
 use std::process::ExitCode;
 
-use bench::{bought, checks, couriers, evening, figures, frames, growth, hubs, limit, machine, many};
+use bench::{boardings, bought, checks, couriers, evening, figures, frames, growth, hubs, limit, machine, many};
 use bench::{moves, page, patients, speed, stall, timetables};
 use linked::Linked;
 
@@ -91,22 +91,10 @@ fn courier(rounds: usize) -> Result<(), String> {
     Ok(())
 }
 
-/// The rows of the run with a boarding time; none before the header declares it.
-#[cfg(boarding_call)]
-fn boarding_table(rounds: usize) -> Result<Option<String>, String> {
-    bench::boardings::table(&Linked, rounds).map(Some)
-}
-
-#[cfg(not(boarding_call))]
-fn boarding_table(_: usize) -> Result<Option<String>, String> {
-    Ok(None)
-}
-
 /// Prints the rows of the run with a boarding time.
 fn boarding(rounds: usize) -> Result<(), String> {
     let heading = heading(rounds);
-    let table = boarding_table(rounds)?.ok_or("include/siltbrow.h does not declare siltbrow_run_boarding yet")?;
-    print!("{heading}\n{table}");
+    print!("{heading}\n{}", boardings::table(&Linked, rounds)?);
     Ok(())
 }
 
@@ -134,10 +122,8 @@ fn measure(rounds: usize, page: Option<&str>) -> Result<(), String> {
         patients::table(&Linked, rounds)?,
         timetables::table(&Linked, rounds)?,
         couriers::table(&Linked, &Linked, rounds)?,
+        boardings::table(&Linked, rounds)?,
     ]
-    .into_iter()
-    .chain(boarding_table(rounds)?)
-    .collect::<Vec<_>>()
     .join("\n");
     let report = format!("{report}\n{}", verdict(&report));
     print!("{report}");

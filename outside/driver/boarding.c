@@ -7,17 +7,6 @@
 #define MOST_SLICES 6
 #include "slices.h"
 
-#ifdef BOARDING_UNDECLARED /* the header has no such call yet: this is what it is going to be */
-uint32_t siltbrow_run_boarding(const uint8_t *vertices, size_t vertices_len,
-                               const uint8_t *walks, size_t walks_len,
-                               const uint8_t *hops, size_t hops_len, uint32_t hop_size,
-                               uint32_t record, uint32_t offset, int32_t arrival,
-                               uint32_t duration, uint32_t speed, uint32_t boarding, uint32_t limit,
-                               uint8_t *settled, size_t settled_len,
-                               uint8_t *scratch, size_t scratch_len,
-                               uint8_t *answer, size_t answer_len);
-#endif
-
 enum { RUN = 1 };
 
 enum { VERTICES, WALKS, HOPS, SETTLED, SCRATCH, ANSWER, SLICES };
