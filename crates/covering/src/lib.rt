@@ -80,7 +80,7 @@ fn list_entry_ahead(
 {
     let vertex = word_at(list, 8 * i);
     let left = Ticks(allowed.0 - word_at(list, 8 * i + 4));
-    let s = stretches::find(vertices, walks, hops, hop_size, records, vertex);
+    let s = stretches::find(vertices, walks, hops, hop_size, records, vertex, 0);
     let first = s.first;
     let end = first + s.walks;
     parts::list_departing(parts, count, walks, records, first, end, road, left)

@@ -8,18 +8,31 @@ use records::refusal;
 use stepping::Stepped;
 use steps::Ended;
 ghost use mathlib.Core.Path.{_≡_};
-ghost use Prim.Native.Nat.{_%_, _≤_};
+ghost use mathlib.Core.Bool.{cond};
+ghost use Prim.Native.Nat.{ℕ, _/_, _%_, _≤_};
 ghost use lib.ListN.{length, replicate};
 ghost use Rattle.journeys.specs.Tables.{tablesOf};
 ghost use Rattle.journeys.specs.Answers.{early, Allowed};
 ghost use Rattle.journeys.specs.CourierAnswers.{CourierAllowed};
 ghost use Rattle.records.specs.Asked.{queryOf};
+ghost use Rattle.starts.specs.Sums.{sums};
+ghost use Rattle.starts.specs.Notes.{withNotes};
 ghost use Rattle.intake.specs.Lending.{lent};
 ghost use Rattle.courier_intake.specs.Lending.{courierLent};
 ghost use Rattle.heldmap.specs.RowsOfTables.{Lists};
 ghost use Rattle.steps.specs.Running.{Ends};
 ghost use Rattle.search.specs.Outcome.{answerOf, AnsweredIn};
 ghost use Rattle.journeys.specs.Valid.{Valid};
+
+// Before step 0 the held buffer may hold anything. For the courier it is noted there where the records of some vertices begin in his list: as long as the working table leaves the notes alone, they spare him a search.
+fn prepare(vertices: &[u8], held: &mut [u8], courier: bool)
+    requires { ⌜ (length (now vertices) / 12 ≤ 65536) × ((u : ℕ) → sums (now vertices) u ≤ 524288) ⌝ }
+    ensures { λ _. ⌜ now (held .exit) ≡ cond courier (withNotes (now (vertices .entry)) (now (held .entry))) (now (held .entry)) ⌝ }
+{
+    if courier {
+        starts::note(vertices, held);
+    }
+}
 
 // Step 0 and the steps behind it, in either direction.
 fn all_steps<'a>(
@@ -40,6 +53,7 @@ fn all_steps<'a>(
     ensures { λ r. ⌜ Ends courier (tablesOf «hop_size» (now (vertices .entry)) (now (walks .entry)) (now (hops .entry))) (length (now (held .entry))) (length (now (settled .entry))) (queryOf q) limit (now (held .exit)) (now (settled .exit)) r ⌝ }
     ensures { λ _. ⌜ now (scratch .exit) ≡ replicate 2048 0 ⌝ }
 {
+    prepare(vertices, held, courier);
     let road = parts::read_road(walks, q);
     let allowed = intake::allowed(q);
     let row = opening::no_records(walks, hops, hop_size, q, courier, allowed);

@@ -1,2 +1,3 @@
 pub mod SumLaws
+pub mod NoteLaws
 pub mod Determined

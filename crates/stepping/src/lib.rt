@@ -216,21 +216,23 @@ fn arriving_at(
     }
 }
 
-// Where the numbers of x stand in the list of records by where they leave; an ordinary row reads none.
+// Where the numbers of x stand in the list of records by where they leave; an ordinary row reads none. What was noted in the held buffer before the first step may still stand there: it is a guess.
 pub fn stretch_at(
     vertices: &[u8],
     walks: &[u8],
     hops: &[u8],
     hop_size: usize,
     list: &[u8],
+    held: &[u8],
     courier: bool,
     x: usize,
 ) -> Stretch
-    requires { ⌜ Lists courier «hop_size» (now walks) (now hops) (now list) × Sound «hop_size» (now vertices) (now walks) (now hops) × (x < 4294967296) ⌝ }
+    requires { ⌜ Lists courier «hop_size» (now walks) (now hops) (now list) × Sound «hop_size» (now vertices) (now walks) (now hops) × (x < length (now vertices) / 12) ⌝ }
     ensures { λ r. ⌜ r ≡ stretchIn courier «hop_size» (now (walks .entry)) (now (hops .entry)) x ⌝ }
 {
     if courier {
-        return stretches::find(vertices, walks, hops, hop_size, list, x as u32);
+        let guess = starts::guess(vertices, held, x);
+        return stretches::find(vertices, walks, hops, hop_size, list, x as u32, guess);
     }
     Stretch {
         first: 0,

@@ -189,8 +189,8 @@ module _ (c : Bool) (size : ℕ) (wide : 16 ≤ size) (v w h list : List ℕ) (l
   run-fits = standing size v w h (ok .tables) x low
 
   -- and its stretch may be searched for
-  pub may-find : Lists c size w h list × Sound size v w h × (x < 4294967296)
-  may-find = (lists, sound size v w h (ok .tables) (omega arith), omega (arith, low, vertex-count size v w h, ok .tables .vertices-few))
+  pub may-find : Lists c size w h list × Sound size v w h × (x < length v / 12)
+  may-find = (lists, sound size v w h (ok .tables) (omega arith), omega (arith, low, vertex-count size v w h))
 
   module _ (A : Seconds) (clock : clocked (A .0) ≡ Q .arrival) where
     abbrev stretch : Stretch

@@ -63,7 +63,7 @@ pub fn steps<'a>(
         let Nearest::At(slot, x, d) = stepping::next(held, table, allowed.0) else {
             return Ended::Done(p, 1);
         };
-        let stretch = stepping::stretch_at(vertices, walks, hops, hop_size, list, courier, x);
+        let stretch = stepping::stretch_at(vertices, walks, hops, hop_size, list, held, courier, x);
         let row = stepping::row_at(
             vertices,
             walks,

@@ -92,6 +92,22 @@ module _ {list : List ℕ} {ways first end lo hi : ℕ} (low : first ≤ lo) (hi
       go (inl q) = q
       go (inr q) = absurd (omega (arith, p .walks m (omega arith) q, e))
 
+-- what divides the numbers is where a walk stands before and none behind
+module _ {list : List ℕ} {ways first end k : ℕ} (p : Parted list ways first end k) {m : ℕ} where
+  pub walks-before : m ≤ end → {x : ℕ} → x ≡ be32 list (4 * (m - 1)) → x < ways → first < m → m ≤ k
+  walks-before high e h l = go (le-or-lt m k)
+    where
+      go : (m ≤ k) ⊎ (k < m) → m ≤ k
+      go (inl q) = q
+      go (inr q) = absurd (omega (arith, p .hops (m - 1) (omega (arith, q)) (omega arith), e))
+
+  pub walks-behind : first ≤ m → (m < end → ways ≤ be32 list (4 * m)) → k ≤ m
+  walks-behind low h = go (le-or-lt k m)
+    where
+      go : (k ≤ m) ⊎ (m < k) → k ≤ m
+      go (inl q) = q
+      go (inr q) = absurd (omega (arith, p .walks m low q, h (omega (arith, p .ends))))
+
 -- the share of the list that stands before a vertex, in tables of any size
 pub share-fits : {v n many : ℕ} → v < many → many ≤ 65536 → n ≤ 524288 → v * n ≤ 34359738368
 share-fits {v} {n} {many} a b c = let m : v * n ≤ 65536 * 524288 = mul-le-mul {n₁ = v} {m₁ = n} {n₂ = 65536} {m₂ = 524288} (omega arith) c in omega (arith, m)

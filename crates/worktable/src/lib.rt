@@ -169,7 +169,19 @@ fn grow(b: &mut [u8], t: Table, n: usize) -> Table
     }
 }
 
-// A table with a vacant slot: one that has none doubles, as far as its room goes.
+// More slots than there are, as far as the room goes: about twice as many. The last sixteenth of the room is taken by itself and last, so that what was noted there before the table started stands as long as may be.
+fn larger(capacity: usize, room: usize) -> usize
+    requires { ⌜ (capacity < room) × (room ≤ 65536) ⌝ }
+    ensures { λ n. ⌜ (capacity < n) × (n ≤ room) ⌝ }
+{
+    let most = room - room / 16;
+    if capacity < most {
+        return lesser(most, 2 * capacity + 64);
+    }
+    room
+}
+
+// A table with a vacant slot: one that has none gets more.
 fn opened(b: &mut [u8], t: Table) -> Table
     requires { ⌜ InOrder t (now b) × (size (mapOf t (now b)) < t .room) ⌝ }
     ensures { λ r. ⌜ Gives t r (now (b .entry)) (now (b .exit)) (mapOf t (now (b .entry))) × (size (mapOf t (now (b .entry))) < r .capacity) ⌝ }
@@ -177,7 +189,7 @@ fn opened(b: &mut [u8], t: Table) -> Table
     if 0 < t.free {
         return t;
     }
-    grow(b, t, lesser(t.room, 2 * t.capacity + 64))
+    grow(b, t, larger(t.capacity, t.room))
 }
 
 // A new vertex, unsettled, takes the vacant slot at the top.

@@ -44,80 +44,80 @@ returns c =
 
 stretch-at-requires : tie.Need-stretch-at-requires Inv-loop μ-loop
 stretch-at-requires c κs =
-    let s = c .before .before .before .before .before .before .before .before .before .before .before .before .before .before .before .before .pre in
-    let a = s .0 in
-    let i = c .before .before .before .before .before .before .before .before .loop .inv in
-    let n = next-found _ _ _ _ (a .1) _ (c .before .before .before .next .ensures) (c .before .slot .given .1) in
-    may-find _ _ (a .4) _ _ _ _ (s .1 .0) _ _ _ (a .0) _ _ _ (i .0) _ _ _ n
-
-row-at-requires : tie.Need-row-at-requires Inv-loop μ-loop
-row-at-requires c κs =
     let s = c .before .before .before .before .before .before .before .before .before .before .before .before .before .before .before .before .before .pre in
     let a = s .0 in
     let i = c .before .before .before .before .before .before .before .before .before .loop .inv in
     let n = next-found _ _ _ _ (a .1) _ (c .before .before .before .before .next .ensures) (c .before .before .slot .given .1) in
+    may-find _ _ (a .4) _ _ _ _ (s .1 .0) _ _ _ (a .0) _ _ _ (i .0) _ _ _ n
+
+row-at-requires : tie.Need-row-at-requires Inv-loop μ-loop
+row-at-requires c κs =
+    let s = c .before .before .before .before .before .before .before .before .before .before .before .before .before .before .before .before .before .before .pre in
+    let a = s .0 in
+    let i = c .before .before .before .before .before .before .before .before .before .before .loop .inv in
+    let n = next-found _ _ _ _ (a .1) _ (c .before .before .before .before .before .next .ensures) (c .before .before .before .slot .given .1) in
     (run-fits _ _ (a .4) _ _ _ _ (s .1 .0) _ _ _ (a .0) _ _ _ (i .0) _ _ _ n, omega (arith, a .4))
 
 step-requires : tie.Need-step-requires Inv-loop μ-loop
 step-requires c κs =
-    let s = c .before .before .before .before .before .before .before .before .before .before .before .before .before .before .before .before .before .before .before .before .before .pre in
+    let s = c .before .before .before .before .before .before .before .before .before .before .before .before .before .before .before .before .before .before .before .before .before .before .pre in
     let a = s .0 in
-    let i = c .before .before .before .before .before .before .before .before .before .before .before .before .before .loop .inv in
-    let n = next-found _ _ _ _ (a .1) _ (c .before .before .before .before .before .before .before .before .next .ensures) (c .before .before .before .before .before .before .slot .given .1) in
+    let i = c .before .before .before .before .before .before .before .before .before .before .before .before .before .before .loop .inv in
+    let n = next-found _ _ _ _ (a .1) _ (c .before .before .before .before .before .before .before .before .before .next .ensures) (c .before .before .before .before .before .before .before .slot .given .1) in
     let e = c .before .before .before .before .stretch-at .ensures in
     let f = row-is _ _ _ _ _ _ _ _ _ (a .1) e (c .before .before .before .row-at .ensures) in
-    ((begins-as _ _ (a .4) _ _ _ _ (s .1 .0) _ _ _ (a .0) _ _ _ (i .0) _ _ _ n _ refl (c .before .before .before .before .before .before .before .before .before .before .before .before .before .before .before .before .before .before .before .before .shared-slice-known .given) _ e _ f, i .2), counts-fit _ _ _ _ _ (a .0) _ _ _ (i .0))
+    ((begins-as _ _ (a .4) _ _ _ _ (s .1 .0) _ _ _ (a .0) _ _ _ (i .0) _ _ _ n _ refl (c .before .before .before .before .before .before .before .before .before .before .before .before .before .before .before .before .before .before .before .before .before .shared-slice-known .given) _ e _ f, i .2), counts-fit _ _ _ _ _ (a .0) _ _ _ (i .0))
 
 loop-less : tie.Need-loop-less Inv-loop μ-loop
 loop-less c =
-    let s = c .before .before .before .before .before .before .before .before .before .before .before .before .before .before .before .before .before .before .before .before .before .before .before .before .before .before .before .before .before .before .before .pre in
+    let s = c .before .before .before .before .before .before .before .before .before .before .before .before .before .before .before .before .before .before .before .before .before .before .before .before .before .before .before .before .before .before .before .before .pre in
     let a = s .0 in
-    let i = c .before .before .before .before .before .before .before .before .before .before .before .before .before .before .before .before .before .before .before .before .before .before .before .loop .inv in
-    let n = next-found _ _ _ _ (a .1) _ (c .before .before .before .before .before .before .before .before .before .before .before .before .before .before .before .before .before .before .next .ensures) (c .before .before .before .before .before .before .before .before .before .before .before .before .before .before .before .before .slot .given .1) in
+    let i = c .before .before .before .before .before .before .before .before .before .before .before .before .before .before .before .before .before .before .before .before .before .before .before .before .loop .inv in
+    let n = next-found _ _ _ _ (a .1) _ (c .before .before .before .before .before .before .before .before .before .before .before .before .before .before .before .before .before .before .before .next .ensures) (c .before .before .before .before .before .before .before .before .before .before .before .before .before .before .before .before .before .slot .given .1) in
     let e = c .before .before .before .before .before .before .before .before .before .before .before .before .before .before .stretch-at .ensures in
     let f = row-is _ _ _ _ _ _ _ _ _ (a .1) e (c .before .before .before .before .before .before .before .before .before .before .before .before .before .row-at .ensures) in
     let t = subst (StepIs _ _ _ _ _ _ _) (c .before .more .given .1) (step-as _ _ (a .4) _ _ _ _ (s .1 .0) _ _ _ (a .0) _ _ _ (i .0) _ _ _ n _ refl _ _ _ e _ f _ (c .before .before .before .before .before .before .before .before .before .step .ensures .0)) in
-    omega (arith, one-counted _ _ _ _ _ (a .0) _ _ _ (i .0) _ _ _ n _ _ (row-here _ _ (a .4) _ _ _ _ (s .1 .0) _ _ _ (a .0) _ _ _ (i .0) _ _ _ n _ refl) _ _ _ t, c .before .before .before .before .before .before .before .before .before .before .before .before .before .before .before .before .before .before .before .before .before .if1 .taken)
+    omega (arith, one-counted _ _ _ _ _ (a .0) _ _ _ (i .0) _ _ _ n _ _ (row-here _ _ (a .4) _ _ _ _ (s .1 .0) _ _ _ (a .0) _ _ _ (i .0) _ _ _ n _ refl) _ _ _ t, c .before .before .before .before .before .before .before .before .before .before .before .before .before .before .before .before .before .before .before .before .before .before .if1 .taken)
 
 loop-again : tie.Need-loop-again Inv-loop μ-loop
 loop-again c =
-    let s = c .before .before .before .before .before .before .before .before .before .before .before .before .before .before .before .before .before .before .before .before .before .before .before .before .before .before .before .before .before .before .before .pre in
+    let s = c .before .before .before .before .before .before .before .before .before .before .before .before .before .before .before .before .before .before .before .before .before .before .before .before .before .before .before .before .before .before .before .before .pre in
     let a = s .0 in
-    let i = c .before .before .before .before .before .before .before .before .before .before .before .before .before .before .before .before .before .before .before .before .before .before .before .loop .inv in
-    let n = next-found _ _ _ _ (a .1) _ (c .before .before .before .before .before .before .before .before .before .before .before .before .before .before .before .before .before .before .next .ensures) (c .before .before .before .before .before .before .before .before .before .before .before .before .before .before .before .before .slot .given .1) in
+    let i = c .before .before .before .before .before .before .before .before .before .before .before .before .before .before .before .before .before .before .before .before .before .before .before .before .loop .inv in
+    let n = next-found _ _ _ _ (a .1) _ (c .before .before .before .before .before .before .before .before .before .before .before .before .before .before .before .before .before .before .before .next .ensures) (c .before .before .before .before .before .before .before .before .before .before .before .before .before .before .before .before .before .slot .given .1) in
     let e = c .before .before .before .before .before .before .before .before .before .before .before .before .before .before .stretch-at .ensures in
     let f = row-is _ _ _ _ _ _ _ _ _ (a .1) e (c .before .before .before .before .before .before .before .before .before .before .before .before .before .row-at .ensures) in
     let t = subst (StepIs _ _ _ _ _ _ _) (c .before .more .given .1) (step-as _ _ (a .4) _ _ _ _ (s .1 .0) _ _ _ (a .0) _ _ _ (i .0) _ _ _ n _ refl _ _ _ e _ f _ (c .before .before .before .before .before .before .before .before .before .step .ensures .0)) in (
       stands-on _ _ _ _ _ (a .0) _ _ _ (i .0) _ _ _ n _ _ (row-here _ _ (a .4) _ _ _ _ (s .1 .0) _ _ _ (a .0) _ _ _ (i .0) _ _ _ n _ refl) _ _ _ t,
-      omega (arith, one-counted _ _ _ _ _ (a .0) _ _ _ (i .0) _ _ _ n _ _ (row-here _ _ (a .4) _ _ _ _ (s .1 .0) _ _ _ (a .0) _ _ _ (i .0) _ _ _ n _ refl) _ _ _ t, c .before .before .before .before .before .before .before .before .before .before .before .before .before .before .before .before .before .before .before .before .before .if1 .taken),
+      omega (arith, one-counted _ _ _ _ _ (a .0) _ _ _ (i .0) _ _ _ n _ _ (row-here _ _ (a .4) _ _ _ _ (s .1 .0) _ _ _ (a .0) _ _ _ (i .0) _ _ _ n _ refl) _ _ _ t, c .before .before .before .before .before .before .before .before .before .before .before .before .before .before .before .before .before .before .before .before .before .before .if1 .taken),
       c .before .before .before .before .before .before .before .before .before .step .ensures .1,
       omega (arith, i .3, c .before .before .before .before .before .before .before .before .held .given),
       omega (arith, i .4, c .before .before .before .before .before .before .settled .given),
       omega (arith, i .5, c .before .before .before .before .scratch .given),
     )
 
-add-t36 : tie.Need-add-t36 Inv-loop μ-loop
-add-t36 c = omega (arith, counts-fit _ _ _ _ _ (c .before .before .before .before .before .before .before .before .before .before .before .before .before .before .before .before .before .before .before .before .before .before .before .before .before .before .before .before .before .before .before .before .pre .0 .0) _ _ _ (c .before .before .before .before .before .before .before .before .before .before .before .before .before .before .before .before .before .before .before .before .before .before .before .before .loop .inv .0) .1)
+add-t38 : tie.Need-add-t38 Inv-loop μ-loop
+add-t38 c = omega (arith, counts-fit _ _ _ _ _ (c .before .before .before .before .before .before .before .before .before .before .before .before .before .before .before .before .before .before .before .before .before .before .before .before .before .before .before .before .before .before .before .before .before .pre .0 .0) _ _ _ (c .before .before .before .before .before .before .before .before .before .before .before .before .before .before .before .before .before .before .before .before .before .before .before .before .before .loop .inv .0) .1)
 
 same-length-4 : tie.Need-same-length-4 Inv-loop μ-loop
-same-length-4 c = omega (arith, c .before .before .before .before .before .before .before .before .before .before .before .before .before .before .before .before .before .before .before .before .before .before .before .before .loop .inv .3, c .before .before .before .before .before .before .before .before .before .held .given)
+same-length-4 c = omega (arith, c .before .before .before .before .before .before .before .before .before .before .before .before .before .before .before .before .before .before .before .before .before .before .before .before .before .loop .inv .3, c .before .before .before .before .before .before .before .before .before .held .given)
 
 same-length-5 : tie.Need-same-length-5 Inv-loop μ-loop
-same-length-5 c = omega (arith, c .before .before .before .before .before .before .before .before .before .before .before .before .before .before .before .before .before .before .before .before .before .before .before .before .loop .inv .4, c .before .before .before .before .before .before .before .settled .given)
+same-length-5 c = omega (arith, c .before .before .before .before .before .before .before .before .before .before .before .before .before .before .before .before .before .before .before .before .before .before .before .before .before .loop .inv .4, c .before .before .before .before .before .before .before .settled .given)
 
 same-length-6 : tie.Need-same-length-6 Inv-loop μ-loop
-same-length-6 c = omega (arith, c .before .before .before .before .before .before .before .before .before .before .before .before .before .before .before .before .before .before .before .before .before .before .before .before .loop .inv .5, c .before .before .before .before .before .scratch .given)
+same-length-6 c = omega (arith, c .before .before .before .before .before .before .before .before .before .before .before .before .before .before .before .before .before .before .before .before .before .before .before .before .before .loop .inv .5, c .before .before .before .before .before .scratch .given)
 
 returns-2 : tie.Need-returns-2 Inv-loop μ-loop
 returns-2 c =
-    let s = c .before .before .before .before .before .before .before .before .before .before .before .before .before .before .before .before .before .before .before .before .before .before .before .before .before .before .before .before .before .before .before .before .pre in
+    let s = c .before .before .before .before .before .before .before .before .before .before .before .before .before .before .before .before .before .before .before .before .before .before .before .before .before .before .before .before .before .before .before .before .before .pre in
     let a = s .0 in
-    let i = c .before .before .before .before .before .before .before .before .before .before .before .before .before .before .before .before .before .before .before .before .before .before .before .before .loop .inv in
-    let n = next-found _ _ _ _ (a .1) _ (c .before .before .before .before .before .before .before .before .before .before .before .before .before .before .before .before .before .before .before .next .ensures) (c .before .before .before .before .before .before .before .before .before .before .before .before .before .before .before .before .before .slot .given .1) in
+    let i = c .before .before .before .before .before .before .before .before .before .before .before .before .before .before .before .before .before .before .before .before .before .before .before .before .before .loop .inv in
+    let n = next-found _ _ _ _ (a .1) _ (c .before .before .before .before .before .before .before .before .before .before .before .before .before .before .before .before .before .before .before .before .next .ensures) (c .before .before .before .before .before .before .before .before .before .before .before .before .before .before .before .before .before .before .slot .given .1) in
     let e = c .before .before .before .before .before .before .before .before .before .before .before .before .before .before .before .stretch-at .ensures in
     let f = row-is _ _ _ _ _ _ _ _ _ (a .1) e (c .before .before .before .before .before .before .before .before .before .before .before .before .before .before .row-at .ensures) in
     let t = subst (StepIs _ _ _ _ _ _ _) (c .before .before .n .given .1) (step-as _ _ (a .4) _ _ _ _ (s .1 .0) _ _ _ (a .0) _ _ _ (i .0) _ _ _ n _ refl _ _ _ e _ f _ (c .before .before .before .before .before .before .before .before .before .before .step .ensures .0)) in
-    (stops _ _ _ _ _ (a .0) _ _ _ (i .0) _ _ _ n _ _ (row-here _ _ (a .4) _ _ _ _ (s .1 .0) _ _ _ (a .0) _ _ _ (i .0) _ _ _ n _ refl) _ _ _ _ (c .before .before .before .before .before .before .before .before .before .before .before .before .before .before .before .before .before .before .before .before .before .before .if1 .taken) t, c .before .before .before .before .before .before .before .before .before .before .step .ensures .1)
+    (stops _ _ _ _ _ (a .0) _ _ _ (i .0) _ _ _ n _ _ (row-here _ _ (a .4) _ _ _ _ (s .1 .0) _ _ _ (a .0) _ _ _ (i .0) _ _ _ n _ refl) _ _ _ _ (c .before .before .before .before .before .before .before .before .before .before .before .before .before .before .before .before .before .before .before .before .before .before .before .if1 .taken) t, c .before .before .before .before .before .before .before .before .before .before .step .ensures .1)
 
 waits-requires : tie.Need-waits-requires Inv-loop μ-loop
 waits-requires c κs = table-order _ _ _ _ _ (c .before .before .before .before .before .before .before .before .before .before .before .before .pre .0 .0) _ _ _ (c .before .before .before .before .loop .inv .0)
@@ -175,7 +175,7 @@ steps-spec =
     loop-less
     loop-again
     (λ c. search needs)
-    add-t36
+    add-t38
     same-length-4
     same-length-5
     same-length-6

@@ -18,20 +18,20 @@ end-in c =
 add-end : tie.Need-add-end
 add-end c = record { fits = omega (arith, end-in c, c .before .before .before .before .before .pre .0 .0 .few) }
 
-first-hop-requires : tie.Need-first-hop-requires
-first-hop-requires c κs =
+middle-of-requires : tie.Need-middle-of-requires
+middle-of-requires c κs =
     let s = c .before .before .before .before .before in
     (omega arith, omega (arith, end-in c, s .pre .0 .1), omega (arith, end-in c, s .pre .0 .0 .few))
 
 -- the place that was found is where its walks end
-there : (c : tie.After-first-hop) → let s = c .before .before .before .before .before .before in
-    c .first-hop .result ≡ middle (s .args .hop-size) (now (s .args .vertices)) (now (s .args .walks)) (now (s .args .hops)) (s .pre .0 .0) (s .args .v) (s .args .first) (c .before .departing-of .result) (s .pre .1 .1) (c .before .departing-of .ensures)
+there : (c : tie.After-middle-of) → let s = c .before .before .before .before .before .before in
+    c .middle-of .result ≡ middle (s .args .hop-size) (now (s .args .vertices)) (now (s .args .walks)) (now (s .args .hops)) (s .pre .0 .0) (s .args .v) (s .args .first) (c .before .departing-of .result) (s .pre .1 .1) (c .before .departing-of .ensures)
 there c =
     let s = c .before .before .before .before .before .before in
-    c .first-hop .ensures _ (parts-there _ _ _ _ (s .pre .0 .0) (s .args .v) _ _ (s .pre .1 .1) (c .before .departing-of .ensures) (s .pre .1 .0))
+    c .middle-of .ensures _ (parts-there _ _ _ _ (s .pre .0 .0) (s .args .v) _ _ (s .pre .1 .1) (c .before .departing-of .ensures) (s .pre .1 .0))
 
-between : (c : tie.After-first-hop) → let s = c .before .before .before .before .before .before in
-    (s .args .first ≤ c .first-hop .result) × (c .first-hop .result ≤ s .args .first + c .before .departing-of .result)
+between : (c : tie.After-middle-of) → let s = c .before .before .before .before .before .before in
+    (s .args .first ≤ c .middle-of .result) × (c .middle-of .result ≤ s .args .first + c .before .departing-of .result)
 between c =
     let s = c .before .before .before .before .before .before in
     let m = middle-in _ _ _ _ (s .pre .0 .0) (s .args .v) _ _ (s .pre .1 .1) (c .before .departing-of .ensures) in
@@ -49,7 +49,7 @@ parted-spec =
     (λ c κs. search needs)
     (λ c. search needs)
     add-end
-    first-hop-requires
+    middle-of-requires
     (λ c. between c .0)
     (λ c. between c .1)
     returns)
