@@ -32,7 +32,7 @@ pub fn contents_fault(
     ensures { λ r. ⌜ told r ≡ chain (contents (tablesOf «hop_size» (now (vertices .entry)) (now (walks .entry)) (now (hops .entry))) ∷ listRefusal (tablesOf «hop_size» (now (vertices .entry)) (now (walks .entry)) (now (hops .entry))) (now (list .entry)) ∷ queryRefusal (tablesOf «hop_size» (now (vertices .entry)) (now (walks .entry)) (now (hops .entry))) (queryOf q) ∷ []) ⌝ }
     ensures { λ _. ⌜ now (scratch .exit) ≡ replicate 2048 0 ⌝ }
 {
-    if listed::sure(vertices, walks, hops, hop_size, list) {
+    if listed::sure(vertices, walks, hops, hop_size, list, &mut scratch[..]) {
         let bad = audit::contents_counted(vertices, walks, hops, hop_size, scratch);
         if bad.number != 0 {
             return bad;

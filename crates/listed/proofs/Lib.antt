@@ -1,3 +1,4 @@
 pub mod Judging
+pub mod WaitLaws
 pub mod Counting
 pub mod Determined

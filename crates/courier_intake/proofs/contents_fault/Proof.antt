@@ -15,16 +15,16 @@ use Rattle.courier_intake.proofs.contents_fault.Tie as tie
 
 sure-requires : tie.Need-sure-requires
 sure-requires c κs =
-    let s = c .before .before .before .before in
+    let s = c .before .before .before .before .before in
     let a = s .args in
     let few = sizes (a .hop-size) (now (a .vertices)) (now (a .walks)) (now (a .hops)) (s .pre .0) in
-    (omega (arith, few .hop-fits), few .vertices-most, omega (arith, few .walks-most, few .hops-most), s .pre .1 ∙ ap (λ (n : ℕ). 4 * n) (total-is (a .hop-size) (now (a .vertices)) (now (a .walks)) (now (a .hops))))
+    (omega (arith, few .hop-fits), few .vertices-most, omega (arith, few .walks-most, few .hops-most), s .pre .1 ∙ ap (λ (n : ℕ). 4 * n) (total-is (a .hop-size) (now (a .vertices)) (now (a .walks)) (now (a .hops))), c .sure-arg .given .0 .1)
 
 -- ---- where all is right
 contents-counted-requires : tie.Need-contents-counted-requires
 contents-counted-requires c κs =
     let sure = c .before .before in
-    let s = sure .before .before .before .before .before in
+    let s = sure .before .before .before .before .before .before in
     let a = s .args in
     (sizes _ _ _ _ (s .pre .0), record { says = counts-told (a .hop-size) (now (a .vertices)) (now (a .walks)) (now (a .hops)) (sure .sure .ensures (c .before .if1 .taken)) })
 
@@ -38,7 +38,7 @@ returns-2 c =
     let told = call .contents-counted .ensures in
     let then = call .before .before in
     let sure = then .before in
-    let s = sure .before .before .before .before .before in
+    let s = sure .before .before .before .before .before .before in
     let a = s .args in
     let ok = sound (a .hop-size) (now (a .vertices)) (now (a .walks)) (now (a .hops)) (lengths-valid _ _ _ _ (s .pre .0) (fine-so-far _ (told .0) (two .if2 .left))) (omega (arith, size-fits _ _ _ _ (s .pre .0))) in
     let right = list-told (a .hop-size) (now (a .vertices)) (now (a .walks)) (now (a .hops)) (sure .sure .ensures (then .if1 .taken)) ok in
@@ -46,7 +46,7 @@ returns-2 c =
 
 -- ---- else
 contents-requires : tie.Need-contents-requires
-contents-requires c κs = sizes _ _ _ _ (c .before .before .before .before .before .before .before .pre .0)
+contents-requires c κs = sizes _ _ _ _ (c .before .before .before .before .before .before .before .before .pre .0)
 
 returns-3 : tie.Need-returns-3
 returns-3 c = let told = c .before .before .contents .ensures in (refuses _ (told .0) _ (c .if3 .taken), told .1)
@@ -54,7 +54,7 @@ returns-3 c = let told = c .before .before .contents .ensures in (refuses _ (tol
 fault-requires : tie.Need-fault-requires
 fault-requires c κs =
     let told = c .before .before in
-    let s = told .before .before .before .before .before .before .before .before in
+    let s = told .before .before .before .before .before .before .before .before .before in
     ((omega (arith, size-fits _ _ _ _ (s .pre .0)), lengths-valid _ _ _ _ (s .pre .0) (fine-so-far _ (told .contents .ensures .0) (c .if3 .left))), s .pre .1)
 
 returns-4 : tie.Need-returns-4
