@@ -10,7 +10,7 @@ use Rattle.journeys.specs.Tables.{hopCount}
 use Rattle.journeys.specs.Query.{Query}
 use Rattle.journeys.specs.Settled.{Settled}
 use Rattle.journeys.specs.Refusals.{Refusal, unless, orElse, wholeOf, tableLengths, bufferLengths, contents, queryRefusal}
-use Rattle.journeys.specs.Answers.{Lent, Answer, tables, early, roomUpTo, acceptedAfter, Allowed}
+use Rattle.journeys.specs.Answers.{Lent, Answer, tables, early, roomUpTo, Allowed, acceptedFor}
 use Rattle.journeys.specs.PartAnswers.{partsAnswer}
 use Rattle.journeys.specs.OneRun.{ownList}
 use Rattle.journeys.specs.Marked.{partsOver}
@@ -58,7 +58,7 @@ module _ (b : Lent) (scratch : List ℕ) (Q : Query) where
   pub no-time-answer : (limit : ℕ) (a : Answer) → Allowed b Q limit a → a .refusal ≡ 0 → 4 * hopCount (tables b) ≤ length scratch
       → (c : RideAnswer) → RideAllowed (withScratch b scratch) Q 0 limit c
       → (c .refusal ≡ 0) × (c .settledCount ≡ a .settledCount) × (c .finished ≡ a .finished) × (c .settled ≡ a .settled)
-  unfolding rideOver rideAccepted acceptedAfter
+  unfolding rideOver rideAccepted acceptedFor
   no-time-answer limit a A r h c C =
       let x = accepted-run b Q limit a A r in
       let y = C .accepted (not-refused (x .fine) h) in

@@ -1,5 +1,5 @@
 -- What refusals 1 to 7, 21 and 22 leave is what listing parts asks for, and the answer is then that of the definitions. Assumes nothing.
-use mathlib.Core.Path.{_≡_, refl, sym, ap, _∙_}
+use mathlib.Core.Path.{_≡_, refl}
 use mathlib.Core.Bool.{true, false}
 use mathlib.Core.List.{List}
 use Prim.Native.Nat.{ℕ, _+_, _/_, _<_}
@@ -19,7 +19,6 @@ use Rattle.journeys.specs.CourierPartAnswers.{CourierPartsLent, courierPartsEar
 use Rattle.journeys.proofs.Tests.{never}
 use Rattle.journeys.proofs.Refusals.{or-fine, bad-fine}
 use Rattle.journeys.proofs.Valid.{size-fits, lengths-valid, query-valid}
-use Rattle.journeys.proofs.PartAnswers.{ordinary-parts}
 use Rattle.words.specs.Told.{told}
 use Rattle.words.specs.declared.Refusal as words
 use Rattle.making.proofs.InOrder.{length-is}
@@ -29,7 +28,7 @@ use Rattle.covering.proofs.Answered.{refused-as, accepted-as}
 
 module _ (b : PartsLent) (Q : Query) where
   pub ordinary-refused : (r : words.Refusal) → told r ≡ partsEarly b Q → (r .number ≡ 0 → ⊥) → partsAnswerOf (refusing (r .number) (r .place)) (b .parts) ≡ partsAnswer b Q
-  ordinary-refused r e n = refused-as (partList (partsTables b) Q) (b .list) (b .parts) (partsEarly b Q) r e n ∙ sym (ordinary-parts b Q)
+  ordinary-refused r e n = refused-as (partList (partsTables b) Q) (b .list) (b .parts) (partsEarly b Q) r e n
 
   module _ (e : partsEarly b Q .number ≡ 0) where
     pub ordinary-accepted : (r : List ℕ) → Accepted false (b .hopSize) (b .vertices) (b .walks) (b .hops) r (b .list) Q
@@ -49,7 +48,7 @@ module _ (b : PartsLent) (Q : Query) where
 
     pub ordinary-answer : partsAnswerFor (partListIn false (partsTables b) Q) (b .list) (b .parts) fine ≡ partsAnswer b Q
     unfolding partListIn
-    ordinary-answer = accepted-as (partList (partsTables b) Q) (b .list) (b .parts) (partsEarly b Q) e ∙ sym (ordinary-parts b Q)
+    ordinary-answer = accepted-as (partList (partsTables b) Q) (b .list) (b .parts) (partsEarly b Q) e
 
 module _ (b : CourierPartsLent) (Q : Query) where
   pub courier-refused : (r : words.Refusal) → told r ≡ courierPartsEarly b Q → (r .number ≡ 0 → ⊥) → partsAnswerOf (refusing (r .number) (r .place)) (b .lent .parts) ≡ courierPartsAnswer b Q

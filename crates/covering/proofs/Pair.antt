@@ -16,8 +16,8 @@ use Rattle.journeys.specs.Order.{Settled, IsOrder}
 use Rattle.journeys.specs.Parts.{firstParts, partsAt, partList, partBytes}
 use Rattle.journeys.specs.Lists.{listRefusal, settledIn}
 use Rattle.journeys.specs.Refusals.{Refusal, unless, chain, wholeOf, tableLengths, bufferLengths, contents, queryRefusal}
-use Rattle.journeys.specs.Answers.{Lent, Answer, tables, early, settledBytes, acceptedAfter, Allowed}
-use Rattle.journeys.specs.PartAnswers.{PartsLent, PartsAnswer, listLengths, partsEarly, partsTo, partsRefused, partsAccepted, partsAnswer}
+use Rattle.journeys.specs.Answers.{Lent, Answer, tables, early, settledBytes, acceptedAfter, Allowed, acceptedFor}
+use Rattle.journeys.specs.PartAnswers.{PartsLent, PartsAnswer, listLengths, partsEarly, partsTo, partsAnswer, partsRefusedFor, partsAcceptedFor}
 use Rattle.journeys.specs.OneRun.{together, partsAfter, oneRunAfter}
 use Rattle.journeys.proofs.Tests.{split, never, le-or-lt}
 use Rattle.journeys.proofs.Counting.{flat-append}
@@ -97,7 +97,7 @@ module _ (b : Lent) (Q : Query) (sound : early b Q .number ≡ 0) (l : List Sett
   -- With room for all parts the answer counts and holds those of the one run.
   own-fits : PartsFit b parts Q l k
       → partsAnswer own Q ≡ record { refusal = 0; place = 0; partCount = length (partsAfter b parts Q l k); parts = filled parts (flatMap partBytes (partsAfter b parts Q l k)) }
-  unfolding partsAccepted
+  unfolding partsAcceptedFor
   own-fits fit =
       parts-fit own Q own-sound
       (λ j h. omega (arith, fit, parts-grow (tables b) Q (settledIn (own .list)) j, ap (λ (S : List Settled). length (partList (tables b) Q S)) (settled-back (take k l))))
@@ -105,7 +105,7 @@ module _ (b : Lent) (Q : Query) (sound : early b Q .number ≡ 0) (l : List Sett
 
   -- Without it refusal 10 names the first step of the one run that lacks room, and the part buffer is zero.
   own-short : (j : ℕ) → FirstShort b parts Q l k j → partsAnswer own Q ≡ record { refusal = 10; place = j; partCount = 0; parts = cleared parts }
-  unfolding partsRefused
+  unfolding partsRefusedFor
   own-short j s =
       parts-short own Q own-sound j (omega (arith, s .made, ap length (settled-back (take k l)), length-take-le k l made))
       (λ r. s .short (omega (arith, r, ap length (same-parts j (s .made)))))
@@ -126,7 +126,7 @@ module _ (b : Lent) (Q : Query) (limit : ℕ) (a : Answer) (A : Allowed b Q limi
   is = run .is ∙ ap (λ (m : List Settled). acceptedAfter b Q m (min limit (length m))) (order-unique (tables b) Q (early-valid b Q (run .fine)) (run .is-order) O)
 
   handed-is : handed b a parts ≡ ownLent b parts Q l k
-  unfolding acceptedAfter filled
+  unfolding acceptedFor filled
   handed-is =
       let bytes = flatMap settledBytes (take k l) in
       let counted : handed b (acceptedAfter b Q l k) parts .list ≡ bytes = take-at bytes (replicate {A = ℕ} (length (b .settled) - length bytes) 0) _ (own-length (take k l)) in
@@ -137,7 +137,7 @@ module _ (b : Lent) (Q : Query) (limit : ℕ) (a : Answer) (A : Allowed b Q limi
 
   -- With room for the parts the pair gives the six numbers and every byte of the one run.
   pub pair-is-one-run : PartsFit b parts Q l k → together a (partsAnswer (handed b a parts) Q) ≡ oneRunAfter b parts Q l k
-  unfolding together oneRunAfter acceptedAfter
+  unfolding together oneRunAfter acceptedFor
   pair-is-one-run fit = ap₂ together is (answers-are ∙ own-fits b Q (run .fine) l O parts even k made fit)
 
   -- Without it the refusal is 10, at the first step after which the one run lacks room for its parts, and the part buffer is zero.
@@ -156,7 +156,7 @@ module _ (b : Lent) (Q : Query) (limit : ℕ) (a : Answer) (A : Allowed b Q limi
 
 -- An accepted parts operation has a part buffer of whole records.
 pub accepted-even : (b : PartsLent) (Q : Query) → partsAnswer b Q .refusal ≡ 0 → wholeOf 12 (b .parts) ≡ true
-unfolding partsEarly listLengths partsRefused
+unfolding partsEarly listLengths partsRefusedFor
 accepted-even b Q e =
     unless-fine (wholeOf 12 (b .parts)) 1 5 (omega arith) (or-fine (unless (wholeOf 8 (b .list)) 1 4) _ (or-fine (listLengths (b .list) (b .parts)) _ (or-fine (tableLengths (b .hopSize) (b .vertices) (b .walks) (b .hops)) _ sound .1) .0) .1)
   where

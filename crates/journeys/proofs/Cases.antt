@@ -13,9 +13,9 @@ use Rattle.journeys.specs.Network.{distanceIn, within, into, outside, of
 use Rattle.journeys.specs.Records.{offer, recordAt, departing, seed}
 use Rattle.journeys.specs.Parts.{part, near, firstPart, firstParts, partAt, partsAt, partList}
 use Rattle.journeys.specs.Refusals.{unless, orElse, firstFrom, firstBad, wholeOf, tableOf, hopSizeOk, tableLengths, bufferLengths, endsOk, pairOk, walkOk, hopOk, walkAscends, hopAscends, vertexOk, contents, queryRefusal}
-use Rattle.journeys.specs.Answers.{Answer, early, refusedEarly, refusedLate, roomAt, roomUpTo, acceptedAfter, answerOver, Allowed}
+use Rattle.journeys.specs.Answers.{Answer, early, refusedEarly, Allowed, lateFor, roomFor, roomUpToFor, acceptedFor, answerFor}
 use Rattle.journeys.specs.Lists.{allows, named, entryOk, listRefusal, settledIn}
-use Rattle.journeys.specs.PartAnswers.{PartsAnswer, listLengths, partsEarly, partsRoomAt, partsRoom, partsRefused, partsAccepted, partsAnswer}
+use Rattle.journeys.specs.PartAnswers.{PartsAnswer, listLengths, partsEarly, partsAnswer, partsRoomAtFor, partsRoomFor, partsRefusedFor, partsAcceptedFor, partsAnswerFor}
 use Rattle.journeys.specs.OneRun.{ownList}
 use Rattle.journeys.specs.Marked.{Case, partsOver, vertexBytes, baseVertices, baseWalks, baseHop}
 use Rattle.journeys.specs.PartLimits.{PartsCase, whole}
@@ -39,7 +39,7 @@ every test (c ∷ cs) = test c && every test cs
 
 -- the test of a whole table; to unfold it is to unfold all that it computes with
 unfoldable pub tested : List Case → Bool
-unfolding vertexBytes baseVertices baseWalks baseHop computed early tableLengths hopSizeOk tableOf wholeOf unless orElse bufferLengths contents firstBad firstFrom walkOk endsOk pairOk hopOk walkAscends hopAscends vertexOk departing count recordAt queryRefusal answerOver roomUpTo roomAt acceptedAfter refusedEarly refusedLate filled cleared word flatMap heldList joined entry held met into within outside remaining row known least offered offer seed distanceIn partList firstParts firstPart part near partsAt partAt allows named entryOk listRefusal settledIn listLengths partsEarly partsRoomAt partsRoom partsRefused partsAccepted partsAnswer tablesOf vertexAt walkAt hopAt be32 be16 clock run next scan candidate key top
+unfolding vertexBytes baseVertices baseWalks baseHop computed early tableLengths hopSizeOk tableOf wholeOf unless orElse bufferLengths contents firstBad firstFrom walkOk endsOk pairOk hopOk walkAscends hopAscends vertexOk departing count recordAt queryRefusal answerFor roomUpToFor roomFor acceptedFor refusedEarly lateFor filled cleared word flatMap heldList joined entry held met into within outside remaining row known least offered offer seed distanceIn partList firstParts firstPart part near partsAt partAt allows named entryOk listRefusal settledIn listLengths partsEarly partsRoomAtFor partsRoomFor partsRefusedFor partsAcceptedFor partsAnswerFor tablesOf vertexAt walkAt hopAt be32 be16 clock run next scan candidate key top
 tested cs = every passes cs
 
 -- the same of the parts operation alone

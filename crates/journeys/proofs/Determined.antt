@@ -15,7 +15,7 @@ use Rattle.journeys.specs.Tables.{vertexCount}
 use Rattle.journeys.specs.Query.{Query, allowed}
 use Rattle.journeys.specs.Order.{Settled, IsOrder}
 use Rattle.journeys.specs.Records.{network}
-use Rattle.journeys.specs.Answers.{Lent, Answer, tables, early, refusedEarly, refusedLate, settledBytes, roomUpTo, acceptedAfter, answerOver, Allowed}
+use Rattle.journeys.specs.Answers.{Lent, Answer, tables, early, refusedEarly, refusedLate, settledBytes, roomUpTo, acceptedAfter, answerOver, Allowed, lateFor, acceptedFor, answerFor}
 use Rattle.journeys.proofs.Tests.{split, cond-true, cond-false}
 use Rattle.journeys.proofs.Greedy.{run}
 use Rattle.journeys.proofs.Valid.{early-valid}
@@ -68,7 +68,7 @@ module _ (b : Lent) (Q : Query) (limit : ℕ) where
 
   -- Refusal 0 means accepted.
   pub accepted-run : (a : Answer) → Allowed b Q limit a → a .refusal ≡ 0 → Accepted a
-  unfolding answerOver refusedLate refusedEarly
+  unfolding answerFor lateFor refusedEarly
   accepted-run a A r =
       ⊎-elim
       (λ (t : eqb (early b Q .number) 0 ≡ true).
@@ -90,7 +90,7 @@ module _ (b : Lent) (Q : Query) (limit : ℕ) where
   -- An accepted run that is finished lists the whole order.
   pub finished-all : (a : Answer) (x : Accepted a) → a .finished ≡ 1
       → (a .settledCount ≡ length (x .order)) × (a .settled ≡ filled (b .settled) (flatMap settledBytes (x .order)))
-  unfolding acceptedAfter
+  unfolding acceptedFor
   finished-all a x f =
       ⊎-elim
       (λ (t : leb (length (x .order)) k ≡ true).
@@ -115,7 +115,7 @@ module _ (b : Lent) (Q : Query) (limit : ℕ) where
   none-counted a x y = (omega arith, omega arith)
 
   over-within : (l : List Settled) → Within (answerOver b Q l limit)
-  unfolding answerOver acceptedAfter refusedLate
+  unfolding answerFor acceptedFor lateFor
   over-within l = go (split (eqb (roomUpTo b Q l k .number) 0))
     where
       k : ℕ

@@ -13,7 +13,7 @@ use Rattle.journeys.specs.Query.{Query}
 use Rattle.journeys.specs.Order.{Settled}
 use Rattle.journeys.specs.Network.{Network, Held, distanceIn, within, known, remaining, met, spent, held, row, entry, heldList, keptList}
 use Rattle.journeys.specs.Records.{network}
-use Rattle.journeys.specs.Answers.{Lent, Answer, tables, heldBytes, settledBytes, Room, acceptedAfter}
+use Rattle.journeys.specs.Answers.{Lent, Answer, tables, heldBytes, settledBytes, Room, acceptedAfter, acceptedFor}
 use Rattle.journeys.proofs.Counting.{in-joined, joined-in}
 
 module _ (G : Network) (far : ℕ → ℕ) where
@@ -86,5 +86,5 @@ module _ (b : Lent) (Q : Query) (l : List Settled) where
       → (acceptedAfter b Q l k .settledCount ≡ keepingAfter k .settledCount)
       × (acceptedAfter b Q l k .settled ≡ keepingAfter k .settled)
       × (acceptedAfter b Q l k .finished ≡ keepingAfter k .finished)
-  unfolding acceptedAfter keepingAfter
+  unfolding acceptedFor keepingAfter
   forgetting-spares k = (refl, refl, refl)

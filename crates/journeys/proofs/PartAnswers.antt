@@ -18,7 +18,7 @@ use Rattle.journeys.specs.Parts.{Part, firstParts, partsAt, partList}
 use Rattle.journeys.specs.Lists.{allows, vertexIn, distanceAt, entryOk, listRefusal, settledIn}
 use Rattle.journeys.specs.Refusals.{Refusal, tableLengths, contents, queryRefusal}
 use Rattle.journeys.specs.ListAnswers.{partsToFor, PartsRoomFor, partsRoomAtFor, partsRoomFor, partsRefusedFor, partsAcceptedFor, partsAnswerFor}
-use Rattle.journeys.specs.PartAnswers.{PartsLent, partsTables, listLengths, partsEarly, PartsRoom, partsTo, partsRoomAt, partsRoom, partsRefused, partsAccepted, partsAnswer}
+use Rattle.journeys.specs.PartAnswers.{PartsLent, partsTables, listLengths, partsEarly, PartsRoom, partsTo, partsRefused, partsAccepted, partsAnswer}
 use Rattle.journeys.proofs.Tests.{cond-true, cond-false, and-both, or-cases, le-or-lt}
 use Rattle.journeys.proofs.Counting.{length-joined, flat-snoc}
 use Rattle.journeys.proofs.Refusals.{or-fine, unless-fine, unless-good, unless-bad, bad-fine, from-none, from-first}
@@ -123,22 +123,14 @@ module _ (partsOf : List Settled → List Part) (list parts : List ℕ) (early :
 
 -- For given tables and a query.
 module _ (b : PartsLent) (Q : Query) where
-  -- The ordinary answer is that for the ordinary parts.
-  pub ordinary-parts : partsAnswer b Q ≡ partsAnswerFor (partList (partsTables b) Q) (b .list) (b .parts) (partsEarly b Q)
-  unfolding partsAnswer partsAnswerFor partsRoom partsRoomFor partsRoomAt partsRoomAtFor partsRefused partsRefusedFor partsAccepted partsAcceptedFor
-  ordinary-parts = refl
-
   pub parts-refused : partsEarly b Q .number ≢ 0 → partsAnswer b Q ≡ partsRefused b Q (partsEarly b Q) (b .parts)
-  unfolding partsAnswer partsAnswerFor partsRoom partsRoomFor partsRoomAt partsRoomAtFor partsRefused partsRefusedFor partsAccepted partsAcceptedFor
   parts-refused = refused-before (partList (partsTables b) Q) (b .list) (b .parts) (partsEarly b Q)
 
   pub parts-short : partsEarly b Q .number ≡ 0 → (k : ℕ) → k ≤ length (settledIn (b .list)) → (PartsRoom b Q k → ⊥) → ((j : ℕ) → j < k → PartsRoom b Q j)
       → partsAnswer b Q ≡ partsRefused b Q (record { number = 10; place = k }) (cleared (b .parts))
-  unfolding partsAnswer partsAnswerFor partsRoom partsRoomFor partsRoomAt partsRoomAtFor partsRefused partsRefusedFor partsAccepted partsAcceptedFor
   parts-short = refused-short (partList (partsTables b) Q) (b .list) (b .parts) (partsEarly b Q)
 
   pub parts-fit : partsEarly b Q .number ≡ 0 → ((j : ℕ) → j ≤ length (settledIn (b .list)) → PartsRoom b Q j) → partsAnswer b Q ≡ partsAccepted b Q
-  unfolding partsAnswer partsAnswerFor partsRoom partsRoomFor partsRoomAt partsRoomAtFor partsRefused partsRefusedFor partsAccepted partsAcceptedFor
   parts-fit = all-fits (partList (partsTables b) Q) (b .list) (b .parts) (partsEarly b Q)
 
 -- The parts of one entry more stand behind those before it.

@@ -14,8 +14,8 @@ use Rattle.journeys.specs.Order.{Settled}
 use Rattle.journeys.specs.Refusals.{Refusal, fine, unless, orElse, chain, firstFrom, firstBad}
 use Rattle.journeys.specs.Network.{Network}
 use Rattle.journeys.specs.Records.{network}
-use Rattle.journeys.specs.RunAnswers.{heldFor, RoomFor, roomFor, roomUpToFor, acceptedFor, lateFor, answerFor}
-use Rattle.journeys.specs.Answers.{Lent, tables, refusedLate, roomAt, roomUpTo, Room, acceptedAfter, answerOver}
+use Rattle.journeys.specs.RunAnswers.{heldFor, RoomFor, roomFor, roomUpToFor}
+use Rattle.journeys.specs.Answers.{Lent, tables, roomAt, roomUpTo, Room}
 use Rattle.journeys.proofs.Tests.{split, cond-true, cond-false, same-or-below}
 
 pub or-fine : (a b : Refusal) → orElse a b .number ≡ 0 → (a .number ≡ 0) × (b .number ≡ 0)
@@ -147,18 +147,10 @@ module _ (G : Network) (held settled : List ℕ) (l : List Settled) where
 -- The same for the run over given tables.
 module _ (b : Lent) (Q : Query) (l : List Settled) where
   pub room-is : (k : ℕ) → (roomAt b Q l k .number ≡ 0) ↔ Room b Q l k
-  unfolding roomAt roomFor
   room-is = roomFor-is (network (tables b) Q) (b .held) (b .settled) l
 
   pub room-exactly : (k : ℕ) → (roomUpTo b Q l k .number ≡ 0) ↔ ((j : ℕ) → j ≤ k → Room b Q l j)
-  unfolding roomUpTo roomUpToFor roomAt roomFor
   room-exactly = roomFor-exactly (network (tables b) Q) (b .held) (b .settled) l
 
   pub room-first : (k j : ℕ) → j ≤ k → (Room b Q l j → ⊥) → ((i : ℕ) → i < j → Room b Q l i) → roomUpTo b Q l k ≡ roomAt b Q l j
-  unfolding roomUpTo roomUpToFor roomAt roomFor
   room-first = roomFor-first (network (tables b) Q) (b .held) (b .settled) l
-
--- The ordinary run is the run over the ordinary network.
-pub ordinary-run : (b : Lent) (Q : Query) (l : List Settled) (limit : ℕ) → answerOver b Q l limit ≡ answerFor (network (tables b) Q) (b .held) (b .settled) l limit
-unfolding answerOver answerFor roomUpTo roomUpToFor roomAt roomFor acceptedAfter acceptedFor refusedLate lateFor
-ordinary-run b Q l limit = refl

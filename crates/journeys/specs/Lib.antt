@@ -16,10 +16,10 @@ pub mod CourierParts
 pub mod Refusals
 pub mod Valid
 pub mod Lists
-pub mod Answers
 pub mod RunAnswers
-pub mod PartAnswers
+pub mod Answers
 pub mod ListAnswers
+pub mod PartAnswers
 pub mod CourierMaking
 pub mod CourierAnswers
 pub mod CourierPartAnswers

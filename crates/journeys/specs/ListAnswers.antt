@@ -1,5 +1,5 @@
--- What a parts operation answers for a settled list, and what it leaves in the part buffer: in either direction, by the parts that the list gives. Assumes nothing.
--- `PartAnswers` says it for the ordinary parts; the two are proved the same (`ordinary-parts`).
+-- What a parts operation answers for a settled list, and what it leaves in the part buffer, by the parts that the list gives. Assumes nothing.
+-- It is said here once, for either direction: `PartAnswers` takes it for the ordinary parts, `CourierPartAnswers` for the courier's.
 use mathlib.Core.Bool.{cond}
 use mathlib.Core.List.{List, flatMap}
 use Prim.Native.Nat.{ℕ, _+_, _/_, _≤_}
@@ -10,7 +10,13 @@ use Rattle.journeys.specs.Order.{Settled}
 use Rattle.journeys.specs.Parts.{Part, partBytes}
 use Rattle.journeys.specs.Lists.{settledIn}
 use Rattle.journeys.specs.Refusals.{Refusal, unless, firstFrom}
-use Rattle.journeys.specs.PartAnswers.{PartsAnswer}
+
+-- the three answers, and the part buffer afterwards
+pub record PartsAnswer : Type 0 where
+  pub refusal : ℕ
+  pub place : ℕ
+  pub partCount : ℕ
+  pub parts : List ℕ
 
 -- a refusal, with the part buffer that it leaves
 unfoldable pub partsRefusedFor : Refusal → List ℕ → PartsAnswer
@@ -21,22 +27,25 @@ abbrev pub partsToFor : (List Settled → List Part) → List ℕ → ℕ → Li
 partsToFor partsOf list k = partsOf (take k (settledIn list))
 
 module _ (partsOf : List Settled → List Part) (list parts : List ℕ) where
+  -- they are no more than the part buffer takes
   abbrev pub PartsRoomFor : ℕ → Type 0
   PartsRoomFor k = length (partsToFor partsOf list k) ≤ length parts / 12
 
-  -- 10: the first entry whose parts do not fit, counted from 1; 0 for the parts of step 0
+  -- 10 where they are more: at entry k, counted from 1; at 0 for the parts of step 0
   unfoldable pub partsRoomAtFor : ℕ → Refusal
   partsRoomAtFor k = unless (leb (length (partsToFor partsOf list k)) (length parts / 12)) 10 k
 
+  -- 10 at the first entry whose parts do not fit
   unfoldable pub partsRoomFor : Refusal
   partsRoomFor = firstFrom partsRoomAtFor (length (settledIn list) + 1) 0
 
+  -- every part, in order, with zero behind them
   unfoldable pub partsAcceptedFor : PartsAnswer
   partsAcceptedFor =
       let ps = partsOf (settledIn list) in
       record { refusal = 0; place = 0; partCount = length ps; parts = filled parts (flatMap partBytes ps) }
 
-  -- where `early` is what is refused before the parts, which changes no lent byte
+  -- THE ANSWER, where `early` is what is refused before the parts, which changes no lent byte
   unfoldable pub partsAnswerFor : Refusal → PartsAnswer
   partsAnswerFor early =
       cond (eqb (early .number) 0)

@@ -1,16 +1,14 @@
 -- What the parts operation answers for a settled list, and what it leaves in the part buffer. Assumes nothing.
-use mathlib.Core.Bool.{cond}
-use mathlib.Core.List.{List, [], _∷_, flatMap}
-use Prim.Native.Nat.{ℕ, _+_, _/_, _≤_}
-use lib.Dec.{eqb, leb}
-use lib.ListN.{length, take}
-use Rattle.journeys.specs.Bytes.{filled, cleared}
+-- The refusals of the input stand here. What is answered behind them stands in `ListAnswers`, once for any parts.
+use mathlib.Core.List.{List, [], _∷_}
+use Prim.Native.Nat.{ℕ}
 use Rattle.journeys.specs.Tables.{Tables, tablesOf, vertexCount}
 use Rattle.journeys.specs.Query.{Query, allowed}
-use Rattle.journeys.specs.Order.{Settled}
-use Rattle.journeys.specs.Parts.{Part, partList, partBytes}
-use Rattle.journeys.specs.Lists.{listRefusal, settledIn}
-use Rattle.journeys.specs.Refusals.{Refusal, unless, chain, firstFrom, wholeOf, tableLengths, contents, queryRefusal}
+use Rattle.journeys.specs.Parts.{Part, partList}
+use Rattle.journeys.specs.Lists.{listRefusal}
+use Rattle.journeys.specs.Refusals.{Refusal, unless, chain, wholeOf, tableLengths, contents, queryRefusal}
+pub use Rattle.journeys.specs.ListAnswers.{PartsAnswer, partsToFor, PartsRoomFor}
+unfoldable pub use Rattle.journeys.specs.ListAnswers.{partsRoomAtFor, partsRoomFor, partsRefusedFor, partsAcceptedFor, partsAnswerFor}
 
 -- what is lent: three tables, the size of a hop, the list, which is read only, and the part buffer as it is at the call
 pub record PartsLent : Type 0 where
@@ -19,13 +17,6 @@ pub record PartsLent : Type 0 where
   pub hops : List ℕ
   pub hopSize : ℕ
   pub list : List ℕ
-  pub parts : List ℕ
-
--- the three answers, and the part buffer afterwards
-pub record PartsAnswer : Type 0 where
-  pub refusal : ℕ
-  pub place : ℕ
-  pub partCount : ℕ
   pub parts : List ℕ
 
 abbrev pub partsTables : PartsLent → Tables
@@ -47,32 +38,32 @@ partsEarly b Q =
     ∷ listRefusal 8 (vertexCount N) (allowed Q) (b .list)
     ∷ [])
 
+-- The parts are those of the tables and the query. Each name stands for what `ListAnswers` says of these parts, the list and the part buffer.
 module _ (b : PartsLent) (Q : Query) where
   -- the parts of step 0 and of the first k entries
   abbrev pub partsTo : ℕ → List Part
-  partsTo k = partList (partsTables b) Q (take k (settledIn (b .list)))
+  partsTo k = partsToFor (partList (partsTables b) Q) (b .list) k
 
+  -- they are no more than the part buffer takes
   abbrev pub PartsRoom : ℕ → Type 0
-  PartsRoom k = length (partsTo k) ≤ length (b .parts) / 12
+  PartsRoom k = PartsRoomFor (partList (partsTables b) Q) (b .list) (b .parts) k
 
-  -- 10: the first entry whose parts do not fit, counted from 1; 0 for the parts of step 0
-  unfoldable pub partsRoomAt : ℕ → Refusal
-  partsRoomAt k = unless (leb (length (partsTo k)) (length (b .parts) / 12)) 10 k
+  -- 10 where they are more: at entry k, counted from 1; at 0 for the parts of step 0
+  abbrev pub partsRoomAt : ℕ → Refusal
+  partsRoomAt k = partsRoomAtFor (partList (partsTables b) Q) (b .list) (b .parts) k
 
-  unfoldable pub partsRoom : Refusal
-  partsRoom = firstFrom partsRoomAt (length (settledIn (b .list)) + 1) 0
+  -- 10 at the first entry whose parts do not fit
+  abbrev pub partsRoom : Refusal
+  partsRoom = partsRoomFor (partList (partsTables b) Q) (b .list) (b .parts)
 
-  unfoldable pub partsRefused : Refusal → List ℕ → PartsAnswer
-  partsRefused r parts = record { refusal = r .number; place = r .place; partCount = 0; parts = parts }
+  -- a refusal, with the part buffer that it leaves
+  abbrev pub partsRefused : Refusal → List ℕ → PartsAnswer
+  partsRefused r parts = partsRefusedFor r parts
 
-  unfoldable pub partsAccepted : PartsAnswer
-  partsAccepted =
-      let ps = partList (partsTables b) Q (settledIn (b .list)) in
-      record { refusal = 0; place = 0; partCount = length ps; parts = filled (b .parts) (flatMap partBytes ps) }
+  -- every part, in order, with zero behind them
+  abbrev pub partsAccepted : PartsAnswer
+  partsAccepted = partsAcceptedFor (partList (partsTables b) Q) (b .list) (b .parts)
 
   -- THE ANSWER, for any bytes and query
-  unfoldable pub partsAnswer : PartsAnswer
-  partsAnswer =
-      cond (eqb (partsEarly b Q .number) 0)
-      (cond (eqb (partsRoom .number) 0) partsAccepted (partsRefused partsRoom (cleared (b .parts))))
-      (partsRefused (partsEarly b Q) (b .parts))
+  abbrev pub partsAnswer : PartsAnswer
+  partsAnswer = partsAnswerFor (partList (partsTables b) Q) (b .list) (b .parts) (partsEarly b Q)

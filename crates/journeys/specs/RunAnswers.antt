@@ -1,15 +1,32 @@
--- What a run over any network answers for its steps, and what it leaves in its two buffers: RULES 11 and 12.8 to 12.11, in either direction. Assumes nothing.
--- `Answers` says it for the ordinary network; the two are proved the same (`ordinary-run`).
+-- What a run over any network answers for its steps, and what it leaves in its two buffers: RULES 11 and 12.8 to 12.11. Assumes nothing.
+-- It is said here once, for either direction: `Answers` takes it for the ordinary network, `CourierAnswers` for the courier's.
 use mathlib.Core.Bool.{cond}
-use mathlib.Core.List.{List, flatMap}
+use mathlib.Core.List.{List, _++_, flatMap}
 use Prim.Native.Nat.{ℕ, _+_, _/_, _≤_, min}
 use lib.Dec.{eqb, leb}
 use lib.ListN.{length, take}
-use Rattle.journeys.specs.Bytes.{filled, cleared}
+use Rattle.journeys.specs.Bytes.{word, filled, cleared}
 use Rattle.journeys.specs.Order.{Settled}
 use Rattle.journeys.specs.Network.{Network, Held, distanceIn, heldList}
 use Rattle.journeys.specs.Refusals.{Refusal, unless, orElse, firstFrom}
-use Rattle.journeys.specs.Answers.{Answer, heldBytes, settledBytes}
+
+-- the answers, and the two buffers afterwards
+pub record Answer : Type 0 where
+  pub refusal : ℕ
+  pub place : ℕ
+  pub settledCount : ℕ
+  pub heldCount : ℕ
+  pub finished : ℕ
+  pub held : List ℕ
+  pub settled : List ℕ
+
+-- a record of the working table, 16 bytes
+abbrev pub heldBytes : Held → List ℕ
+heldBytes x = word (x .vertex) ++ word (x .distance) ++ word (x .state) ++ word (x .remaining)
+
+-- a record of the settled list, 8 bytes
+abbrev pub settledBytes : Settled → List ℕ
+settledBytes x = word (x .vertex) ++ word (x .distance)
 
 -- refusals 8 and 9, which leave both buffers zero
 unfoldable pub lateFor : List ℕ → List ℕ → Refusal → Answer

@@ -18,8 +18,8 @@ use Rattle.journeys.specs.Network.{Held, distanceIn, heldList}
 use Rattle.journeys.specs.Records.{network}
 use Rattle.journeys.specs.Parts.{Part, partList, partBytes}
 use Rattle.journeys.specs.Lists.{listRefusal, settledIn}
-use Rattle.journeys.specs.Answers.{Lent, Answer, heldBytes, settledBytes, early, refusedEarly, refusedLate, roomAt, roomUpTo, acceptedAfter, answerOver, Allowed}
-use Rattle.journeys.specs.PartAnswers.{PartsLent, PartsAnswer, listLengths, partsEarly, partsRoomAt, partsRoom, partsRefused, partsAccepted, partsAnswer}
+use Rattle.journeys.specs.Answers.{Lent, Answer, heldBytes, settledBytes, early, refusedEarly, refusedLate, roomUpTo, acceptedAfter, answerOver, Allowed, lateFor, roomFor, roomUpToFor, acceptedFor, answerFor}
+use Rattle.journeys.specs.PartAnswers.{PartsLent, PartsAnswer, listLengths, partsEarly, partsRoom, partsRefused, partsAccepted, partsAnswer, partsRoomAtFor, partsRoomFor, partsRefusedFor, partsAcceptedFor, partsAnswerFor}
 use Rattle.journeys.specs.VendorLists.{vendorRefusal, judgeRefusal}
 use Rattle.journeys.proofs.Counting.{joined-same}
 use Rattle.moves.specs.Moved.{common, lengthened}
@@ -82,14 +82,14 @@ module _ (s s′ : ℕ) (v w h h′ : List ℕ) (same : Alike s s′ h h′) whe
 
     -- the room and the answer after k steps of the order l ask the tables for what is held
     same-room : (l : List Settled) (k : ℕ) → roomUpTo one Q l k ≡ roomUpTo other Q l k
-    unfolding roomUpTo roomAt
+    unfolding roomUpToFor roomFor
     same-room l k =
         ap (λ (N : Tables). firstFrom
         (λ j. orElse (unless (leb (length (heldList (network N Q) (distanceIn (take j l)))) (length held / 16)) 8 j) (unless (leb (length (take j l)) (length settled / 8)) 9 j)) (k + 1) 0)
         same-tables
 
     same-accepted : (l : List Settled) (k : ℕ) → acceptedAfter one Q l k ≡ acceptedAfter other Q l k
-    unfolding acceptedAfter
+    unfolding acceptedFor
     same-accepted l k =
         ap (λ (x : List Held). record {
           refusal = 0;
@@ -103,7 +103,7 @@ module _ (s s′ : ℕ) (v w h h′ : List ℕ) (same : Alike s s′ h h′) whe
         (ap (λ (N : Tables). heldList (network N Q) (distanceIn (take k l))) same-tables)
 
     same-answer : (l : List Settled) (limit : ℕ) → answerOver one Q l limit ≡ answerOver other Q l limit
-    unfolding answerOver refusedLate
+    unfolding answerFor lateFor
     same-answer l limit =
         let k = min limit (length l) in
         ap₂ (λ (r : Refusal) (a : Answer). cond (eqb (r .number) 0) a (refusedLate one r)) (same-room l k) (same-accepted l k)
@@ -135,18 +135,18 @@ module _ (s s′ : ℕ) (v w h h′ : List ℕ) (same : Alike s s′ h h′) whe
         same-lengths same-tables
 
     same-parts-room : partsRoom lentOne Q ≡ partsRoom lentOther Q
-    unfolding partsRoom partsRoomAt
+    unfolding partsRoomFor partsRoomAtFor
     same-parts-room =
         ap (λ (N : Tables). firstFrom (λ k. unless (leb (length (partList N Q (take k (settledIn list)))) (length parts / 12)) 10 k) (length (settledIn list) + 1) 0) same-tables
 
     same-parts-accepted : partsAccepted lentOne Q ≡ partsAccepted lentOther Q
-    unfolding partsAccepted
+    unfolding partsAcceptedFor
     same-parts-accepted =
         ap (λ (ps : List Part). record { refusal = 0; place = 0; partCount = length ps; parts = filled parts (flatMap partBytes ps) })
         (ap (λ (N : Tables). partList N Q (settledIn list)) same-tables)
 
     pub same-parts : partsAnswer lentOne Q ≡ partsAnswer lentOther Q
-    unfolding partsAnswer partsRefused
+    unfolding partsAnswerFor partsRefusedFor
     same-parts =
         ap₂ (λ (r : Refusal) (a : PartsAnswer). cond (eqb (r .number) 0) a (partsRefused lentOne Q r parts)) same-parts-early
         (ap₂ (λ (r : Refusal) (a : PartsAnswer). cond (eqb (r .number) 0) a (partsRefused lentOne Q r (cleared parts))) same-parts-room same-parts-accepted)

@@ -19,7 +19,7 @@ use Rattle.journeys.specs.Records.{network}
 use Rattle.journeys.specs.Lists.{vertexIn, distanceAt, named, settledIn, listRefusal}
 use Rattle.journeys.specs.Refusals as refusals
 use Rattle.journeys.specs.Refusals.{orElse, firstFrom}
-use Rattle.journeys.specs.Answers.{Lent, Answer, Allowed, tables, early, settledBytes, heldBytes, heldAfter, roomAt, roomUpTo, acceptedAfter, refusedLate, answerOver}
+use Rattle.journeys.specs.Answers.{Lent, Answer, Allowed, tables, early, settledBytes, heldBytes, heldAfter, roomAt, roomUpTo, acceptedAfter, refusedLate, answerOver, lateFor, roomFor, roomUpToFor, acceptedFor, answerFor}
 use Rattle.journeys.specs.Valid.{Valid}
 use Rattle.journeys.proofs.Tests.{split, cond-true, cond-false}
 use Rattle.journeys.proofs.Counting.{in-joined, joined-in, count-most}
@@ -130,11 +130,11 @@ from-same f g (suc n) i h = ap₂ orElse (h i) (from-same f g n (i + 1) h)
 
 module _ (v w h : List ℕ) (hop : ℕ) (x x′ y y′ : List ℕ) (Q : Query) (l : List Settled) (e : length x′ ≡ length x) (f : length y′ ≡ length y) where
   same-room : (j : ℕ) → roomUpTo (lent v w h hop x′ y′) Q l j ≡ roomUpTo (lent v w h hop x y) Q l j
-  unfolding roomUpTo roomAt
+  unfolding roomUpToFor roomFor
   same-room j = from-same (roomAt (lent v w h hop x′ y′) Q l) (roomAt (lent v w h hop x y) Q l) (j + 1) 0 (λ k. rw (e, f))
 
   same-answer : answerOver (lent v w h hop x′ y′) Q l none ≡ answerOver (lent v w h hop x y) Q l none
-  unfolding answerOver acceptedAfter refusedLate filled cleared
+  unfolding answerFor acceptedFor lateFor filled cleared
   same-answer = rw (same-room (min none (length l)), e, f)
 
 abbrev pub theRun : Lent → Query → Answer
@@ -173,7 +173,7 @@ module _ (v w h : List ℕ) (hop : ℕ) (held settled : List ℕ) (Q : Query) (p
   few-listed = omega (arith, order-low (tables b) Q good, good .tables .vertices-few)
 
   by-room : ((theRun b Q ≡ acceptedAfter b Q ordered k) × (roomUpTo b Q ordered k .number ≡ 0)) ⊎ ((theRun b Q ≡ refusedLate b (roomUpTo b Q ordered k)) × (roomUpTo b Q ordered k .number ≢ 0))
-  unfolding answerOver
+  unfolding answerFor
   by-room = go (split (eqb (roomUpTo b Q ordered k .number) 0))
     where
       go : (eqb (roomUpTo b Q ordered k .number) 0 ≡ true) ⊎ (eqb (roomUpTo b Q ordered k .number) 0 ≡ false)
@@ -190,7 +190,7 @@ module _ (v w h : List ℕ) (hop : ℕ) (held settled : List ℕ) (Q : Query) (p
     pub no-place : theRun b Q .place ≡ 0
 
   pub run-listed : theRun b Q .refusal ≡ 0 → Listed
-  unfolding acceptedAfter refusedLate filled
+  unfolding acceptedFor lateFor filled
   run-listed z = go by-room
     where
       whole : take k ordered ≡ ordered
@@ -213,7 +213,7 @@ module _ (v w h : List ℕ) (hop : ℕ) (held settled : List ℕ) (Q : Query) (p
 
   -- a run that lacks room
   pub run-late : theRun b Q .refusal ≢ 0 → theRun b Q ≡ refusedLate b (record { number = theRun b Q .refusal; place = theRun b Q .place })
-  unfolding acceptedAfter refusedLate
+  unfolding acceptedFor lateFor
   run-late n = go by-room
     where
       go : ((theRun b Q ≡ acceptedAfter b Q ordered k) × (roomUpTo b Q ordered k .number ≡ 0)) ⊎ ((theRun b Q ≡ refusedLate b (roomUpTo b Q ordered k)) × (roomUpTo b Q ordered k .number ≢ 0))

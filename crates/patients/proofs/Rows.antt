@@ -14,7 +14,7 @@ use Rattle.journeys.specs.Query.{Query}
 use Rattle.journeys.proofs.Decoding.{vertex-count}
 use Rattle.journeys.proofs.Determined.{answer-unique}
 use Rattle.journeys.specs.Refusals.{Refusal}
-use Rattle.journeys.specs.Answers.{Lent, Answer, tables, refusedEarly, refusedLate}
+use Rattle.journeys.specs.Answers.{Lent, Answer, tables, refusedEarly, refusedLate, lateFor}
 use Rattle.journeys.specs.Marked.{words}
 use Rattle.journeys.proofs.Tests.{split, cond-true, cond-false}
 use Rattle.journeys.proofs.Cases.{tested}
@@ -53,7 +53,7 @@ runs-are r a report′ fine H = (one, from-as _ _ (r .arrivals) 0 (λ k l h. ap 
 
 -- Whatever answer the definitions allow shows that.
 pub shown-is : (r : Row) (a : Answer) (report′ : List ℕ) → EveningAllowed (r .lent) (r .query) (r .gap) (r .arrivals) (r .patients) (r .report) a report′ → view a report′ ≡ shown r
-unfolding refusedEarly refusedLate
+unfolding refusedEarly lateFor
 shown-is r a report′ E = go (split (eqb (eveningRefusal (r .lent) (r .query) (r .gap) (r .arrivals) (r .patients) (r .report) .number) 0))
   where
     b : Lent

@@ -15,7 +15,7 @@ use Rattle.journeys.specs.Order.{Settled, IsOrder}
 use Rattle.journeys.specs.Network.{distanceIn}
 use Rattle.journeys.specs.Records.{network}
 use Rattle.journeys.specs.Refusals.{Refusal, unless, orElse, firstFrom, firstBad, wholeOf, tableLengths, bufferLengths, contents, queryRefusal}
-use Rattle.journeys.specs.Answers.{Lent, Answer, tables, early, refusedEarly, Room, roomUpTo, acceptedAfter, refusedLate, answerOver, Allowed}
+use Rattle.journeys.specs.Answers.{Lent, Answer, tables, early, refusedEarly, Room, roomUpTo, acceptedAfter, refusedLate, Allowed, acceptedFor, answerFor}
 use Rattle.journeys.specs.OneRun.{OneAnswer, together, oneRunAfter}
 use Rattle.journeys.proofs.Tests.{split, cond-true}
 use Rattle.journeys.proofs.Valid.{early-valid}
@@ -54,7 +54,7 @@ module _ (v w h : List ℕ) (Q : Query) (few : length v / 12 ≤ 512) (short : l
 
   -- A job with sound tables and a sound query is answered.
   pub never-short : (a : Answer) → Allowed (roomy v w h) Q none a → early (roomy v w h) Q .number ≡ 0 → a .refusal ≡ 0
-  unfolding answerOver acceptedAfter
+  unfolding answerFor acceptedFor
   never-short a A e =
       let x = A .accepted e in
       let k = min none (length (x .0)) in

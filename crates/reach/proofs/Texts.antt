@@ -14,7 +14,7 @@ use Rattle.journeys.specs.Counting.{none}
 use Rattle.journeys.specs.Query.{Query}
 use Rattle.journeys.specs.Answers.{Answer, Allowed}
 use Rattle.journeys.specs.Lists.{settledIn}
-use Rattle.journeys.specs.PartAnswers.{PartsLent, PartsAnswer, partsEarly, partsTo, partsRoomAt, partsRoom, partsRefused, partsAccepted, partsAnswer}
+use Rattle.journeys.specs.PartAnswers.{PartsLent, PartsAnswer, partsEarly, partsTo, partsRoomAt, partsRoom, partsAnswer, partsRoomAtFor, partsRoomFor, partsRefusedFor, partsAcceptedFor, partsAnswerFor}
 use Rattle.journeys.specs.OneRun.{ownList, OneAnswer, together}
 use Rattle.journeys.proofs.Tests.{split, cond-true, and-true, le-or-lt}
 use Rattle.journeys.proofs.Refusals.{unless-fine, from-fine}
@@ -37,7 +37,7 @@ use Rattle.reach.specs.Says.{roomy, partRoom, partsOf, both, Texts, Says
 -- ---- the text of a run and of its parts
 -- an answer counts no more parts than there is room for
 parts-within : (b : PartsLent) (Q : Query) → partsAnswer b Q .partCount ≤ length (b .parts) / 12
-unfolding partsAnswer partsRoom partsRoomAt partsRefused partsAccepted
+unfolding partsAnswerFor partsRoomFor partsRoomAtFor partsRefusedFor partsAcceptedFor
 parts-within b Q = go (split (eqb (partsEarly b Q .number) 0)) (split (eqb (partsRoom b Q .number) 0))
   where
     n : ℕ

@@ -26,7 +26,7 @@ use Rattle.stretches.proofs.Numbers.{right-list}
 use Rattle.making.proofs.InOrder.{length-is}
 use Rattle.journeys.proofs.Valid.{early-valid, size-fits}
 use Rattle.journeys.specs.Valid.{Valid}
-use Rattle.journeys.proofs.Refusals.{or-fine, unless-fine, roomFor-is, roomFor-exactly, roomFor-first, ordinary-run}
+use Rattle.journeys.proofs.Refusals.{or-fine, unless-fine, roomFor-is, roomFor-exactly, roomFor-first}
 use Rattle.journeys.proofs.Told.{orderOf, order-is, order-size}
 use Rattle.worktable.specs.Map.{Map, size, rows}
 use Rattle.worktable.specs.Table.{mapOf, InOrder}
@@ -88,7 +88,7 @@ module _ (b : Lent) (Q : Query) (limit : ℕ) (passes : early b Q .number ≡ 0)
   -- What an ordinary run makes is allowed.
   pub allow : (a : answers.Answer) → AnsweredIn false (tables b) Q limit (b .held) (b .settled) a → Allowed b Q limit a
   unfolding AnsweredIn distanceFor
-  allow a x = record { refused = λ n. absurd (n passes); accepted = λ z. (x .0, x .1, x .2 ∙ sym (ordinary-run b Q (x .0) limit)) }
+  allow a x = record { refused = λ n. absurd (n passes); accepted = λ z. (x .0, x .1, x .2) }
 
 -- ---- the courier's run
 module _ (b : CourierLent) (Q : Query) (limit : ℕ) (fault : audit.Refusal) (F : told fault ≡ courierEarly b Q) where

@@ -1,7 +1,7 @@
 -- The first demand, of `siltbrow_run` itself, and what an accepted run leaves in the lent bytes. The other two demands rest on it: `VerticesInBytes`,
 -- `PlacesInBytes`, `HeldInBytes`. All is said of a call that has completed as its contract says, with an answer slice of 24 bytes (`Completed`), and each theorem says in
 -- one sentence what it means; it is the theorem of `answered` for the ordinary network. That the call ends is part of what the toolchain proves of every function. Assumes nothing.
-use mathlib.Core.Path.{_≡_, _∙_}
+use mathlib.Core.Path.{_≡_}
 use mathlib.Core.Logic.{_↔_, _≢_}
 use mathlib.Core.List.{List, flatMap}
 use Prim.Native.Nat.{ℕ, _≤_, _<_}
@@ -13,11 +13,9 @@ use Rattle.journeys.specs.Order.{Settled}
 use Rattle.journeys.specs.Network.{distanceIn, heldList}
 use Rattle.journeys.specs.Records.{network}
 use Rattle.journeys.specs.Answers.{Lent, early, refusedEarly, heldBytes, settledBytes, roomAt, Room}
-use Rattle.journeys.specs.RunAnswers.{roomFor}
 use Rattle.journeys.specs.Valid.{Valid}
 use Rattle.journeys.proofs.Valid.{early-valid}
 use Rattle.journeys.proofs.Document.{ways, told}
-use Rattle.journeys.proofs.Refusals.{ordinary-run}
 use Rattle.journeys.proofs.OrderLaws.{orderOf, order-is}
 use Rattle.answered.specs.Search.{Search}
 use Rattle.answered.proofs.Answers as answered
@@ -47,7 +45,7 @@ complete c E =
       ways = ways (read c) (c .query);
       told = λ e. told (read c) (c .query) (early-valid (c .lent) (c .query) e);
       given = x .0;
-      ruled = record { refused = x .1 .refused; accepted = λ e. let y = x .1 .accepted e in (y .0, y .1, y .2 ∙ ordinary-run (c .lent) (c .query) (y .0) (c .limit)) };
+      ruled = record { refused = x .1 .refused; accepted = x .1 .accepted };
       held-is = x .2;
       settled-is = x .3;
       answer-is = x .4;
@@ -74,7 +72,6 @@ module _ (c : Call) (E : Completed c) where
   -- buffers are zero.
   pub room-refused : early b Q .number ≡ 0 → (l : List Settled) → Orders c l → (j : ℕ) → j ≤ steps c l → ¬ Room b Q l j → ((i : ℕ) → i < j → Room b Q l i)
       → (refusal c ≡ roomAt b Q l j .number) × (place c ≡ roomAt b Q l j .place) × (c .held ≡ cleared (b .held)) × (c .settled ≡ cleared (b .settled))
-  unfolding roomAt roomFor
   room-refused = answered.room-refused (searchOf c) (complete c E)
 
   -- Sound input with room after every step made is accepted.

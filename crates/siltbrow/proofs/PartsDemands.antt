@@ -1,6 +1,6 @@
 -- The first demand, of `siltbrow_parts` itself. All is said of a call that has completed as its contract says, with an answer slice of 12 bytes
 -- (`PartsCompleted`), and each theorem says in one sentence what it means. Assumes nothing.
-use mathlib.Core.Path.{_≡_, refl, sym, ap, subst, _∙_}
+use mathlib.Core.Path.{_≡_, sym, subst}
 use mathlib.Core.Logic.{_⊎_, ⊎-elim, _↔_, _≢_}
 use mathlib.Core.List.{List, flatMap}
 use Prim.Native.Nat.{ℕ, _/_, _≤_}
@@ -8,10 +8,8 @@ use native.Mathlib.Omega.{arith}
 use lib.ListN.{length}
 use Rattle.journeys.specs.Bytes.{filled, cleared}
 use Rattle.journeys.specs.Parts.{firstParts, partsAt, partList, partBytes}
-use Rattle.journeys.specs.PartAnswers.{PartsAnswer, partsTables, partsEarly}
-use Rattle.journeys.proofs.PartAnswers.{ordinary-parts}
+use Rattle.journeys.specs.PartAnswers.{partsTables, partsEarly}
 use Rattle.covering.proofs.RefusalNumbers.{early-numbers}
-use Rattle.answered.specs.PartsOver.{partsAnswerBytes}
 use Rattle.answered.proofs.Parts as over
 use Rattle.answered.proofs.Parts.{PartsComplete, turn-grows}
 use Rattle.siltbrow.specs.PartsCall.{PartsCall, PartsCompleted, partsRefusal, partsPlace, partsCount, theParts, partsOver, Lacks}
@@ -20,10 +18,9 @@ module _ (c : PartsCall) (E : PartsCompleted c) where
   complete : PartsComplete (partsOver c)
   unfolding partList
   complete =
-      let is = ordinary-parts (c .lent) (c .query) in
       record {
-        parts-is = E .0 .answered (E .1) .1 ∙ ap (λ (x : PartsAnswer). x .parts) is;
-        answer-is = E .0 .answered (E .1) .2 ∙ ap partsAnswerBytes is;
+        parts-is = E .0 .answered (E .1) .1;
+        answer-is = E .0 .answered (E .1) .2;
         grows = turn-grows (firstParts (partsTables (c .lent)) (c .query)) (partsAt (partsTables (c .lent)) (c .query)) (c .lent .list);
         other = λ e.
             ⊎-elim (λ (h : partsEarly (c .lent) (c .query) .number ≤ 7). let z : ⊥ = omega (arith, e) in z) (λ (h : partsEarly (c .lent) (c .query) .number ≡ 21). let z : ⊥ = omega (arith, e) in z)

@@ -19,8 +19,8 @@ use Rattle.journeys.specs.Records.{network}
 use Rattle.journeys.specs.Parts.{Part, partBytes, partList}
 use Rattle.journeys.specs.Refusals.{Refusal, unless, chain, firstFrom, orElse, tableLengths, bufferLengths, contents, queryRefusal, check}
 use Rattle.journeys.specs.Lists.{listRefusal, settledIn}
-use Rattle.journeys.specs.Answers.{Lent, Answer, tables, early, refusedEarly, roomAt, roomUpTo, acceptedAfter, answerOver, Allowed}
-use Rattle.journeys.specs.PartAnswers.{PartsLent, PartsAnswer, partsTables, listLengths, partsEarly, partsRoomAt, partsRoom, partsRefused, partsAccepted, partsAnswer}
+use Rattle.journeys.specs.Answers.{Lent, Answer, tables, early, refusedEarly, answerOver, Allowed, roomFor, roomUpToFor, acceptedFor, answerFor}
+use Rattle.journeys.specs.PartAnswers.{PartsLent, PartsAnswer, partsTables, listLengths, partsEarly, partsRefused, partsAnswer, partsRoomAtFor, partsRoomFor, partsAcceptedFor, partsAnswerFor}
 use Rattle.journeys.proofs.Tests.{le-or-lt}
 use Rattle.journeys.proofs.Counting.{joined-same}
 use Rattle.journeys.proofs.Decoding.{walk-count, walk-at}
@@ -68,7 +68,7 @@ module _ (size : ℕ) (v w h : List ℕ) (none-waits : NoWaits w) where
 
 -- ---- the run
 answer-over : (b : Lent) (Q : Query) (l : List Settled) (limit : ℕ) → answerOver b Q l limit ≡ answeredOver b (network (tables b) Q) l limit
-unfolding answerOver answeredOver roomUpTo roomAt acceptedAfter roomOver acceptedOver
+unfolding answerFor answeredOver roomUpToFor roomFor acceptedFor roomOver acceptedOver
 answer-over b Q l limit = refl
 
 module _ (b : Lent) (Q : Query) (none-waits : NoWaits (b .walks)) where
@@ -140,7 +140,7 @@ module _ (b : PartsLent) (Q : Query) (none-waits : NoWaits (b .walks)) where
 
   -- The parts operation answers as before, in every byte.
   pub parts-answer-same : partsAnswer b Q ≡ partsAnswerBefore b Q
-  unfolding partsAnswer partsRoom partsRoomAt partsAccepted partsAnswerBefore partsRoomBefore
+  unfolding partsAnswerFor partsRoomFor partsRoomAtFor partsAcceptedFor partsAnswerBefore partsRoomBefore
   parts-answer-same =
       ap₂ (answered b Q) parts-early-same
       (ap (λ (K : Tables). partList K Q) parts-whole ∙ fun-ext (parts-same M (tables-waitless (b .hopSize) (b .vertices) (b .walks) (b .hops) none-waits) Q))
