@@ -98,15 +98,15 @@ module _ (s : List ℕ) (k x v : ℕ) (long : length s ≡ 2048) (low : k < 512)
   waited-long = simp length-set long
 
 -- the answer by its cases
-module _ (F : ℕ → ℕ) (n v low at end : ℕ) (list s : List ℕ) (k : ℕ) (s′ : List ℕ) where
-  pub wrong-is : WaitingIs F n v low at end list s k s′ Wrong
+module _ (size : ℕ) (w h : List ℕ) (v at end : ℕ) (list s : List ℕ) (k : ℕ) (s′ : List ℕ) where
+  pub wrong-is : WaitingIs size w h v at end list s k s′ Wrong
   unfolding WaitingIs
   wrong-is = tt
 
-  pub many-is : (k′ : ℕ) → Waits F n v low at end list s k s′ k′ → WaitingIs F n v low at end list s k s′ (Many k′)
+  pub many-is : (k′ : ℕ) → Waits size w h v at end list s k s′ k′ → WaitingIs size w h v at end list s k s′ (Many k′)
   unfolding WaitingIs
-  many-is k′ w = w
+  many-is k′ a = a
 
-  pub is-many : (r : Waiting) (k′ : ℕ) → r ≡ Many k′ → WaitingIs F n v low at end list s k s′ r → Waits F n v low at end list s k s′ k′
+  pub is-many : (r : Waiting) (k′ : ℕ) → r ≡ Many k′ → WaitingIs size w h v at end list s k s′ r → Waits size w h v at end list s k s′ k′
   unfolding WaitingIs
-  is-many r k′ e w = subst (WaitingIs F n v low at end list s k s′) e w
+  is-many r k′ e a = subst (WaitingIs size w h v at end list s k s′) e a

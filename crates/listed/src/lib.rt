@@ -26,10 +26,10 @@ const VERTEX_SIZE: usize = 12;
 
 const WALK_SIZE: usize = 16;
 
-// So many numbers may wait in the scratch, four words for each.
+// So many hops may wait in the scratch, four words for each.
 const PLACES: usize = 512;
 
-// How many numbers wait, or that one is wrong.
+// How many hops wait, or that a number is wrong.
 enum Waiting {
     Many(usize),
     Wrong,
@@ -171,7 +171,7 @@ fn wide(x: u16) -> usize
     x as usize
 }
 
-// Number x waits in place k, as one that has to leave v.
+// Hop x waits in place k, as one that has to leave v.
 fn wait(scratch: &mut [u16], k: usize, x: usize, v: usize)
     requires { ⌜ (length (now scratch) ≡ 2048) × (k < 512) × (x < 524288) × (v < 65536) ⌝ }
     ensures { λ _. ⌜ now (scratch .exit) ≡ waited (now (scratch .entry)) k x v ⌝ }
@@ -181,19 +181,19 @@ fn wait(scratch: &mut [u16], k: usize, x: usize, v: usize)
     scratch[4 * k + 2] = v as u16;
 }
 
-// Whether each of the k numbers that wait leaves its vertex. Their records stand all over the tables: read one right behind the other they are waited for at once.
-fn all_leave(walks: &[u8], hops: &[u8], hop_size: usize, scratch: &[u16], k: usize) -> bool
-    requires { ⌜ (4 ≤ «hop_size») × (total «hop_size» (now walks) (now hops) ≤ 524288) × (k ≤ 512) × (length (now scratch) ≡ 2048) ⌝ }
-    ensures { λ r. ⌜ (r ≡ true → Leave (fromOf «hop_size» (now (walks .entry)) (now (hops .entry))) (now (scratch .entry)) k) ⌝ }
+// Whether each of the k hops that wait leaves its vertex. They stand all over the table: read one right behind the other they are waited for at once.
+fn all_leave(hops: &[u8], hop_size: usize, scratch: &[u16], k: usize) -> bool
+    requires { ⌜ (4 ≤ «hop_size») × (k ≤ 512) × (length (now scratch) ≡ 2048) ⌝ }
+    ensures { λ r. ⌜ (r ≡ true → Leave (fromAt «hop_size» (now (hops .entry))) (now (scratch .entry)) k) ⌝ }
 {
-    let n = walks.len() / WALK_SIZE + hops.len() / hop_size;
+    let n = hops.len() / hop_size;
     let mut j = 0;
     while j < k {
         let x = wide(scratch[4 * j]) + 65536 * wide(scratch[4 * j + 1]);
         if n <= x {
             return false;
         }
-        if from_of(walks, hops, hop_size, x) as usize != wide(scratch[4 * j + 2]) {
+        if from_at(hops, hop_size, x) as usize != wide(scratch[4 * j + 2]) {
             return false;
         }
         j += 1;
@@ -201,39 +201,39 @@ fn all_leave(walks: &[u8], hops: &[u8], hop_size: usize, scratch: &[u16], k: usi
     true
 }
 
-// A free place behind the k numbers that wait; where there is none they are looked at, and have to leave.
-fn free_place(walks: &[u8], hops: &[u8], hop_size: usize, scratch: &[u16], k: usize) -> usize
-    requires { ⌜ (4 ≤ «hop_size») × (total «hop_size» (now walks) (now hops) ≤ 524288) × (k ≤ 512) × (length (now scratch) ≡ 2048) ⌝ }
-    ensures { λ r. ⌜ (r < 512 → Leave (fromOf «hop_size» (now (walks .entry)) (now (hops .entry))) (now (scratch .entry)) r → Leave (fromOf «hop_size» (now (walks .entry)) (now (hops .entry))) (now (scratch .entry)) k) ⌝ }
+// A free place behind the k hops that wait; where there is none they are looked at, and have to leave.
+fn free_place(hops: &[u8], hop_size: usize, scratch: &[u16], k: usize) -> usize
+    requires { ⌜ (4 ≤ «hop_size») × (k ≤ 512) × (length (now scratch) ≡ 2048) ⌝ }
+    ensures { λ r. ⌜ (r < 512 → Leave (fromAt «hop_size» (now (hops .entry))) (now (scratch .entry)) r → Leave (fromAt «hop_size» (now (hops .entry))) (now (scratch .entry)) k) ⌝ }
 {
     if k < PLACES {
         return k;
     }
-    if all_leave(walks, hops, hop_size, scratch, k) {
+    if all_leave(hops, hop_size, scratch, k) {
         return 0;
     }
     PLACES
 }
 
-// The numbers from `at` up to `end` rise from `low` on. That they leave v is looked at later: they wait behind the k that wait already.
-fn rest_waits(
+// The numbers from `at` up to `end` are those of hops, and rise. That they leave v is looked at later: they wait behind the k that wait already.
+fn hops_wait(
     walks: &[u8],
     hops: &[u8],
     hop_size: usize,
     list: &[u8],
     v: usize,
-    low: usize,
     at: usize,
     end: usize,
     scratch: &mut [u16],
     k: usize,
 ) -> Waiting
     requires { ⌜ (4 ≤ «hop_size») × (total «hop_size» (now walks) (now hops) ≤ 524288) × (length (now list) ≡ 4 * total «hop_size» (now walks) (now hops)) × (at ≤ end) × (end ≤ total «hop_size» (now walks) (now hops)) × (v < 65536) × (k ≤ 512) × (length (now scratch) ≡ 2048) ⌝ }
-    ensures { λ r. ⌜ WaitingIs (fromOf «hop_size» (now (walks .entry)) (now (hops .entry))) (total «hop_size» (now (walks .entry)) (now (hops .entry))) v low at end (now (list .entry)) (now (scratch .entry)) k (now (scratch .exit)) r ⌝ }
+    ensures { λ r. ⌜ WaitingIs «hop_size» (now (walks .entry)) (now (hops .entry)) v at end (now (list .entry)) (now (scratch .entry)) k (now (scratch .exit)) r ⌝ }
 {
     let n = list.len() / 4;
+    let ways = walks.len() / WALK_SIZE;
     let mut many = k;
-    let mut least = low;
+    let mut least = ways;
     let mut i = at;
     while i < end {
         let x = word_at(list, 4 * i) as usize;
@@ -243,11 +243,11 @@ fn rest_waits(
         if n <= x {
             return Waiting::Wrong;
         }
-        let place = free_place(walks, hops, hop_size, scratch, many);
+        let place = free_place(hops, hop_size, scratch, many);
         if PLACES <= place {
             return Waiting::Wrong;
         }
-        wait(scratch, place, x, v);
+        wait(scratch, place, x - ways, v);
         many = place + 1;
         least = x + 1;
         i += 1;
@@ -269,7 +269,6 @@ pub fn sure(
 {
     let n = vertices.len() / VERTEX_SIZE;
     let many = list.len() / 4;
-    let ways = walks.len() / WALK_SIZE;
     let mut k = 0;
     let mut first = 0;
     let mut v = 0;
@@ -279,25 +278,15 @@ pub fn sure(
             return false;
         }
         let middle = walks_rise(walks, list, v as u32, first, end);
-        let Waiting::Many(more) = rest_waits(
-            walks,
-            hops,
-            hop_size,
-            list,
-            v,
-            ways,
-            middle,
-            end,
-            scratch,
-            k,
-        ) else {
+        let Waiting::Many(more) = hops_wait(walks, hops, hop_size, list, v, middle, end, scratch, k)
+        else {
             return false;
         };
         k = more;
         first = end;
         v += 1;
     }
-    if !all_leave(walks, hops, hop_size, scratch, k) {
+    if !all_leave(hops, hop_size, scratch, k) {
         return false;
     }
     first == many

@@ -21,12 +21,12 @@ use Rattle.listed.proofs.sure.Statement.{statement}
 use Rattle.listed.proofs.sure.Tie as tie
 
 abbrev Inv-loop : tie.InvT-loop
-Inv-loop vertices walks hops hop-size list scratch₀ n many ways k₀ first₀ v₀ scratch k first v =
+Inv-loop vertices walks hops hop-size list scratch₀ n many k₀ first₀ v₀ scratch k first v =
     (v ≤ n) × (first ≤ many) × (first ≡ sums vertices v) × (k ≤ 512) × (length scratch ≡ 2048)
-    × (Leave (fromOf hop-size walks hops) scratch k → Climbed (fromOf hop-size walks hops) (total hop-size walks hops) vertices list v)
+    × (Leave (fromAt hop-size hops) scratch k → Climbed (fromOf hop-size walks hops) (total hop-size walks hops) vertices list v)
 
 abbrev μ-loop : tie.MeasureT-loop
-μ-loop vertices walks hops hop-size list scratch₀ n many ways k₀ first₀ v₀ scratch k first v = n - v
+μ-loop vertices walks hops hop-size list scratch₀ n many k₀ first₀ v₀ scratch k first v = n - v
 
 loop-holds : tie.Need-loop-holds Inv-loop μ-loop
 loop-holds c = let s = c .before .before .before .before .before in (omega arith, omega arith, sym (sums-zero (s .args .vertices .now)), omega arith, s .pre .4, λ all u l. absurd (omega arith))
@@ -49,8 +49,8 @@ walks-rise-requires c κs =
     let p = c .before .before .before .before .before .before .before .before .before .pre in
     (omega arith, c .if1 .left, omega (arith, p .2, p .3, c .if1 .left), omega (arith, p .2))
 
-rest-waits-requires : tie.Need-rest-waits-requires Inv-loop μ-loop
-rest-waits-requires c κs =
+hops-wait-requires : tie.Need-hops-wait-requires Inv-loop μ-loop
+hops-wait-requires c κs =
     let w = c .before in
     let L = w .before .before .before .before in
     let p = L .before .before .before .before .before .before .pre in
@@ -75,7 +75,7 @@ loop-again c =
     let n = total (a .hop-size) (a .walks .now) (a .hops .now) in
     let v = L .loop .v in
     let list = a .list .now in
-    let waits = is-many F n v (recordsIn 16 (a .walks .now)) (w .walks-rise .result) (L .loop .first + d .departing-of .result) list (L .loop .scratch) (L .loop .k) _ _ _ (c .before .more .given .1) (r .rest-waits .ensures) in
+    let waits = is-many (a .hop-size) (a .walks .now) (a .hops .now) v (w .walks-rise .result) (L .loop .first + d .departing-of .result) list (L .loop .scratch) (L .loop .k) _ _ _ (c .before .more .given .1) (r .hops-wait .ensures) in
     let walks : Rising F n v (L .loop .first) (w .walks-rise .result) (recordsIn 16 (a .walks .now)) list =
     rising-among (fromAt 16 (a .walks .now)) F (recordsIn 16 (a .walks .now)) (λ x l. of-walk (a .hop-size) (a .walks .now) (a .walks .now) (a .hops .now) x l) v (omega arith) (w .walks-rise .ensures .2) in (
       omega (arith, d .before .loop-test .taken),
@@ -90,7 +90,7 @@ all-leave-requires : tie.Need-all-leave-requires Inv-loop μ-loop
 all-leave-requires c κs =
     let L = c .before .before in
     let p = L .before .before .before .before .before .before .pre in
-    (p .0, p .2, L .loop .inv .3, L .loop .inv .4)
+    (p .0, L .loop .inv .3, L .loop .inv .4)
 
 returns-4 : tie.Need-returns-4 Inv-loop μ-loop
 returns-4 c =
@@ -120,7 +120,7 @@ sure-spec =
     (λ c z. never z refl)
     cast-walks-rise
     walks-rise-requires
-    rest-waits-requires
+    hops-wait-requires
     (λ c. search needs)
     (λ c. search needs)
     (λ c. c .before .before .before .scratch .given ∙ long (c .before .before .before .before .before .before .before .before .before .before))
