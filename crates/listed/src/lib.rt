@@ -1,7 +1,8 @@
 // The list of record numbers by "from", judged: refusal 22.
 // Promises: the first place that differs from the right list, or none; the list and the tables are only read.
-// Rests on: where records leave (`listing`) and how many (`starts`), numbers in bytes and refusals (`words`).
+// Rests on: where records leave (`listing`, `records`) and how many (`starts`), numbers in bytes and refusals (`words`). It has no array of its own.
 use listing::from_of;
+use records::WALK_SIZE;
 use records::from_at;
 use starts::departing_of;
 use words::Refusal;
@@ -23,8 +24,6 @@ ghost use Rattle.listed.specs.Stretches.{Upto, Rising, Risen, Sure};
 ghost use Rattle.listed.specs.Waiting.{Leave, waited, WaitingIs};
 
 const VERTEX_SIZE: usize = 12;
-
-const WALK_SIZE: usize = 16;
 
 // So many hops may wait in the scratch, four words for each.
 const PLACES: usize = 512;
