@@ -3,13 +3,13 @@
 // Rests on: the row of `directed`, one look at an entry by `worktable`.
 ghost use mathlib.Core.Path.{_≡_};
 ghost use mathlib.Core.Bool.{false, not};
-ghost use Prim.Native.Nat.{_+_, _-_, _/_, _<_, _≤_, max};
+ghost use Prim.Native.Nat.{_-_, _/_, _<_, _≤_};
 ghost use lib.ListN.{length};
 ghost use Rattle.journeys.specs.Counting.{one};
 ghost use Rattle.worktable.specs.Map.{absent, known, distanceLimit, Figure, put, swept, size};
 ghost use Rattle.worktable.specs.Table.{mapOf, InOrder, PassedIs};
 ghost use Rattle.passing.specs.Row.{passes};
-ghost use Rattle.directed.specs.Directed.{dueOf, rowIn, Numbered, Passable, Near};
+ghost use Rattle.directed.specs.Directed.{dueOf, rowIn, Passable, Near};
 ghost use Rattle.meeting.specs.Passing.{entered, met, futile, comers, left, Spacious, Ready};
 ghost use Rattle.meeting.specs.Answer.{Leads, AllMet};
 use directed::Directed;
@@ -17,6 +17,7 @@ use directed::brings_at;
 use directed::due_at;
 use directed::near_at;
 use words::Ticks;
+use words::lesser;
 use worktable::Passed;
 use worktable::Table;
 use worktable::drop;
@@ -108,54 +109,8 @@ pub fn most_comers(vertices: &[u8], walks: &[u8], hops: &[u8], list: &[u8], row:
     come
 }
 
-fn higher(a: usize, b: usize) -> usize
-    ensures { λ r. ⌜ r ≡ max a b ⌝ }
-{
-    if a < b { b } else { a }
-}
-
-// The highest vertex at the other end of a record.
-fn highest(vertices: &[u8], walks: &[u8], hops: &[u8], list: &[u8], row: Directed) -> usize
-    requires { ⌜ Numbered (now walks) (now hops) (now list) row × Near (now vertices) (now walks) (now hops) (now list) row ⌝ }
-    ensures { λ r. ⌜ r ≤ length (now (vertices .entry)) / 12 ⌝ }
-{
-    let n = row.arriving.walks + row.arriving.hops;
-    let mut most = 0;
-    let mut i = 0;
-    while i < n {
-        most = higher(most, near_at(walks, hops, list, row, i));
-        i += 1;
-    }
-    most
-}
-
-// All records, one after the other. A vertex that is dropped has no further record in the row.
-fn meet_each(
-    held: &mut [u8],
-    t: Table,
-    vertices: &[u8],
-    walks: &[u8],
-    hops: &[u8],
-    list: &[u8],
-    row: Directed,
-) -> Table
-    requires { ⌜ Ready (now vertices) (now walks) (now hops) (now list) row t (now held) × Spacious (rowIn (now vertices) (now walks) (now hops) (now list) row) (passes (row .arriving)) (t .room) (mapOf t (now held)) ⌝ }
-    ensures { λ r. ⌜ AllMet (now (vertices .entry)) (now (walks .entry)) (now (hops .entry)) (now (list .entry)) row t (now (held .entry)) (now (held .exit)) r ⌝ }
-{
-    let n = row.arriving.walks + row.arriving.hops;
-    let mut table = t;
-    let mut j = 0;
-    while j < n {
-        let u = near_at(walks, hops, list, row, j);
-        let offer = brings_at(walks, hops, list, row, j);
-        table = meet(held, table, vertices, row, u, offer);
-        j += 1;
-    }
-    table
-}
-
-// The same for whoever calls. The courier's records stand all over the tables: a pass that does nothing but read them waits for all of them at once, and the pass that follows finds
-// them at hand. No vertex is above those of the table, so nothing else comes of it.
+// All records, one after the other. A vertex that is dropped has no further record in the row. The vertices of the next two records are read before this one is met: what is done to the table turns on
+// its bytes, so that nothing behind it is begun early, and the courier's records stand all over the tables.
 pub fn meet_all(
     held: &mut [u8],
     t: Table,
@@ -168,10 +123,21 @@ pub fn meet_all(
     requires { ⌜ Ready (now vertices) (now walks) (now hops) (now list) row t (now held) × Spacious (rowIn (now vertices) (now walks) (now hops) (now list) row) (passes (row .arriving)) (t .room) (mapOf t (now held)) ⌝ }
     ensures { λ r. ⌜ AllMet (now (vertices .entry)) (now (walks .entry)) (now (hops .entry)) (now (list .entry)) row t (now (held .entry)) (now (held .exit)) r ⌝ }
 {
-    if row.courier {
-        if vertices.len() / 12 < highest(vertices, walks, hops, list, row) {
-            return t;
-        }
+    let n = row.arriving.walks + row.arriving.hops;
+    if n < 1 {
+        return t;
     }
-    meet_each(held, t, vertices, walks, hops, list, row)
+    let mut table = t;
+    let mut u = near_at(walks, hops, list, row, 0);
+    let mut next = near_at(walks, hops, list, row, lesser(1, n - 1));
+    let mut j = 0;
+    while j < n {
+        let later = near_at(walks, hops, list, row, lesser(j + 2, n - 1));
+        let offer = brings_at(walks, hops, list, row, j);
+        table = meet(held, table, vertices, row, u, offer);
+        u = next;
+        next = later;
+        j += 1;
+    }
+    table
 }
