@@ -19,7 +19,7 @@ use Rattle.journeys.proofs.Tests.{le-or-lt}
 use Rattle.records.specs.Columns.{recordsIn}
 use Rattle.listing.specs.Places.{total, fromOf, below, same}
 use Rattle.listing.proofs.PlaceLaws.{below-next, below-most, same-grows}
-use Rattle.stretches.specs.Stretch.{stretchOf}
+use Rattle.stretches.specs.Stretch.{walksOf}
 use Rattle.stretches.specs.declared.Stretch.{Stretch}
 use Rattle.stretches.proofs.Numbers.{stretch-walks}
 use Rattle.parts.proofs.Laws.{behind-none, behind-more, over-more, listed-as, listed-length}
@@ -46,8 +46,8 @@ module _ (v w list : List ℕ) (allowed i x : ℕ) (s : Sound v w list allowed i
   unfolding entryOn
   entry-listed road first end d count b b′ r q f g l = rw (q, first-is first f, end-is end g) at l
 
--- the same for the courier: u is the vertex of the entry, s its stretch
-module _ (size : ℕ) (v w h r list : List ℕ) (ok : Leaving size v w h r) (i u : ℕ) (s : Stretch) (e : s ≡ stretchOf size w h u) where
+-- the same for the courier: u is the vertex of the entry, s the stretch of its walks
+module _ (size : ℕ) (v w h r list : List ℕ) (ok : Leaving size v w h r) (i u : ℕ) (s : Stretch) (e : s ≡ walksOf size w h u) where
   abbrev F : ℕ → ℕ
   F = fromOf size w h
 
@@ -57,13 +57,13 @@ module _ (size : ℕ) (v w h r list : List ℕ) (ok : Leaving size v w h r) (i u
   begins : s .first ≡ below (fromOf size w h) u (total size w h)
   begins = ap (λ (x : Stretch). x .first) e
 
-  many : s .walks ≡ same (fromOf size w h) u (recordsIn 16 w)
-  many = ap (λ (x : Stretch). x .walks) e
+  many : s .many ≡ same (fromOf size w h) u (recordsIn 16 w)
+  many = ap (λ (x : Stretch). x .many) e
 
-  pub stretch-in : s .first + s .walks ≤ total size w h
+  pub stretch-in : s .first + s .many ≤ total size w h
   stretch-in = omega (arith, begins, many, same-grows F u (recordsIn 16 w) n (omega arith), below-next F u n, below-most F (suc u) n)
 
-  pub stretch-fits : (s .first ≤ s .first + s .walks) × (s .first + s .walks ≤ length r / 4) × ((j : ℕ) → s .first ≤ j → j < s .first + s .walks → be32 r (4 * j) < length w / 16)
+  pub stretch-fits : (s .first ≤ s .first + s .many) × (s .first + s .many ≤ length r / 4) × ((j : ℕ) → s .first ≤ j → j < s .first + s .many → be32 r (4 * j) < length w / 16)
   stretch-fits = (
     omega arith,
     omega (arith, stretch-in, ok .long),
@@ -73,14 +73,14 @@ module _ (size : ℕ) (v w h r list : List ℕ) (ok : Leaving size v w h r) (i u
   )
 
   pub ahead-listed : (road : Road) (allowed d count : ℕ) (b b′ : List ℕ) (x : Listed) → u ≡ be32 list (8 * i) → d ≡ be32 list (8 * i + 4)
-      → ListedIs count (aheadsOn w road (allowed - d) r (s .first) (s .first + s .walks - s .first)) b b′ x → ListedIs count (entryAhead size w h r list road allowed i) b b′ x
+      → ListedIs count (aheadsOn w road (allowed - d) r (s .first) (s .first + s .many - s .first)) b b′ x → ListedIs count (entryAhead size w h r list road allowed i) b b′ x
   unfolding entryAhead
   ahead-listed road allowed d count b b′ x p q l =
-      let z : s .first + s .walks - s .first ≡ s .walks = omega arith in
+      let z : s .first + s .many - s .first ≡ s .many = omega arith in
       listed-as count _ _ b b′ x
       (ap (aheadsOn w road (allowed - d) r (s .first)) z
-      ∙ ap (λ (y : ℕ). aheadsOn w road (allowed - y) r (s .first) (s .walks)) q
-      ∙ ap (λ (y : Stretch). aheadsOn w road (allowed - be32 list (8 * i + 4)) r (y .first) (y .walks)) (e ∙ ap (stretchOf size w h) p)) l
+      ∙ ap (λ (y : ℕ). aheadsOn w road (allowed - y) r (s .first) (s .many)) q
+      ∙ ap (λ (y : Stretch). aheadsOn w road (allowed - be32 list (8 * i + 4)) r (y .first) (y .many)) (e ∙ ap (walksOf size w h) p)) l
 
 pub over-same : (count : ℕ) (ps : List Part) (b b′ : List ℕ) → ListedIs count ps b b′ NoRoom → length b′ ≡ length b
 unfolding ListedIs

@@ -19,7 +19,7 @@ use Rattle.records.specs.Arriving.{firstOf, endOf}
 use Rattle.records.specs.declared.Kind.the-variants.{Walks}
 use Rattle.listing.specs.Places as listing
 use Rattle.listing.specs.Places.{total, fromOf}
-use Rattle.stretches.specs.Stretch.{Right, stretchOf}
+use Rattle.stretches.specs.Stretch.{Right, walksOf}
 use Rattle.parts.specs.Listing.{firstOn, partsOn, firstAhead, aheadsOn, Behind}
 use Rattle.parts.specs.declared.Road.{Road}
 use Rattle.covering.specs.declared.Covered.{Covered}
@@ -47,7 +47,7 @@ module _ (v w list : List ℕ) where
 -- the courier's parts of entry i: of the walks that leave its vertex, whose numbers stand in the list r of records by "from"
 unfoldable pub entryAhead : ℕ → List ℕ → List ℕ → List ℕ → List ℕ → Road → ℕ → ℕ → List Part
 entryAhead size w h r list e allowed i =
-    let s = stretchOf size w h (vertexIn 8 list i) in aheadsOn w e (allowed - distanceAt 8 list i) r (s .first) (s .walks)
+    let s = walksOf size w h (vertexIn 8 list i) in aheadsOn w e (allowed - distanceAt 8 list i) r (s .first) (s .many)
 
 -- ---- in either direction
 unfoldable pub firstIn : Bool → Road → ℕ → List Part

@@ -80,9 +80,9 @@ fn list_entry_ahead(
 {
     let vertex = word_at(list, 8 * i);
     let left = Ticks(allowed.0 - word_at(list, 8 * i + 4));
-    let s = stretches::find(vertices, walks, hops, hop_size, records, vertex, 0);
+    let s = stretches::walks_of(vertices, walks, hops, hop_size, records, vertex);
     let first = s.first;
-    let end = first + s.walks;
+    let end = first + s.many;
     parts::list_departing(parts, count, walks, records, first, end, road, left)
 }
 

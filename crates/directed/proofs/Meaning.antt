@@ -40,17 +40,17 @@ module _ (v w h l : List ℕ) (a : Directed) where
     unfolding listedOf
     listed-is =
         ⊎-elim
-        (λ (k : a .arriving .walks ≤ j).
-        let e : walkCount N + (numberOf l j - a .ways) ≡ numberOf l j = omega (arith, walk-count (a .arriving .size) v w h, all, on .behind j k low) in
-        cond-false _ _ (le-ltb j (a .arriving .walks) k)
-        ∙ ap ridden (sym (hop-at (a .arriving .size) v w h (numberOf l j - a .ways) (on .hops j k low)))
+        (λ (k : a .ways ≤ numberOf l j).
+        let e : walkCount N + (numberOf l j - a .ways) ≡ numberOf l j = omega (arith, walk-count (a .arriving .size) v w h, all) in
+        cond-false _ _ (le-ltb (numberOf l j) (a .ways) k)
+        ∙ ap ridden (sym (hop-at (a .arriving .size) v w h (numberOf l j - a .ways) (on .hops j low k)))
         ∙ sym (hop-record N (numberOf l j - a .ways))
         ∙ ap (recordAt N) e)
-        (λ (k : j < a .arriving .walks).
-        cond-true _ _ (lt-ltb j (a .arriving .walks) k)
-        ∙ ap walked (sym (walk-at (a .arriving .size) v w h (numberOf l j) (on .walks j k)))
-        ∙ sym (walk-record N (numberOf l j) (omega (arith, walk-count (a .arriving .size) v w h, on .walks j k))))
-        (le-or-lt (a .arriving .walks) j)
+        (λ (k : numberOf l j < a .ways).
+        cond-true _ _ (lt-ltb (numberOf l j) (a .ways) k)
+        ∙ ap walked (sym (walk-at (a .arriving .size) v w h (numberOf l j) (omega (arith, all))))
+        ∙ sym (walk-record N (numberOf l j) (omega (arith, walk-count (a .arriving .size) v w h, all))))
+        (le-or-lt (a .ways) (numberOf l j))
 
     -- so it leads to where the courier's network has it lead, whatever is asked
     pub courier-near : (Q : Query) → a .courier ≡ true → nearOf w h l a j ≡ courier.network N Q .from (numberOf l j)

@@ -1,4 +1,4 @@
--- A row in either direction. The courier's: the records that leave a vertex, by a stretch of the list of record numbers, 4 bytes each; the walks, and then the hops. Assumes nothing.
+-- A row in either direction. The courier's: the records that leave a vertex, by a stretch of the list of record numbers, 4 bytes each; those below the number of walks are walks, the others hops. Assumes nothing.
 use mathlib.Core.Path.{_≡_}
 use mathlib.Core.Bool.{true, false, cond}
 use mathlib.Core.List.{List}
@@ -22,7 +22,7 @@ abbrev pub numberOf : List ℕ → ℕ → ℕ
 numberOf l j = be32 l (4 * j)
 
 unfoldable pub listedOf : List ℕ → List ℕ → List ℕ → Directed → ℕ → Record
-listedOf w h l a j = cond (ltb j (a .arriving .walks)) (walked (walkAt w (numberOf l j))) (ridden (hopAt (a .arriving .size) h (numberOf l j - a .ways)))
+listedOf w h l a j = cond (ltb (numberOf l j) (a .ways)) (walked (walkAt w (numberOf l j))) (ridden (hopAt (a .arriving .size) h (numberOf l j - a .ways)))
 
 abbrev pub listedTo : List ℕ → List ℕ → List ℕ → Directed → ℕ → ℕ
 listedTo w h l a j = records.to (listedOf w h l a j)
@@ -51,15 +51,14 @@ rowIn v w h l a = record { allowed = a .arriving .allowed .0; from = nearOf w h 
 -- the stretch has a number for each record, which is that of a walk or of a hop
 pub record Listed (w h l : List ℕ) (a : Directed) : Type 0 where
   pub list : passes (a .arriving) ≤ length l / 4
-  pub walks : (j : ℕ) → j < a .arriving .walks → numberOf l j < length w / 16
-  pub behind : (j : ℕ) → a .arriving .walks ≤ j → j < passes (a .arriving) → a .ways ≤ numberOf l j
-  pub hops : (j : ℕ) → a .arriving .walks ≤ j → j < passes (a .arriving) → numberOf l j - a .ways < length h / a .arriving .size
+  pub walks : a .ways ≤ length w / 16
+  pub hops : (j : ℕ) → j < passes (a .arriving) → a .ways ≤ numberOf l j → numberOf l j - a .ways < length h / a .arriving .size
   pub fits : 16 ≤ a .arriving .size
 
 -- what the courier's row has to be: as `Sound`
 pub record ListedSound (w h l : List ℕ) (a : Directed) : Type 0 where
   pub listed : Listed w h l a
-  pub times : (j : ℕ) → a .arriving .walks ≤ j → j < passes (a .arriving) → Rides (a .arriving .size) h (numberOf l j - a .ways)
+  pub times : (j : ℕ) → j < passes (a .arriving) → a .ways ≤ numberOf l j → Rides (a .arriving .size) h (numberOf l j - a .ways)
   pub distance : a .arriving .distance .0 ≤ 8640000
   pub arrival : DayTime (clocked (a .arriving .arrival .0))
   pub speed : a .arriving .speed ≤ 100

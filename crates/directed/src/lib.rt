@@ -30,7 +30,7 @@ use words::ticks_before;
 use words::word_at;
 
 // A row with its direction. The courier's has the walks and hops that leave the vertex, its arrival is the departure, and its records are those of the whole tables that a stretch of the list numbers, 4 bytes each:
-// `ways` walks come before the hops, of which there are `rides`. No other row asks for these two.
+// there are `ways` walks, whose numbers come before those of the hops, and `rides` hops. No other row asks for these two. A number tells by itself which of both it is, so the courier's row counts its records together, as `arriving.walks`, and its `arriving.hops` is 0.
 pub struct Directed {
     pub arriving: Arriving,
     pub courier: bool,
@@ -75,7 +75,7 @@ fn to_listed(walks: &[u8], hops: &[u8], list: &[u8], row: Directed, j: usize) ->
     ensures { λ r. ⌜ r ≡ listedTo (now (walks .entry)) (now (hops .entry)) (now (list .entry)) row j ⌝ }
 {
     let r = number_at(list, j);
-    if j < row.arriving.walks {
+    if r < row.ways {
         return word_at(walks, 16 * r + 4) as usize;
     }
     records::to_at(hops, row.arriving.size, r - row.ways) as usize
@@ -88,7 +88,7 @@ fn offer_listed(walks: &[u8], hops: &[u8], list: &[u8], row: Directed, j: usize)
 {
     let r = number_at(list, j);
     let distance = row.arriving.distance;
-    if j < row.arriving.walks {
+    if r < row.ways {
         let way = walk_ticks(word_at(walks, 16 * r + 8), row.arriving.speed);
         let sum = distance.0 + way.0;
         return Ticks(sum);

@@ -25,16 +25,15 @@ use Rattle.journeys.proofs.CourierDocument as sent
 use Rattle.journeys.proofs.CourierFits.{offer-fits, arriving-stretch}
 use Rattle.journeys.proofs.Held.{departs}
 use Rattle.records.specs.Arriving.{firstOf, endOf, run}
-use Rattle.records.specs.Columns.{recordsIn}
 use Rattle.records.specs.declared.Kind.the-variants.{Walks, Hops}
 use Rattle.words.specs.Quantities.{DayTime}
 use Rattle.words.specs.declared.Seconds.{Seconds}
 use Rattle.listing.specs.Places.{total, fromOf, below, same, rank}
-use Rattle.listing.proofs.PlaceLaws.{same-grows, same-before, below-next, below-most}
+use Rattle.listing.proofs.PlaceLaws.{same-before, below-next, below-most}
 use Rattle.listing.proofs.Froms.{total-is, from-is}
 use Rattle.stretches.specs.Stretch.{Right, stretchOf}
 use Rattle.stretches.specs.declared.Stretch.{Stretch}
-use Rattle.stretches.proofs.Numbers.{stretch-low, stretch-from, stretch-rises, stretch-walks, stretch-hops}
+use Rattle.stretches.proofs.Numbers.{stretch-low, stretch-from, stretch-rises}
 use Rattle.passing.specs.Row.{Row, asking, passes, Rides}
 use Rattle.passing.specs.declared.Arriving.{Arriving}
 use Rattle.directed.specs.Directed.{numberOf, arriveAt, rowIn, Listed, ListedSound, Near}
@@ -107,8 +106,8 @@ module _ (size : ℕ) (wide : 16 ≤ size) (v w h list : List ℕ) (Q : Query) (
   abbrev a : Directed
   a = record {
     arriving = record {
-      walks = s .walks;
-      hops = s .hops;
+      walks = s .many;
+      hops = 0;
       size = size;
       distance = record { 0 = d };
       arrival = A;
@@ -125,7 +124,7 @@ module _ (size : ℕ) (wide : 16 ≤ size) (v w h list : List ℕ) (Q : Query) (
 
   -- the stretch is as long as there are records that leave x
   pub many : passes (a .arriving) ≡ same F x n
-  many = omega (arith, same-grows F x (recordsIn 16 w) n (omega arith))
+  many = omega arith
 
   pub inside : s .first + passes (a .arriving) ≤ n
   inside = omega (arith, many, below-next F x n, below-most F (suc x) n)
@@ -139,7 +138,7 @@ module _ (size : ℕ) (wide : 16 ≤ size) (v w h list : List ℕ) (Q : Query) (
   unfolding numbersAt run
   stands j k =
       let e : 4 * below F x n + 4 * j ≡ 4 * (below F x n + j) = omega arith in
-      part-word list (4 * below F x n) (4 * (s .first + (s .walks + s .hops)) - 4 * s .first) (4 * j) (omega arith) ∙ ap (be32 list) e
+      part-word list (4 * below F x n) (4 * (s .first + s .many) - 4 * s .first) (4 * j) (omega arith) ∙ ap (be32 list) e
 
   at-low : (j : ℕ) → j < passes (a .arriving) → numberOf l j < n
   at-low j k = omega (arith, stands j k, stretch-low right x j (omega (arith, many)))
@@ -151,9 +150,8 @@ module _ (size : ℕ) (wide : 16 ≤ size) (v w h list : List ℕ) (Q : Query) (
   listed =
       record {
         list = omega (arith, long-here);
-        walks = λ j k. omega (arith, stands j (omega arith), stretch-walks right x (recordsIn 16 w) j (omega arith) k);
-        behind = λ j k m. omega (arith, stands j m, stretch-hops right x (recordsIn 16 w) j k (omega (arith, many)));
-        hops = λ j k m. omega (arith, at-low j m, stands j m, stretch-hops right x (recordsIn 16 w) j k (omega (arith, many)));
+        walks = omega arith;
+        hops = λ j k m. omega (arith, at-low j k);
         fits = wide;
       }
 

@@ -62,7 +62,7 @@ module _ (size : ℕ) (wide : 16 ≤ size) (v w h list : List ℕ) (Q : Query) (
   near-in false L = ordinary-near _ _ _ _ refl v (ordinary.leaves size wide v w h Q ok x d low near A clock)
 
   -- the stretch stands in the list
-  pub stretch-in : (c : Bool) → Lists c size w h list → stretchIn c size w h x .first + (stretchIn c size w h x .walks + stretchIn c size w h x .hops) ≤ length list / 4
+  pub stretch-in : (c : Bool) → Lists c size w h list → stretchIn c size w h x .first + stretchIn c size w h x .many ≤ length list / 4
   unfolding stretchIn
   stretch-in true L = omega (arith, courier.inside size wide v w h list Q ok (L .right refl) (L .long refl) x d near A clock, L .long refl)
   stretch-in false L = omega arith

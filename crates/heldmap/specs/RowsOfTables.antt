@@ -23,11 +23,11 @@ pub record Lists (c : Bool) (size : ℕ) (w h list : List ℕ) : Type 0 where
 
 -- where the numbers of x stand in the list; an ordinary row has none
 unfoldable pub stretchIn : Bool → ℕ → List ℕ → List ℕ → ℕ → Stretch
-stretchIn c size w h x = cond c (stretchOf size w h x) (record { first = 0; walks = 0; hops = 0 })
+stretchIn c size w h x = cond c (stretchOf size w h x) (record { first = 0; many = 0 })
 
 -- the part of the list that they are
 unfoldable pub numbersAt : List ℕ → Stretch → List ℕ
-numbersAt list s = run 4 list (s .first) (s .first + (s .walks + s .hops))
+numbersAt list s = run 4 list (s .first) (s .first + s .many)
 
 -- an ordinary row reads a part of each table, the courier's reads the whole tables
 unfoldable pub walksIn : Bool → List ℕ → List ℕ → ℕ → List ℕ
@@ -41,8 +41,8 @@ unfoldable pub directedAt : Bool → ℕ → List ℕ → List ℕ → List ℕ 
 directedAt c size v w h s x d A speed D =
     record {
       arriving = record {
-        walks = cond c (s .walks) (endOf Walks v (length w / 16) x - firstOf Walks (vertexAt v x));
-        hops = cond c (s .hops) (endOf Hops v (length h / size) x - firstOf Hops (vertexAt v x));
+        walks = cond c (s .many) (endOf Walks v (length w / 16) x - firstOf Walks (vertexAt v x));
+        hops = cond c 0 (endOf Hops v (length h / size) x - firstOf Hops (vertexAt v x));
         size = size;
         distance = record { 0 = d };
         arrival = A;

@@ -80,7 +80,7 @@ pub stretch-found : (size : ℕ) (w h : List ℕ) (x : ℕ) {c : Bool} {s : Stre
 unfolding stretchIn
 stretch-found size w h x t e = e ∙ sym (cond-true (stretchOf size w h x) _ t)
 
-pub no-stretch : (size : ℕ) (w h : List ℕ) (x : ℕ) {c : Bool} → c ≡ false → record { first = 0; walks = 0; hops = 0 } ≡ stretchIn c size w h x
+pub no-stretch : (size : ℕ) (w h : List ℕ) (x : ℕ) {c : Bool} → c ≡ false → record { first = 0; many = 0 } ≡ stretchIn c size w h x
 unfolding stretchIn
 no-stretch size w h x t = sym (cond-false (stretchOf size w h x) _ t)
 
@@ -88,7 +88,7 @@ no-stretch size w h x t = sym (cond-false (stretchOf size w h x) _ t)
 module _ (size : ℕ) (v w h : List ℕ) (s : Stretch) (x d : ℕ) (A : Seconds) (speed D : ℕ) where
   pub courier-row : (c : Bool) → c ≡ true
       → record {
-        arriving = record { walks = s .walks; hops = s .hops; size = size; distance = record { 0 = d }; arrival = A; speed = speed; allowed = record { 0 = D } };
+        arriving = record { walks = s .many; hops = 0; size = size; distance = record { 0 = d }; arrival = A; speed = speed; allowed = record { 0 = D } };
         courier = true;
         ways = length w / 16;
         rides = length h / size;

@@ -57,7 +57,7 @@ pub record Begins (v w h list : List ℕ) (x slot : ℕ) (s : Stretch) (a : Dire
   pub some : distanceOf (mapOf t held x) < none
   pub standing : Standing (a .arriving .size) v w h x
   pub wide : 16 ≤ a .arriving .size
-  pub stretch : s .first + (s .walks + s .hops) ≤ length list / 4
+  pub stretch : s .first + s .many ≤ length list / 4
   pub sound : Passable (walksIn (a .courier) v w x) (hopsIn (a .courier) (a .arriving .size) v h x) (numbersAt list s) a
   pub near : Near v (walksIn (a .courier) v w x) (hopsIn (a .courier) (a .arriving .size) v h x) (numbersAt list s) a
   pub enough : Enough (rowFrom v w h list x s a) (passes (a .arriving)) (settledNow (mapOf t held) x)

@@ -87,10 +87,10 @@ fn hops_at<'a>(
 
 // The numbers of a stretch: a part of the list.
 fn numbers_at(list: &[u8], s: Stretch) -> &[u8]
-    requires { ⌜ s .first + (s .walks + s .hops) ≤ length (now list) / 4 ⌝ }
+    requires { ⌜ s .first + s .many ≤ length (now list) / 4 ⌝ }
     ensures { λ r. ⌜ now r ≡ numbersAt (now (list .entry)) s ⌝ }
 {
-    let end = s.first + (s.walks + s.hops);
+    let end = s.first + s.many;
     &list[4 * s.first..4 * end]
 }
 
@@ -234,11 +234,7 @@ pub fn stretch_at(
         let guess = starts::guess(vertices, held, x);
         return stretches::find(vertices, walks, hops, hop_size, list, x as u32, guess);
     }
-    Stretch {
-        first: 0,
-        walks: 0,
-        hops: 0,
-    }
+    Stretch { first: 0, many: 0 }
 }
 
 // The row of x, which is settled at d: how many records it has, and what they ask.
@@ -263,8 +259,8 @@ pub fn row_at(
     if courier {
         return Directed {
             arriving: Arriving {
-                walks: stretch.walks,
-                hops: stretch.hops,
+                walks: stretch.many,
+                hops: 0,
                 size: hop_size,
                 distance: Ticks(d),
                 arrival: arrival,

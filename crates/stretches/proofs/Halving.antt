@@ -14,11 +14,8 @@ use Rattle.starts.proofs.SumLaws.{sums-step}
 use Rattle.listing.specs.Places.{total, fromOf, below, same, rank, Sound}
 use Rattle.listing.proofs.PlaceLaws.{below-next, below-grows, below-all, below-most, same-grows, same-before, rank-below, every-place}
 use Rattle.stretches.proofs.Numbers.{stretch-walks, stretch-hops, stretch-rises}
-use Rattle.stretches.specs.Stretch.{Right, Parted, stretchOf}
+use Rattle.stretches.specs.Stretch.{Right, Parted, stretchOf, walksOf}
 use Rattle.stretches.specs.declared.Stretch.{Stretch}
-
-abbrev stretch : ℕ → ℕ → ℕ → Stretch
-stretch first walks hops = record { first = first; walks = walks; hops = hops }
 
 module _ (F : ℕ → ℕ) (n v : ℕ) where
   -- before the numbers of v stands what leaves a vertex before it
@@ -92,22 +89,6 @@ module _ {list : List ℕ} {ways first end lo hi : ℕ} (low : first ≤ lo) (hi
       go (inl q) = q
       go (inr q) = absurd (omega (arith, p .walks m (omega arith) q, e))
 
--- what divides the numbers is where a walk stands before and none behind
-module _ {list : List ℕ} {ways first end k : ℕ} (p : Parted list ways first end k) {m : ℕ} where
-  pub walks-before : m ≤ end → {x : ℕ} → x ≡ be32 list (4 * (m - 1)) → x < ways → first < m → m ≤ k
-  walks-before high e h l = go (le-or-lt m k)
-    where
-      go : (m ≤ k) ⊎ (k < m) → m ≤ k
-      go (inl q) = q
-      go (inr q) = absurd (omega (arith, p .hops (m - 1) (omega (arith, q)) (omega arith), e))
-
-  pub walks-behind : first ≤ m → (m < end → ways ≤ be32 list (4 * m)) → k ≤ m
-  walks-behind low h = go (le-or-lt k m)
-    where
-      go : (k ≤ m) ⊎ (m < k) → k ≤ m
-      go (inl q) = q
-      go (inr q) = absurd (omega (arith, p .walks m low q, h (omega (arith, p .ends))))
-
 -- the share of the list that stands before a vertex, in tables of any size
 pub share-fits : {v n many : ℕ} → v < many → many ≤ 65536 → n ≤ 524288 → v * n ≤ 34359738368
 share-fits {v} {n} {many} a b c = let m : v * n ≤ 65536 * 524288 = mul-le-mul {n₁ = v} {m₁ = n} {n₂ = 65536} {m₂ = 524288} (omega arith) c in omega (arith, m)
@@ -115,7 +96,10 @@ share-fits {v} {n} {many} a b c = let m : v * n ≤ 65536 * 524288 = mul-le-mul 
 pub share-low : {v n many : ℕ} → v < many → many ≤ 65536 → n ≤ 524288 → v * n / many ≤ 34359738368
 share-low {v} {n} {many} a b c = let d : v * n / many ≤ v * n = div-le-self (v * n) many in let m : v * n ≤ 34359738368 = share-fits a b c in le-trans d m
 
--- ---- the three numbers of a stretch
+-- ---- the two numbers of a stretch
+abbrev stretch : ℕ → ℕ → Stretch
+stretch first many = record { first = first; many = many }
+
 module _ (size : ℕ) (v w h : List ℕ) (ok : Sound size v w h) (u : ℕ) where
   abbrev pub F : ℕ → ℕ
   F = fromOf size w h
@@ -155,9 +139,8 @@ module _ (size : ℕ) (v w h : List ℕ) (ok : Sound size v w h) (u : ℕ) where
           subst (λ (j : ℕ). recordsIn 16 w ≤ be32 list (4 * j)) e (stretch-hops s u (recordsIn 16 w) (i - below F u n) (omega (arith, f)) (omega (arith, f, d, as-many)));
     }
 
-    pub found : (m : ℕ) → m ≡ middle → stretch first (m - first) (first + departing - m) ≡ stretchOf size w h u
-    found m e =
-        let b : m - first ≡ same F u (recordsIn 16 w) = omega (arith, e, f) in
-        let c : first + departing - m ≡ same F u n - same F u (recordsIn 16 w) = omega (arith, e, f, d, as-many) in
-        ap (λ (z : ℕ). stretch z (m - first) (first + departing - m)) f
-        ∙ ap₂ (stretch (below F u n)) b c
+    pub found : stretch first departing ≡ stretchOf size w h u
+    found = ap₂ stretch f (d ∙ as-many)
+
+    pub walks-found : (m : ℕ) → m ≡ middle → stretch first (m - first) ≡ walksOf size w h u
+    walks-found m e = let b : m - first ≡ same F u (recordsIn 16 w) = omega (arith, e, f) in ap₂ stretch f b

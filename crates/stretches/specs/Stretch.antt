@@ -23,11 +23,10 @@ pub record Parted (list : List ℕ) (ways first end m : ℕ) : Type 0 where
   pub walks : (i : ℕ) → first ≤ i → i < m → be32 list (4 * i) < ways
   pub hops : (i : ℕ) → m ≤ i → i < end → ways ≤ be32 list (4 * i)
 
--- behind the records of the vertices before v; its walks, then its hops
+-- behind the records of the vertices before v
 abbrev pub stretchOf : ℕ → List ℕ → List ℕ → ℕ → Stretch
-stretchOf size w h v =
-    record {
-      first = below (fromOf size w h) v (total size w h);
-      walks = same (fromOf size w h) v (recordsIn 16 w);
-      hops = same (fromOf size w h) v (total size w h) - same (fromOf size w h) v (recordsIn 16 w);
-    }
+stretchOf size w h v = record { first = below (fromOf size w h) v (total size w h); many = same (fromOf size w h) v (total size w h) }
+
+-- of these its walks, which stand first
+abbrev pub walksOf : ℕ → List ℕ → List ℕ → ℕ → Stretch
+walksOf size w h v = record { first = below (fromOf size w h) v (total size w h); many = same (fromOf size w h) v (recordsIn 16 w) }

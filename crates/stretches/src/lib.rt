@@ -1,10 +1,8 @@
 // Where the records of a vertex stand in the right list of records by "from".
-// Promises: the first place, and how many walks and then how many hops leave the vertex. A guess of the first place is tested by one record; else it is told from a vertex near by where tables are even, for which one record is read, and else sought by halves, for which at most 20 are; the first hop is sought by the list alone.
-// Rests on: where records leave (`listing`) and how many (`starts`), the firsts of `records`, numbers in bytes (`words`).
+// Promises: the first place, and how many records leave the vertex; or how many walks, which stand first. A guess of the first place is tested by one record; else it is told from a vertex near by where tables are even, for which one record is read, and else sought by halves, for which at most 20 are; the first hop is sought by the list alone.
+// Rests on: where records leave (`listing`) and how many (`starts`), the size of a walk (`records`), numbers in bytes (`words`).
 use listing::from_of;
-use records::Kind;
-use records::end_arriving;
-use records::first_arriving;
+use records::WALK_SIZE;
 use starts::between;
 use starts::departing_of;
 use words::lesser;
@@ -13,19 +11,15 @@ ghost use mathlib.Core.Path.{_≡_};
 ghost use mathlib.Core.Bool.{true};
 ghost use Prim.Native.Nat.{ℕ, _*_, _/_, _<_, _≤_};
 ghost use lib.ListN.{length};
-ghost use Rattle.journeys.specs.Bytes.{be32};
 ghost use Rattle.listing.specs.Places.{total, fromOf, below, Sound};
 ghost use Rattle.starts.specs.Sums.{sums};
-ghost use Rattle.stretches.specs.Stretch.{Right, Falls, Parted, stretchOf};
+ghost use Rattle.stretches.specs.Stretch.{Right, Falls, Parted, stretchOf, walksOf};
 
-// Where the numbers of a vertex begin in the list, how many are walks, and how many hops stand behind those.
+// Where the numbers of a vertex begin in the list, and how many there are.
 pub struct Stretch {
     pub first: usize,
-    pub walks: usize,
-    pub hops: usize,
+    pub many: usize,
 }
-
-const WALK_SIZE: usize = 16;
 
 const VERTEX_SIZE: usize = 12;
 
@@ -167,84 +161,7 @@ fn first_hop(list: &[u8], ways: usize, first: usize, end: usize) -> usize
     lo
 }
 
-// Whether no walk stands at m, or it is the end.
-fn walks_end(list: &[u8], ways: usize, end: usize, m: usize) -> bool
-    requires { ⌜ (end ≤ length (now list) / 4) × (end ≤ 524288) ⌝ }
-    ensures { λ r. ⌜ (r ≡ true → m < end → ways ≤ be32 (now (list .entry)) (4 * m)) ⌝ }
-{
-    if m < end {
-        return ways <= word_at(list, 4 * m) as usize;
-    }
-    true
-}
-
-// Whether walks end and hops begin at m.
-fn parts_at(list: &[u8], ways: usize, first: usize, end: usize, m: usize) -> bool
-    requires { ⌜ (first ≤ m) × (m ≤ end) × (end ≤ length (now list) / 4) × (end ≤ 524288) ⌝ }
-    ensures { λ r. ⌜ (r ≡ true → (k : ℕ) → Parted (now (list .entry)) ways first end k → m ≡ k) ⌝ }
-{
-    if first == m {
-        return walks_end(list, ways, end, m);
-    }
-    if ways <= word_at(list, 4 * (m - 1)) as usize {
-        return false;
-    }
-    walks_end(list, ways, end, m)
-}
-
-// The same place for the numbers of v. Where streets are walked both ways as many walks leave a vertex as arrive at it, so that is asked first.
-fn middle_of(vertices: &[u8], list: &[u8], v: usize, ways: usize, first: usize, end: usize) -> usize
-    requires { ⌜ (first ≤ end) × (end ≤ length (now list) / 4) × (end ≤ 524288) ⌝ }
-    ensures { λ r. ⌜ ((m : ℕ) → Parted (now (list .entry)) ways first end m → r ≡ m) ⌝ }
-{
-    if v < vertices.len() / VERTEX_SIZE {
-        let from = first_arriving(vertices, Kind::Walks, v);
-        let upto = end_arriving(vertices, Kind::Walks, v, ways);
-        if from <= upto {
-            let many = upto - from;
-            if many <= end - first {
-                let m = first + many;
-                if parts_at(list, ways, first, end, m) {
-                    return m;
-                }
-            }
-        }
-    }
-    first_hop(list, ways, first, end)
-}
-
-// The stretch of v, whose first place is known.
-fn parted(
-    vertices: &[u8],
-    walks: &[u8],
-    hops: &[u8],
-    hop_size: usize,
-    list: &[u8],
-    v: u32,
-    first: usize,
-) -> Stretch
-    requires { ⌜ Sound «hop_size» (now vertices) (now walks) (now hops) × (length (now list) ≡ 4 * total «hop_size» (now walks) (now hops)) ⌝ }
-    requires { ⌜ Right (fromOf «hop_size» (now walks) (now hops)) (total «hop_size» (now walks) (now hops)) (now list) ⌝ }
-    requires { ⌜ first ≡ below (fromOf «hop_size» (now walks) (now hops)) v (total «hop_size» (now walks) (now hops)) ⌝ }
-    ensures { λ r. ⌜ r ≡ stretchOf «hop_size» (now (walks .entry)) (now (hops .entry)) v ⌝ }
-{
-    let end = first + departing_of(vertices, v as usize) as usize;
-    let middle = middle_of(
-        vertices,
-        list,
-        v as usize,
-        walks.len() / WALK_SIZE,
-        first,
-        end,
-    );
-    Stretch {
-        first: first,
-        walks: middle - first,
-        hops: end - middle,
-    }
-}
-
-// Over tables that the check has passed and the right list of them. The guess is where the numbers of v may begin, and may be any number.
+// Over tables that the check has passed and the right list of them. The guess is where the numbers of v may begin, and may be any number. Where its walks end is not sought: a number tells by itself whether it is a walk's.
 pub fn find(
     vertices: &[u8],
     walks: &[u8],
@@ -259,5 +176,32 @@ pub fn find(
     ensures { λ r. ⌜ r ≡ stretchOf «hop_size» (now (walks .entry)) (now (hops .entry)) v ⌝ }
 {
     let first = place_of(vertices, walks, hops, hop_size, list, v, guess);
-    parted(vertices, walks, hops, hop_size, list, v, first)
+    let many = departing_of(vertices, v as usize) as usize;
+    Stretch {
+        first: first,
+        many: many,
+    }
+}
+
+// The same for the walks of v alone, which stand before its hops.
+pub fn walks_of(
+    vertices: &[u8],
+    walks: &[u8],
+    hops: &[u8],
+    hop_size: usize,
+    list: &[u8],
+    v: u32,
+) -> Stretch
+    requires { ⌜ Sound «hop_size» (now vertices) (now walks) (now hops) × (length (now list) ≡ 4 * total «hop_size» (now walks) (now hops)) ⌝ }
+    requires { ⌜ Right (fromOf «hop_size» (now walks) (now hops)) (total «hop_size» (now walks) (now hops)) (now list) ⌝ }
+    ensures { λ r. ⌜ r ≡ walksOf «hop_size» (now (walks .entry)) (now (hops .entry)) v ⌝ }
+{
+    let first = first_place(vertices, walks, hops, hop_size, list, v);
+    let end = first + departing_of(vertices, v as usize) as usize;
+    let middle = first_hop(list, walks.len() / WALK_SIZE, first, end);
+    let many = middle - first;
+    Stretch {
+        first: first,
+        many: many,
+    }
 }

@@ -1,5 +1,5 @@
--- `directed::to_listed` meets its contract: the walks come first. Assumes nothing.
-use Prim.Native.Nat.{_-_, _/_, _<_, _≤_}
+-- `directed::to_listed` meets its contract: a number below that of the walks is a walk's. Assumes nothing.
+use Prim.Native.Nat.{_/_, _<_}
 use native.Mathlib.Omega.{arith}
 use borrow.Author.Tests.{lt-ltb, le-ltb}
 use lib.ListN.{length}
@@ -9,55 +9,37 @@ use borrow.Author.Needs.{needs}
 use Rattle.directed.proofs.to_listed.Statement.{statement}
 use Rattle.directed.proofs.to_listed.Tie as tie
 
-mul-word-at : tie.Need-mul-word-at
-mul-word-at c =
-    let s = c .before .before .before .before .before .before in
-    let low : c .before .before .number-at .result < length (s .args .walks .now) / 16 = omega (arith, s .pre .0 .walks (s .args .j) (c .if1 .taken), c .before .before .number-at .ensures) in
-    omega arith
-
-add-word-at : tie.Need-add-word-at
-add-word-at c =
-    let s = c .before .before .before .before .before .before in
-    let low : c .before .before .number-at .result < length (s .args .walks .now) / 16 = omega (arith, s .pre .0 .walks (s .args .j) (c .if1 .taken), c .before .before .number-at .ensures) in
-    omega arith
-
-word-at-requires : tie.Need-word-at-requires
-word-at-requires c κs =
-    let s = c .before .before .before .before .before .before in
-    let low : c .before .before .number-at .result < length (s .args .walks .now) / 16 = omega (arith, s .pre .0 .walks (s .args .j) (c .if1 .taken), c .before .before .number-at .ensures) in
-    omega arith
+walk-low : (c : tie.Then1) → c .before .before .number-at .result < length (c .before .before .before .before .before .before .args .walks .now) / 16
+walk-low c = omega (arith, c .before .before .before .before .before .before .pre .0 .walks, c .if1 .taken)
 
 returns : tie.Need-returns
 unfolding listedOf walkAt
-returns c = rw (lt-ltb _ _ (c .before .if1 .taken), c .word-at .ensures, c .before .before .before .number-at .ensures)
-
-sub-to-at : tie.Need-sub-to-at
-sub-to-at c =
-    let s = c .before .before .before .before .before .before .before in
-    let behind = s .pre .0 .behind (s .args .j) (c .before .if1 .left) (s .pre .1) in
-    omega (arith, behind, c .before .before .before .number-at .ensures)
+returns c =
+    let n = c .before .before .before .number-at in
+    rw (c .word-at .ensures, ← n .ensures, lt-ltb _ _ (c .before .if1 .taken))
 
 to-at-requires : tie.Need-to-at-requires
 to-at-requires c κs =
     let s = c .before .before .before .before .before .before .before in
-    let hop = s .pre .0 .hops (s .args .j) (c .before .if1 .left) (s .pre .1) in
-    (omega (arith, s .pre .0 .fits), rw (c .before .before .before .number-at .ensures) hop)
+    let n = c .before .before .before .number-at in
+    (omega (arith, s .pre .0 .fits), rw (← n .ensures) at (s .pre .0 .hops (s .args .j) (s .pre .1)) (c .before .if1 .left))
 
 returns-2 : tie.Need-returns-2
 unfolding listedOf hopAt
-returns-2 c = rw (le-ltb _ _ (c .before .before .if1 .left), c .to-at .ensures, c .before .before .before .before .number-at .ensures)
+returns-2 c =
+    let n = c .before .before .before .before .number-at in
+    rw (c .to-at .ensures, ← n .ensures, le-ltb _ _ (c .before .before .if1 .left))
 
 pub to-listed-spec : {M : Type 1} → statement M
 to-listed-spec =
     tie.close
     (tie.spec
     (λ c κs. search needs)
-    mul-word-at
-    add-word-at
-    word-at-requires
+    (λ c. omega (arith, walk-low c))
+    (λ c. omega (arith, walk-low c))
+    (λ c κs. omega (arith, walk-low c))
     (λ c. search needs)
     returns
-    sub-to-at
     to-at-requires
     (λ c. search needs)
     returns-2)
