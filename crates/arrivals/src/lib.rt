@@ -1,6 +1,8 @@
 // A vertex has just been settled: the records of its row are passed, in either direction, and the entries of the vertices at their other ends are brought up to date.
 // Promises: the table then holds exactly the map of the definitions, or that map has no room; the room is that after the whole step.
 // Rests on: `meeting` where a slot is free for each record that brings an entry, `short` for a short row where that is not known, `surveys` and `blocks` for a long one, the map of `worktable`.
+#![tactic(auto)]
+
 ghost use Rattle.std.specs.Prelude.{◌≡◌, true, ◌≤◌, replicate};
 ghost use Rattle.worktable.specs.Table.{map_of};
 ghost use Rattle.passing.specs.Row.{passes};

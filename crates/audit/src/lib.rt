@@ -1,6 +1,8 @@
 // The check of the three tables: refusals 1 (places 0 to 2) to 6, or none: RULES 12.12.
 // Promises: for every byte string of every length the answer is that of the definition, the tables are only read, and the lent scratch is zero afterwards.
 // Rests on: the readers of `records`, the quick judge of `quick`, the counts of `departing` and the definitions of `journeys`. It has no array of its own.
+#![tactic(auto)]
+
 ghost use Rattle.std.specs.Prelude.{◌≡◌, true, ◌&&◌, ℕ, ◌+◌, ◌-◌, ◌*◌, ◌/◌, ◌<◌, ◌≤◌, min, eqb, length, get_or, replicate};
 ghost use Rattle.journeys.specs.Counting.{none, count};
 ghost use Rattle.journeys.specs.Tables.{tables_of};
@@ -20,7 +22,7 @@ use words::{Refusal, fine, half_at, lesser, refused};
 
 // What a pass over a table finds: its first bad record, and, where none is bad, the first one out of order and how many have no twin.
 // Hops have no twin: of them that number says nothing.
-#[derive(Drop)]
+#[derive(Clone, Copy)]
 struct Faults {
     bad: Refusal,
     order: Refusal,

@@ -1,6 +1,8 @@
 // An array of 16-bit words as a set of numbers, as many as it has bits.
 // Promises: to put a number sets its bit and no other; member tells whether a number was put.
 // Rests on: the laws of bits of `marks`, whose own functions are for one half of the vertices.
+#![tactic(auto)]
+
 ghost use Rattle.std.specs.Prelude.{◌≡◌, ◌/◌, ◌<◌, length};
 ghost use Rattle.marks.specs.Marks as Marks;
 ghost use Rattle.marks.specs.Marks.{bit};

@@ -1,6 +1,8 @@
 // The end of a step where room is scarce, for one block of 2,048 vertices: all that are held have been touched, the spent ones are dropped, and only then the new ones are added.
 // Promises: the table then holds the map of the definitions for that block, or that map has no room; the other blocks and the counters are as before.
 // Rests on: the row of `directed`, the entries of `meeting` and `worktable`, the clearing of `marks`.
+#![tactic(auto)]
+
 ghost use Rattle.std.specs.Prelude.{◌≡◌, true, cond, ◌&&◌, ℕ, ◌-◌, ◌/◌, ◌%◌, ◌<◌, ◌≤◌, eqb, ltb, length, get_or, replicate};
 ghost use Rattle.journeys.specs.Counting.{one};
 ghost use Rattle.worktable.specs.Map as map;

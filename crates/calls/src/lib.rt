@@ -1,6 +1,8 @@
 // The 24 bytes of a query, and the 24 or 12 bytes of an answer, as callers in C lend them.
 // Promises: the query and the step limit that the bytes name, and the bytes that name an answer.
 // Rests on: the numbers of `words`, the query and the answer of `records`; a law of `frame` on six numbers in a row.
+#![tactic(auto)]
+
 ghost use Rattle.std.specs.Prelude.{◌≡◌, ◌++◌, ◌+◌, ◌≤◌, length};
 ghost use Rattle.journeys.specs.Bytes.{word};
 ghost use Rattle.calls.specs.CallBytes.{query_from, limit_in};

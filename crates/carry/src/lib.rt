@@ -1,6 +1,8 @@
 // The sorted stops of a timetable, judged and joined to hops piece by piece: what is carried from one piece to the next.
 // Promises: after the last piece, 15 and 16 and the hops are those of all stops, wherever the pieces were cut.
 // Rests on: the records of `sorting`, the stops of `succession`, the hops of `connections`. A hop is written only where the stop has been read.
+#![tactic(auto)]
+
 ghost use Rattle.std.specs.Prelude.{◌≡◌, Bool, cond, ◌++◌, ℕ, ◌+◌, ◌-◌, ◌*◌, ◌<◌, ◌≤◌, min, length, set, take, drop};
 ghost use Rattle.journeys.specs.Counting.{none};
 ghost use Rattle.table_bytes.specs.Columns.{at};
@@ -13,7 +15,7 @@ use sorting::{high, low, middle, put};
 const NONE: u32 = 0xFFFF_FFFF;
 
 // A record in its three fields.
-#[derive(Drop)]
+#[derive(Clone, Copy)]
 pub struct Item {
     pub high: u32,
     pub middle: u64,
@@ -21,7 +23,7 @@ pub struct Item {
 }
 
 // The stop before, the last timed one, and the lowest lines that 15 and 16 are told for so far.
-#[derive(Drop)]
+#[derive(Clone, Copy)]
 pub struct Carry {
     pub prev: Item,
     pub last: Item,
@@ -29,7 +31,7 @@ pub struct Carry {
     pub sixteen: u32,
 }
 
-#[derive(Drop)]
+#[derive(Clone, Copy)]
 pub struct Piece {
     pub carry: Carry,
     pub hops: usize,

@@ -1,6 +1,8 @@
 // Bytes copied into a lent buffer.
 // Promises: the bytes stand at their place, the others are untouched, and the answer is the place behind them.
 // Rests on: what is written at a place (`words`).
+#![tactic(auto)]
+
 ghost use Rattle.std.specs.Prelude.{◌+◌, ◌≤◌, length};
 ghost use Rattle.copying.specs.Write.{Wrote};
 

@@ -1,6 +1,8 @@
 // The refusals of the courier's run before its steps (RULES 27): 1, with the list's length at place 6, 2 to 6, 22 and 7.
 // Promises: for any bytes and any query the first reason, or none; nothing but the scratch is written, and that is zero afterwards.
 // Rests on: the chain's tests in `audit`, `making`, `listed` and `intake`, the scratch of `departing`.
+#![tactic(auto)]
+
 ghost use Rattle.std.specs.Prelude.{◌≡◌, [], ◌∷◌, ◌*◌, length, replicate};
 ghost use Rattle.journeys.specs.Tables.{tables_of};
 ghost use Rattle.journeys.specs.Records.{record_count};

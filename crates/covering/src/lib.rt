@@ -1,6 +1,8 @@
 // The parts operation, and the courier's: the covered parts of walk records, made from a settled list in any order.
 // Promises: for any bytes and query the answer of the definitions and every byte of the part buffer; the lists are only read.
 // Rests on: the check (`audit`), the query's test (`intake`), the courier's (`courier_intake`), the judge of lists (`lists`), the parts of one vertex (`parts`), where its records stand in the list by "from" (`stretches`).
+#![tactic(auto)]
+
 ghost use Rattle.std.specs.Prelude.{◌≡◌, true, false, ◌+◌, ◌*◌, ◌/◌, ◌<◌, ◌≤◌, length, take, replicate};
 ghost use Rattle.journeys.specs.Bytes.{filled, cleared};
 ghost use Rattle.journeys.specs.Tables.{tables_of};
@@ -21,7 +23,7 @@ use records::{Kind, Query};
 use words::{Refusal, Ticks, refused, word_at};
 
 // The three numbers of an answer.
-#[derive(Drop)]
+#[derive(Clone, Copy)]
 pub struct PartsAnswer {
     pub refusal: u32,
     pub place: u32,
@@ -29,7 +31,7 @@ pub struct PartsAnswer {
 }
 
 // How many parts there are, or which entry, counted from 1, has no room for its parts: 0 for those of step 0.
-#[derive(Drop)]
+#[derive(Clone, Copy)]
 enum Covered {
     All(usize),
     Full(usize),

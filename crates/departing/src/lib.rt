@@ -1,6 +1,8 @@
 // The departing records of the vertices, counted block by block in the lent scratch: what refusal 6 asks of the tables.
 // Promises: the counters of a block are the numbers of records that leave its vertices, and none wraps.
 // Rests on: the columns of `records` and the numbers of `words`. It has no array of its own.
+#![tactic(auto)]
+
 ghost use Rattle.std.specs.Prelude.{◌≡◌, cond, ◌++◌, ℕ, ◌+◌, ◌*◌, ◌<◌, ◌≤◌, min, max, eqb, ltb, length, get_or, set, drop, replicate};
 ghost use Rattle.journeys.specs.Counting.{one};
 ghost use Rattle.records.specs.Columns.{records_in, from_at, leaving};

@@ -1,6 +1,8 @@
 // The end of a timetable's answer: the hops of all trips in the slice where their records stand, or a refusal and zeros.
 // Promises: every byte of the slice, as the definitions of `feed` say; and, as laws, that stops judged by their records are judged as the definitions judge them.
 // Rests on: the records sorted (`sorting`), their laws (`succession`, `connections`), the hops in order (`hoporder`) and written out (`hopbytes`).
+#![tactic(auto)]
+
 ghost use Rattle.std.specs.Prelude.{◌≡◌, ◌*◌, ◌≤◌, length};
 ghost use Rattle.journeys.specs.Counting.{joined};
 ghost use Rattle.journeys.specs.Bytes.{filled, cleared};
@@ -13,7 +15,7 @@ ghost use Rattle.departures.specs.Answered.{told};
 use sorting::sort;
 
 // A refusal, both numbers 0 where there is none; and the number of hops.
-#[derive(Drop)]
+#[derive(Clone, Copy)]
 pub struct Answer {
     pub number: u32,
     pub place: u32,

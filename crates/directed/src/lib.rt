@@ -1,6 +1,8 @@
 // The records of a settled vertex as one row in either direction: those that arrive at it, and for the courier those that leave it. Of each record the vertex at its other end, and what it brings to that vertex; of each vertex how many records it has in all.
 // Promises: all three are what the definitions say, whichever the direction; what is brought is none or a distance that an entry can have.
 // Rests on: the row of `passing`, the readers and conversions of `records`, the courier's offers of `journeys`.
+#![tactic(auto)]
+
 ghost use Rattle.std.specs.Prelude.{◌≡◌, ◌+◌, ◌-◌, ◌*◌, ◌/◌, ◌<◌, ◌≤◌, min, length};
 ghost use Rattle.journeys.specs.Bytes.{be32, clocked};
 ghost use Rattle.journeys.specs.Tables.{hop_at};
@@ -17,7 +19,7 @@ use words::{NONE, Seconds, Ticks, half_at, lesser, not_after, ticks_before, word
 
 // A row with its direction. The courier's has the walks and hops that leave the vertex, its arrival is the departure, and its records are those of the whole tables that a stretch of the list numbers, 4 bytes each:
 // there are `ways` walks, whose numbers come before those of the hops, and `rides` hops. No other row asks for these two. A number tells by itself which of both it is, so the courier's row counts its records together, as `arriving.walks`, and its `arriving.hops` is 0.
-#[derive(Drop)]
+#[derive(Clone, Copy)]
 pub struct Directed {
     pub arriving: Arriving,
     pub courier: bool,

@@ -1,6 +1,8 @@
 // The end of a run: the lent buffers as its answer leaves them.
 // Promises: the held records and the settled list, each with zero behind it; or zero in every lent byte, where a step lacks room.
 // Rests on: the end of the working table (`worktable`), the answer of `records`.
+#![tactic(auto)]
+
 ghost use Rattle.std.specs.Prelude.{◌*◌, ◌<◌, ◌≤◌, length};
 ghost use Rattle.worktable.specs.Table.{InOrder};
 ghost use Rattle.ending.specs.Left.{Concluded, GivenUp};

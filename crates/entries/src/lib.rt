@@ -1,6 +1,8 @@
 // The entries of a bought list by an array that has a distance at each vertex read so far: whether a vertex is new, and refusals 25 to 27 where the first wrong entry is known.
 // Promises: the first 25, else the first 26, else 27 at that entry, as the definitions have them; entries before it are not read again.
 // Rests on: the numbers of `words` and the laws of `lists`.
+#![tactic(auto)]
+
 ghost use Rattle.std.specs.Prelude.{◌≡◌, ◌&&◌, ◌≤◌, ◌<◌, eqb, ltb, length};
 ghost use Rattle.journeys.specs.Counting.{none};
 ghost use Rattle.journeys.specs.Lists.{entry_ok};

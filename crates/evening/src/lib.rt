@@ -1,6 +1,8 @@
 // The leaves of an evening of arrivals: its refusals in their order, the tally of one settled list, the sums of patients.
 // Promises: the refusal and the figures that the definitions say, and every byte of the report.
 // Rests on: the tests of `audit` and `intake`, words and refusals (`words`).
+#![tactic(auto)]
+
 ghost use Rattle.std.specs.Prelude.{◌≡◌, List, ℕ, ◌+◌, ◌*◌, ◌/◌, ◌<◌, ◌≤◌, length, replicate};
 ghost use Rattle.journeys.specs.Bytes.{be32, clocked, midnight};
 ghost use Rattle.journeys.specs.Lists.{vertex_in};

@@ -1,6 +1,8 @@
 // The frame of a settled list on the map: the smallest and the largest of each coordinate of the listed vertices.
 // Promises: the answer of the definition for every byte string of every length, each value a stored one bit for bit; the lent marks are zero afterwards.
 // Rests on: the numbers of `words`, the list's judge of `lists`, and the toolchain's comparison of floats. Floats are compared, never computed with.
+#![tactic(auto)]
+
 ghost use Rattle.std.specs.Prelude.{◌≡◌, true, ◌+◌, ◌-◌, ◌*◌, ◌/◌, ◌<◌, ◌≤◌, ltb, length, replicate};
 ghost use Rattle.journeys.specs.Counting.{none};
 ghost use Rattle.journeys.specs.Refusals.{unless, or_else, first_bad, table_of};
@@ -13,13 +15,13 @@ use lists::Judged;
 use words::{Refusal, fine};
 
 // A map point, and the frame of several.
-#[derive(Drop)]
+#[derive(Clone, Copy)]
 pub struct Point {
     pub x: f32,
     pub y: f32,
 }
 
-#[derive(Drop)]
+#[derive(Clone, Copy)]
 pub struct Frame {
     pub least_x: f32,
     pub greatest_x: f32,
@@ -28,7 +30,7 @@ pub struct Frame {
 }
 
 // The refusal by number and place, both 0 where nothing is refused, and the frame.
-#[derive(Drop)]
+#[derive(Clone, Copy)]
 pub struct Framed {
     pub number: u32,
     pub place: u32,

@@ -1,6 +1,8 @@
 // A stop of a trip as its line has it.
 // Promises: sequence and times of a line, as the definitions of `feed` say.
 // Rests on: the fields of a line (`rows`), numbers and times (`values`).
+#![tactic(auto)]
+
 ghost use Rattle.std.specs.Prelude.{◌≡◌, true, cond, ◌-◌, ◌<◌, ◌≤◌, length, take, drop};
 ghost use Rattle.journeys.specs.Counting.{none};
 ghost use Rattle.feed.specs.Lines.{empty};
@@ -34,14 +36,14 @@ pub fn number_of(line: &[u8], k: usize) -> u32
 }
 
 // A time as it is given, and 0 where it is left blank.
-#[derive(Drop)]
+#[derive(Clone, Copy)]
 struct Moment {
     blank: bool,
     seconds: u32,
 }
 
 // The times of a stop: one that is given stands for both.
-#[derive(Drop)]
+#[derive(Clone, Copy)]
 pub struct Times {
     pub timed: bool,
     pub arrival: u32,

@@ -1,6 +1,8 @@
 // Line 1 of a timetable: its columns by their names.
 // Promises: how often a name stands in a line, at which field first, and whether each of the five names stands there once, as the definitions of `feed` say.
 // Rests on: places in a line (`lines`). The line is read field by field, once for each name.
+#![tactic(auto)]
+
 ghost use Rattle.std.specs.Prelude.{◌≡◌, false, ◌+◌, ◌-◌, ◌<◌, ◌≤◌, eqb, length, take, drop};
 ghost use Rattle.feed.specs.Fields.{row_of, field, same};
 ghost use Rattle.feed.specs.Stops.{times, column, columns_once};
@@ -122,7 +124,7 @@ pub fn columns_once(line: &[u8]) -> bool
 }
 
 // How many fields a line has, up to a quote that breaks it, and whether none does.
-#[derive(Drop)]
+#[derive(Clone, Copy)]
 pub struct Fields {
     pub count: usize,
     pub sound: bool,

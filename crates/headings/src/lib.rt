@@ -1,6 +1,8 @@
 // Line 1 of a timetable: in which fields its five columns stand.
 // Promises: the columns by their names, as the definitions of `feed` find them.
 // Rests on: the names in line 1 (`header`).
+#![tactic(auto)]
+
 ghost use Rattle.headings.specs.Found.{Found};
 
 use stoplist::Columns;

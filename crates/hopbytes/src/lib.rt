@@ -1,6 +1,8 @@
 // The sorted records of hops become the bytes of hops, where they stand.
 // Promises: 20 bytes for each hop, big-endian: "from", "to", departure, arrival and the number of its trip, which is read in the list of trips.
 // Rests on: the records of `sorting` and what they say (`hoporder`), lines and their fields (`lines`, `rows`), numbers in bytes (`words`).
+#![tactic(auto)]
+
 ghost use Rattle.std.specs.Prelude.{◌≡◌, true, ℕ, ◌+◌, ◌*◌, ◌/◌, ◌%◌, ◌<◌, ◌≤◌, ◌^◌, length};
 ghost use Rattle.journeys.specs.Counting.{none, joined};
 ghost use Rattle.table_bytes.specs.Columns.{at};

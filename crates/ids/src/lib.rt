@@ -1,6 +1,8 @@
 // The lists of a timetable, lines "id,number", judged: refusal 29.
 // Promises: the first line that is not good, as the definitions of `feed` say.
 // Rests on: lines (`lines`), the fields of a line (`rows`), refusals (`words`).
+#![tactic(auto)]
+
 ghost use Rattle.std.specs.Prelude.{◌≡◌, ◌||◌, ◌+◌, ◌-◌, ◌≤◌, min, length, take, drop};
 ghost use Rattle.journeys.specs.Counting.{none};
 ghost use Rattle.feed.specs.Lines.{empty};

@@ -1,6 +1,8 @@
 // The ids of a list, found by a table of places in lent slots of 4 bytes, as far as these hold the list, and line by line from there on.
 // Promises: the place of the first line that has an id, as the definitions of `feed` say.
 // Rests on: lines by their ids (`naming`), numbers of 4 bytes (`table_bytes`). A number mixed from an id tells the slot where it is looked for first: what the mixing is costs time alone.
+#![tactic(auto)]
+
 ghost use Rattle.std.specs.Prelude.{◌≡◌, false, cond, ◌+◌, ◌*◌, ◌-◌, ◌<◌, ◌≤◌, eqb, length, take, drop, set};
 ghost use Rattle.table_bytes.specs.Columns.{at};
 ghost use Rattle.feed.specs.Lines.{empty};
@@ -65,7 +67,7 @@ fn next_slot(n: usize, k: usize) -> usize
 }
 
 // Where the search for an id ends: what the slot that has it holds, or 0; and whether it ends at a slot that is free.
-#[derive(Drop)]
+#[derive(Clone, Copy)]
 struct End {
     slot: usize,
     found: usize,

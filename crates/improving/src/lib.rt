@@ -1,6 +1,8 @@
 // The map of the mode with a boarding time: the working table with room for every vertex, in which entries count no records. An offer within D makes a vertex's figure the lesser of the two.
 // Promises: the figures after an offer, and that the table is in order.
 // Rests on: the working table (`worktable`), the figures that the search keeps (`boarding`).
+#![tactic(auto)]
+
 ghost use Rattle.std.specs.Prelude.{◌≡◌, ℕ, ◌<◌, ◌≤◌};
 ghost use Rattle.worktable.specs.Map.{distance_limit};
 ghost use Rattle.improving.specs.Figures.{Ready, Bettered, Lowered};

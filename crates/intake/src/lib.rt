@@ -1,6 +1,8 @@
 // Refusals 1 to 7 (RULES 12): a chain of tests in the fixed order, each of which can stand in another chain.
 // Promises: for any bytes and any query the first reason, or none; the scratch is zero afterwards.
 // Rests on: the lengths and the contents of the tables (`audit`), the scratch of `departing`, the readers of `records`.
+#![tactic(auto)]
+
 ghost use Rattle.std.specs.Prelude.{◌≡◌, List, ℕ, ◌≤◌, replicate};
 ghost use Rattle.journeys.specs.Tables.{tables_of};
 ghost use Rattle.journeys.specs.Query as query;

@@ -1,6 +1,8 @@
 // The job reader of the program `reach`.
 // Promises: for every input the job or the number N of RULES 14.4, and the tables copied out of the 20-byte records.
 // Rests on: bytes copied into a buffer (`copying`), the words and seconds of `words`, the query of `records`.
+#![tactic(auto)]
+
 ghost use Rattle.std.specs.Prelude.{◌≡◌, ◌+◌, ◌*◌, ◌/◌, ◌<◌, ◌≤◌, length};
 ghost use Rattle.job.specs.Job.{be24, question_at, question, table_of, told, taken, job_of};
 ghost use Rattle.job.specs.Steps.{item_of, ended_of, bodies, LaidOut};
@@ -11,7 +13,7 @@ use records::Query;
 use words::{Offset, seconds_of, word, word_at};
 
 // What one record of a job is, or its number where it is faulty.
-#[derive(Drop)]
+#[derive(Clone, Copy)]
 pub enum Item {
     Vertex,
     Walk,
@@ -21,7 +23,7 @@ pub enum Item {
 }
 
 // A job with the numbers of its table records, or the number N of RULES 14.4.
-#[derive(Drop)]
+#[derive(Clone, Copy)]
 pub enum Job {
     Good {
         vertices: usize,

@@ -173,6 +173,7 @@ in-snoc xs a y i = go (in-append xs (a ∷ []) y i)
     go : In y xs ⊎ In y (a ∷ []) → In y xs ⊎ (y ≡ a)
     go (inl j) = inl j
     go (inr (inl e)) = inr e
+    go (inr (inr x'')) = elim x'' [ ]
 
 pub in-flat : {A B : Type 0} (f : A → List B) (l : List A) (a : A) (b : B) → In a l → In b (f a) → In b (flat_map f l)
 unfolding flat_map

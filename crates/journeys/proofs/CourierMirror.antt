@@ -97,9 +97,9 @@ module _ (N : Tables) (Q : Query) (ok : Valid N Q) (still : (i : ℕ) → i < wa
   arrives-turned j l =
       ap (λ (h : Hop). (Q.arrival - h.departure) * Q.speed) (hop-turned j l) ∙ ap (λ (x : ℕ). x * Q.speed) (omega (arith, (in_reach j l).1))
 
-  in-time : (j : ℕ) → j < hop_count N → (Q.arrival ≤ (hop N j).departure) ↔ ((hop N' j).arrival ≤ Q'.arrival)
+  in_time : (j : ℕ) → j < hop_count N → (Q.arrival ≤ (hop N j).departure) ↔ ((hop N' j).arrival ≤ Q'.arrival)
   unfolding turned_query
-  in-time j l = (
+  in_time j l = (
     λ a. rw (hop-turned j l) (omega (arith, (in_reach j l).0)),
     λ a. let z : (Q.arrival + Q.arrival) - (hop N j).departure ≤ Q.arrival = rw (hop-turned j l) at a in omega (arith, (in_reach j l).0),
   )
@@ -125,7 +125,7 @@ module _ (N : Tables) (Q : Query) (ok : Valid N Q) (still : (i : ℕ) → i < wa
       (Journey.by_walk i (rw walks_same l) (there (sym (ap (λ (w : Walk). w.to) (walk-turned i l))) refl (reached-turned j)))
   reached-turned (Reached.by_hop i l a j) =
       there (ap (λ (h : Hop). h.from) (hop-turned i l)) (arrives-turned i l)
-      (Journey.by_hop i (rw hops-same l) ((in-time i l).0 a) (there (sym (ap (λ (h : Hop). h.to) (hop-turned i l))) (sym (leaves-turned i l)) (reached-turned j)))
+      (Journey.by_hop i (rw hops-same l) ((in_time i l).0 a) (there (sym (ap (λ (h : Hop). h.to) (hop-turned i l))) (sym (leaves-turned i l)) (reached-turned j)))
   reached-turned (Reached.wait h j) = Journey.wait h (reached-turned j)
 
   -- And the other way.
@@ -145,7 +145,7 @@ module _ (N : Tables) (Q : Query) (ok : Valid N Q) (still : (i : ℕ) → i < wa
   turned-reached (Journey.by_hop i l a j) =
       let k : i < hop_count N = rw hops-same at l in
       here (sym (ap (λ (h : Hop). h.from) (hop-turned i k))) (sym (arrives-turned i k))
-      (Reached.by_hop i k ((in-time i k).1 a) (here (ap (λ (h : Hop). h.to) (hop-turned i k)) (leaves-turned i k) (turned-reached j)))
+      (Reached.by_hop i k ((in_time i k).1 a) (here (ap (λ (h : Hop). h.to) (hop-turned i k)) (leaves-turned i k) (turned-reached j)))
   turned-reached (Journey.wait h j) = Reached.wait h (turned-reached j)
 
   -- The courier's distances are the ordinary ones of the tables turned round.

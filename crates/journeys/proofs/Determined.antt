@@ -62,7 +62,7 @@ module _ (b : Lent) (Q : Query) (limit : ℕ) where
   pub record Accepted (a : Answer) : Type 0 where
     pub fine : (early b Q).number ≡ 0
     pub order : List Settled
-    pub is-order : IsOrder (tables b) Q order
+    pub is_order : IsOrder (tables b) Q order
     pub room : (room_up_to b Q order (min limit (length order))).number ≡ 0
     pub is : a ≡ accepted_after b Q order (min limit (length order))
 
@@ -82,7 +82,7 @@ module _ (b : Lent) (Q : Query) (limit : ℕ) where
     where
       over : (early b Q).number ≡ 0 → (l : List Settled) → IsOrder (tables b) Q l
           → (eqb (room_up_to b Q l (min limit (length l))).number 0 ≡ true) ⊎ (eqb (room_up_to b Q l (min limit (length l))).number 0 ≡ false) → a ≡ answer_over b Q l limit → Accepted a
-      over e l O (inl t) q = record { fine = e; order = l; is-order = O; room = eqb-true _ 0 t; is = q ∙ cond-true (accepted_after b Q l (min limit (length l))) _ t }
+      over e l O (inl t) q = record { fine = e; order = l; is_order = O; room = eqb-true _ 0 t; is = q ∙ cond-true (accepted_after b Q l (min limit (length l))) _ t }
       over e l O (inr t) q =
           let late = refused_late b (room_up_to b Q l (min limit (length l))) in
           absurd (eqb-false (room_up_to b Q l (min limit (length l))).number 0 t (ap (λ (y : Answer). y.refusal) (sym (q ∙ cond-false (accepted_after b Q l (min limit (length l))) late t)) ∙ r))

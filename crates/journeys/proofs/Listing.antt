@@ -22,6 +22,7 @@ part_in i a z p = go (test a z)
     go : {t : Bool} → Test a z t → In p (cond t [] (the_part i a z ∷ [])) → (p ≡ the_part i a z) × (a ≢ z)
     go (same e) j = absurd j
     go (other q) (inl e) = (e, q)
+    go (other q) (inr x'') = elim x'' [ ]
 
 pub in-part : (i a z : ℕ) → a ≢ z → In (the_part i a z) (part i a z)
 unfolding part

@@ -64,6 +64,7 @@ chain-fine [] e a i = absurd i
 chain-fine (b ∷ []) e a (inl q) = ap (λ (r : Refusal). r.number) q ∙ e
 chain-fine (b ∷ c ∷ l) e a (inl q) = ap (λ (r : Refusal). r.number) q ∙ (or-fine b (chain (c ∷ l)) e).0
 chain-fine (b ∷ c ∷ l) e a (inr i) = chain-fine (c ∷ l) (or-fine b (chain (c ∷ l)) e).1 a i
+chain-fine (b ∷ []) e a (inr i) = elim i [ ]
 
 pub chain-none : (l : List Refusal) → ((a : Refusal) → In a l → a.number ≡ 0) → (chain l).number ≡ 0
 chain-none [] h = refl

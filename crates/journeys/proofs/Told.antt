@@ -38,6 +38,7 @@ module _ (G : Network) (far : ℕ → ℕ) where
       here : (u : ℕ) (t : Bool) → held G far u ≡ t → In (row G far v) (cond t (row G far u ∷ []) []) → held G far v ≡ true
       here u true e (inl p) = let q : v ≡ u = ap (λ (x : Held). x.vertex) p in rw q e
       here u false e i = absurd i
+      here u true e (mathlib.Core.Logic.inr x'') = elim x'' [ ]
 
       there : (u : ℕ) × (u < G.vertices) × In (row G far v) (cond (held G far u) (row G far u ∷ []) []) → held G far v ≡ true
       there x = here x.0 (held G far x.0) refl x.2

@@ -1,6 +1,8 @@
 // The ids of a timetable, looked up in its lists: refusal 14.
 // Promises: at which place of a list the first line with an id stands, and the first line whose id is not listed, as the definitions of `feed` say.
 // Rests on: lists by their ids (`idtable`), lines and fields (`lines`, `rows`), refusals (`words`).
+#![tactic(auto)]
+
 ghost use Rattle.std.specs.Prelude.{◌≡◌, true, ◌||◌, ◌+◌, ◌*◌, ◌-◌, ◌<◌, ◌≤◌, length, take, drop};
 ghost use Rattle.feed.specs.Lines.{empty, lines_of, first_bad_line};
 ghost use Rattle.feed.specs.Fields.{row_of};

@@ -12,7 +12,7 @@ use lib.ListN.{length, get_or, take, drop, length-drop}
 use lib.Seq.{drop-cons, drop-drop}
 use borrow.Author.Tests.{eqb-true}
 use Rattle.journeys.proofs.Tests.{split, never, and_both, and_right, or-none}
-use Rattle.feed.specs.Lines.{ends_now_lem, onto, lines_of}
+use Rattle.feed.specs.Lines.{ends_now, onto, lines_of}
 use Rattle.lines.specs.Ends.{ends, width, end_width}
 
 or-right-of : {a b : Bool} → a ≡ false → (a || b) ≡ true → b ≡ true
@@ -25,8 +25,8 @@ at-lf : (b : ℕ) (r : List ℕ) → eqb b 10 ≡ true → First (b ∷ r)
 unfolding First lines_of width end_width ends
 at-lf b r e = rw (eqb-true b 10 e) refl
 
-at-crlf : (b : ℕ) (r : List ℕ) → eqb b 10 ≡ false → (eqb b 13 && ends_now_lem r) ≡ true → First (b ∷ r)
-unfolding First lines_of width end_width ends ends_now_lem
+at-crlf : (b : ℕ) (r : List ℕ) → eqb b 10 ≡ false → (eqb b 13 && ends_now r) ≡ true → First (b ∷ r)
+unfolding First lines_of width end_width ends ends_now
 at-crlf b [] e q = never (and_both (eqb b 13) false q).1 refl
 at-crlf b (c ∷ r) e q = rw (eqb-true b 13 (and_both _ (eqb c 10) q).0, eqb-true c 10 (and_both (eqb b 13) _ q).1) refl
 
@@ -34,12 +34,12 @@ ends_now_lem : (b : ℕ) (r : List ℕ) → ends (b ∷ r) ≡ true → First (b
 unfolding ends
 ends_now_lem b r e = ⊎_elim (at-lf b r) (λ n. at-crlf b r n (or-right-of n e)) (split (eqb b 10))
 
-first_step : (b : ℕ) (r : List ℕ) → ends (b ∷ r) ≡ false → (eqb b 10 ≡ false) × ((eqb b 13 && ends_now_lem r) ≡ false)
+first_step : (b : ℕ) (r : List ℕ) → ends (b ∷ r) ≡ false → (eqb b 10 ≡ false) × ((eqb b 13 && ends_now r) ≡ false)
 unfolding ends
-first_step b r e = or-none (eqb b 10) (eqb b 13 && ends_now_lem r) e
+first_step b r e = or-none (eqb b 10) (eqb b 13 && ends_now r) e
 
 last_byte : (b : ℕ) → ends (b ∷ []) ≡ false → First (b ∷ [])
-unfolding First lines_of width end_width ends_now_lem onto
+unfolding First lines_of width end_width ends_now onto
 last_byte b e = rw ((first_step b [] e).0, and_right (eqb b 13) refl, e) refl
 
 further : (b : ℕ) (r : List ℕ) → ends (b ∷ r) ≡ false → First r → First (b ∷ r)

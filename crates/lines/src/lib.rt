@@ -1,6 +1,8 @@
 // The lines of a text, and the fields of a line.
 // Promises: where a line and its end stop, and where a field begins or a quote breaks the line, each as the definitions of `feed` read it.
 // Rests on: `feed` alone. A plain field and a quoted field hand over to one another, at most 32 fields deep; a loop goes on from there.
+#![tactic(auto)]
+
 ghost use Rattle.std.specs.Prelude.{◌≡◌, true, false, ℕ, ◌+◌, ◌<◌, ◌≤◌, min, length, drop};
 ghost use Rattle.lines.specs.Ends.{ends, width, end_width};
 ghost use Rattle.lines.specs.Passing.{opens_at, plain_stop, quoted_stop, stand};
@@ -8,7 +10,7 @@ ghost use Rattle.lines.specs.Spans.{span_at};
 
 // Where the reading of a line stands after some fields: the place where the next begins; or the line is over, or a quote breaks it, with so many
 // fields fewer than were to be passed.
-#[derive(Drop)]
+#[derive(Clone, Copy)]
 pub enum Stand {
     Begins(usize),
     Ended(usize),
@@ -16,7 +18,7 @@ pub enum Stand {
 }
 
 // The bytes of a field, without the quotes around it.
-#[derive(Drop)]
+#[derive(Clone, Copy)]
 pub struct Span {
     pub start: usize,
     pub stop: usize,

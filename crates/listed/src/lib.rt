@@ -1,6 +1,8 @@
 // The list of record numbers by "from", judged: refusal 22.
 // Promises: the first place that differs from the right list, or none; the list and the tables are only read.
 // Rests on: where records leave (`listing`, `records`) and how many (`starts`), numbers in bytes and refusals (`words`). It has no array of its own.
+#![tactic(auto)]
+
 ghost use Rattle.std.specs.Prelude.{◌≡◌, true, ℕ, ◌+◌, ◌*◌, ◌/◌, ◌<◌, ◌≤◌, length};
 ghost use Rattle.journeys.specs.Tables.{tables_of};
 ghost use Rattle.journeys.specs.Records.{record_count};
@@ -23,7 +25,7 @@ const VERTEX_SIZE: usize = 12;
 const PLACES: usize = 512;
 
 // How many hops wait, or that a number is wrong.
-#[derive(Drop)]
+#[derive(Clone, Copy)]
 enum Waiting {
     Many(usize),
     Wrong,

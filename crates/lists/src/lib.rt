@@ -1,6 +1,8 @@
 // A list of records that name vertices: the first word of each is a vertex, the second a distance. No vertex may stand twice.
 // Promises: the first bad entry is found as the definition says, in two passes over the list, and the lent marks are zero afterwards.
 // Rests on: the numbers of `words` and the set of `marks`, one half of the vertices at a time.
+#![tactic(auto)]
+
 ghost use Rattle.std.specs.Prelude.{◌≡◌, true, ◌||◌, ◌&&◌, not, ℕ, ◌+◌, ◌*◌, ◌/◌, ◌%◌, ◌<◌, ◌≤◌, eqb, ltb, length, replicate};
 ghost use Rattle.journeys.specs.Bytes.{be32};
 ghost use Rattle.marks.specs.Marks.{bit};
@@ -9,7 +11,7 @@ ghost use Rattle.journeys.specs.Lists.{allows, list_refusal};
 ghost use Rattle.lists.specs.Passes.{in_half, half_ok, First};
 
 // Every entry is good, or the first that is not.
-#[derive(Drop)]
+#[derive(Clone, Copy)]
 pub enum Judged {
     Good,
     Bad(u32),

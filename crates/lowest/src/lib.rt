@@ -1,6 +1,8 @@
 // Of two refusals the one at the lower line: a line that two tests judge is refused where the first of them fails.
 // Promises: the refusal of both tests together, from those of each.
 // Rests on: refusals (`words`).
+#![tactic(auto)]
+
 ghost use Rattle.std.specs.Prelude.{◌≡◌};
 ghost use Rattle.words.specs.Told.{told};
 ghost use Rattle.lowest.specs.Lower.{lower_of};

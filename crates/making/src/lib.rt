@@ -1,6 +1,8 @@
 // The list of records by "from" as an operation over bytes: the tables are judged as by the check, then the list is made.
 // Promises: for all byte strings of all lengths the refusal or every byte of the list; a refusal leaves the target as it was; the lent scratch is zero afterwards.
 // Rests on: the check (`audit`), the making (`listing`), refusals by number and place (`words`).
+#![tactic(auto)]
+
 ghost use Rattle.std.specs.Prelude.{◌≡◌, ◌≤◌, length, replicate};
 ghost use Rattle.journeys.specs.Tables.{tables_of};
 ghost use Rattle.journeys.specs.Refusals.{table_lengths};

@@ -1,6 +1,8 @@
 // The marks of the mode with a boarding time: a hop is marked once a ride that begins with it alights in time at a settled vertex.
 // Promises: a mark is set, the hop's offer is made where its "to" is settled, and the hop is kept to be followed; all hops that alight in time at a vertex are marked.
 // Rests on: the sets of `bitset`, the map of `improving`, the hops of `records` and `trips`, the theory of the search in `boarding`.
+#![tactic(auto)]
+
 ghost use Rattle.std.specs.Prelude.{◌≡◌, ◌/◌, ◌<◌, ◌≤◌, length};
 ghost use Rattle.journeys.specs.Bytes.{clocked};
 ghost use Rattle.journeys.specs.Tables.{hop, hop_at, hop_count};
@@ -21,7 +23,7 @@ use words::{not_after, ticks_before};
 use worktable::Table;
 
 // What the run is asked: the size of a hop, the query, the boarding time in seconds, and D.
-#[derive(Drop)]
+#[derive(Clone, Copy)]
 pub struct Asked {
     pub size: usize,
     pub query: Query,
@@ -30,7 +32,7 @@ pub struct Asked {
 }
 
 // The table of the map, how many words the stack has, and from which hop on the marked ones are to be followed.
-#[derive(Drop)]
+#[derive(Clone, Copy)]
 pub struct Pending {
     pub table: Table,
     pub height: usize,

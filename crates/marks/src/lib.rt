@@ -1,6 +1,8 @@
 // A lent array of 2,048 words as a set of numbers below 32,768: for the vertices of one half, or for any list in which no vertex may stand twice.
 // Promises: to mark a number sets its bit and no other, and tells whether it was marked; to clear makes every word zero.
 // Rests on: nothing but the words themselves.
+#![tactic(auto)]
+
 ghost use Rattle.std.specs.Prelude.{◌≡◌, cond, ◌||◌, ℕ, ◌<◌, eqb, length, replicate};
 ghost use Rattle.marks.specs.Marks as Marks;
 ghost use Rattle.marks.specs.Marks.{bit};

@@ -1,6 +1,8 @@
 // What the records of a settled vertex's row do to the working table, in either direction, where a slot is free for each of them that brings an entry.
 // Promises: the table then holds exactly the map of the definitions.
 // Rests on: the row of `directed`, one look at an entry by `worktable`.
+#![tactic(auto)]
+
 ghost use Rattle.std.specs.Prelude.{◌≡◌, false, not, ◌-◌, ◌/◌, ◌<◌, ◌≤◌, length};
 ghost use Rattle.journeys.specs.Counting.{one};
 ghost use Rattle.worktable.specs.Map.{absent, known, distance_limit, Figure, put, swept, size};
@@ -15,7 +17,7 @@ use words::{Ticks, lesser};
 use worktable::{Passed, Table, drop, insert, pass};
 
 // What a step answers: the table afterwards, or that the step has no room in it.
-#[derive(Drop)]
+#[derive(Clone, Copy)]
 pub enum Arrived {
     Fits(Table),
     NoRoom,

@@ -1,6 +1,8 @@
 // Hop tables moved between records of 16 bytes and records of 20, which end in a trip number.
 // Promises: every byte of the target, or a refusal that leaves the target as it was. What the hops say is not judged.
 // Rests on: the test of a table's length (`audit`), numbers in bytes and refusals (`words`).
+#![tactic(auto)]
+
 ghost use Rattle.std.specs.Prelude.{◌≡◌, true, ◌+◌, ◌*◌, ◌/◌, ◌<◌, ◌≤◌, eqb, length, take, drop};
 ghost use Rattle.journeys.specs.Refusals.{first_bad};
 ghost use Rattle.words.specs.Told.{told};

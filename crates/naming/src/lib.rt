@@ -1,6 +1,8 @@
 // The lines of a list by their ids, read line by line.
 // Promises: whether the line at a place has an id, and the place of the first line that has it, as the definitions of `feed` say.
 // Rests on: lines and fields (`lines`), bytes compared (`header`).
+#![tactic(auto)]
+
 ghost use Rattle.std.specs.Prelude.{◌≡◌, true, ◌-◌, ◌<◌, ◌≤◌, length, take, drop};
 ghost use Rattle.feed.specs.Fields.{same};
 ghost use Rattle.naming.specs.Named.{line_at, first_bytes, found_from, leads, above};

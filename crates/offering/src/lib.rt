@@ -1,6 +1,8 @@
 // The offers that the records to a vertex make when it is settled, in the mode with a boarding time: its walks, and of its hops those that are marked already.
 // Promises: the figures of the map are then the least that was offered within D, of every vertex that is not settled.
 // Rests on: the map of `improving`, the offers of marked hops (`marking`), the readers of `records`.
+#![tactic(auto)]
+
 ghost use Rattle.std.specs.Prelude.{◌≡◌, true, ◌+◌, ◌<◌, ◌≤◌, length};
 ghost use Rattle.journeys.specs.Tables.{walk, hop, walk_count, hop_count};
 ghost use Rattle.journeys.specs.Query.{allowed, walk_ticks};

@@ -1,6 +1,8 @@
 // Step 0 of the run, in either direction: the seeds are entered into the working table.
 // Promises: the map of the seeds, or that there is no room for them.
 // Rests on: the working table (`worktable`), the query's road (`parts`), what is due to a vertex (`directed`), the readers of `records`.
+#![tactic(auto)]
+
 ghost use Rattle.std.specs.Prelude.{◌≡◌, cond, ◌/◌, ◌%◌, ◌<◌, ◌≤◌, min, length};
 ghost use Rattle.opening.specs.Seeds.{from_ticks_of, to_ticks_of, at_end, to_is_seed, wait_on, sent_ticks, from_is_seed, RoadFits, PairFits, pair_of, pair_map, no_records, SeededIs, OpenIs};
 
@@ -13,14 +15,14 @@ use words::{Offset, Ticks, walked, word_at};
 use worktable::Table;
 
 // The table with the seeds in it, or that it has too few slots.
-#[derive(Drop)]
+#[derive(Clone, Copy)]
 enum Seeded {
     At(Table),
     NoRoom,
 }
 
 // The two seeds of a road: one that is sure, and another, which is one too if `two` says so; and the ticks of both.
-#[derive(Drop)]
+#[derive(Clone, Copy)]
 struct Pair {
     first: u32,
     near: Ticks,

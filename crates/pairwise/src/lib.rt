@@ -1,6 +1,8 @@
 // Refusals 15 and 16 by comparing stops in pairs: for texts and lists that are too long for records.
 // Promises: which stop is the first whose sequence its trip repeats, which is the first that is not in time, and which follow each other, as the definitions of `feed` say.
 // Rests on: stops by their numbers (`reread`), refusals (`words`).
+#![tactic(auto)]
+
 ghost use Rattle.std.specs.Prelude.{◌≡◌, Bool, not, ℕ, ◌+◌, ◌<◌, ◌≤◌, length};
 ghost use Rattle.feed.specs.Lines.{place};
 ghost use Rattle.feed.specs.Trips.{stop, some, next, too_soon, once, in_time, first_bad_stop};

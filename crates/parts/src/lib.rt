@@ -1,6 +1,8 @@
 // The covered parts of walk records, listed in the part buffer vertex by vertex: those that lead to the query place, and those that the courier reaches from it.
 // Promises: the parts of step 0, and those at a listed vertex, stand behind the ones already there, or the buffer has no room for all of them.
 // Rests on: the readers and the part writer of `records`, which is lent the unfilled rest of the buffer.
+#![tactic(auto)]
+
 ghost use Rattle.std.specs.Prelude.{◌≡◌, ℕ, ◌+◌, ◌-◌, ◌*◌, ◌/◌, ◌<◌, ◌≤◌, max, min, length};
 ghost use Rattle.journeys.specs.Bytes.{be32};
 ghost use Rattle.journeys.specs.Tables.{wait_of, walk_at};
@@ -13,7 +15,7 @@ use words::{Offset, Ticks, word_at};
 
 // The query's road: its record, its twin, the offset of the query place on each of the two, and what is waited for the place there; and the speed
 // that makes ticks of waits.
-#[derive(Drop)]
+#[derive(Clone, Copy)]
 pub struct Road {
     pub walk: u32,
     pub twin: u32,
@@ -25,7 +27,7 @@ pub struct Road {
 }
 
 // How many parts are listed, or that there is no room for them.
-#[derive(Drop)]
+#[derive(Clone, Copy)]
 pub enum Listed {
     Fits(usize),
     NoRoom,

@@ -1,6 +1,8 @@
 // The records that arrive at a settled vertex as one row: of each record the vertex that it leaves, and what it offers to that vertex.
 // Promises: both are what the definitions say of that record; an offer is none or a distance that an entry can have.
 // Rests on: the readers and conversions of `records`, the offers of `journeys`.
+#![tactic(auto)]
+
 ghost use Rattle.std.specs.Prelude.{◌≡◌, ◌/◌, ◌<◌, ◌≤◌, length};
 ghost use Rattle.journeys.specs.Bytes.{clocked};
 ghost use Rattle.journeys.specs.Tables.{hop_at};
@@ -13,7 +15,7 @@ use records::{hop_at, walk_ticks};
 use words::{NONE, Seconds, Ticks, not_after, ticks_before, word_at};
 
 // How many walks and hops arrive at the vertex, the size of a hop, the distance of the vertex, what of the query an offer asks, and D. The records themselves are a part of the walk table and a part of the hop table.
-#[derive(Drop)]
+#[derive(Clone, Copy)]
 pub struct Arriving {
     pub walks: usize,
     pub hops: usize,

@@ -2,6 +2,8 @@
 // Promises: for any bytes the answer that the definitions allow, and every byte of the report and of the two lent buffers.
 // Rests on: the refusals and the tally of `evening`, the run (`search`), which reads tables that were judged once.
 // The report is the only thing kept from run to run; a settled list is read back as soon as it stands.
+#![tactic(auto)]
+
 ghost use Rattle.std.specs.Prelude.{◌≡◌, ◌+◌, ◌/◌, ◌≤◌, length, replicate};
 ghost use Rattle.journeys.specs.Bytes.{clocked};
 ghost use Rattle.journeys.specs.Answers.{early, Allowed};

@@ -1,6 +1,8 @@
 // Many queries over the same tables, which are judged once.
 // Promises: the answers, shares and held bytes of as many single runs, one after the other, for any bytes.
 // Rests on: refusals 1 to 6 (`audit`, `intake`) once, refusal 7 for each query, and the run behind them (`search`).
+#![tactic(auto)]
+
 ghost use Rattle.std.specs.Prelude.{◌≡◌, List, ℕ, ◌*◌, ◌/◌, ◌%◌, ◌≤◌, length, take, replicate};
 ghost use Rattle.journeys.specs.Tables.{tables_of};
 ghost use Rattle.journeys.specs.Refusals.{or_else, query_refusal};

@@ -3,6 +3,8 @@
 // walks that are alone and hops have to take one off the claim of the vertex that they leave. Where most walks are alone, all of them do.
 // Promises: every vertex below the answer is good. "No" costs time alone: the exact check goes on from there.
 // Rests on: the counters of `tally`, the readers of `records`, the law of `twins`. It has no array of its own.
+#![tactic(auto)]
+
 ghost use Rattle.std.specs.Prelude.{◌≡◌, ℕ, ◌+◌, ◌-◌, ◌*◌, ◌/◌, ◌<◌, ◌≤◌, true, false, not, ◌≢◌, List, length, ◌==◌};
 ghost use Rattle.journeys.specs.Counting.{none, one, count};
 ghost use Rattle.journeys.specs.Tables.{tables_of};
@@ -240,7 +242,7 @@ fn claims(
 }
 
 // The groups that are laid, and the words that they take.
-#[derive(Drop)]
+#[derive(Clone, Copy)]
 struct Counters {
     groups: usize,
     words: usize,

@@ -1,6 +1,8 @@
 // The program `reach`: a job on standard input, its text on standard output, with room lent for all and no step limit.
 // Promises: the text is that of RULES 14, for every input (`Says`).
 // Rests on: the job reader (`job`), the run (`search`), the parts of its list (`covering`), the printed text (`report`), and the contracts of the C library's read and write.
+#![tactic(auto)]
+
 ghost use Rattle.std.specs.Prelude.{◌≡◌, List, ℕ, ◌≤◌, length, take};
 ghost use Rattle.io.specs.Counts.{IsPrefixLen};
 ghost use Rattle.records.specs.Asked.{query_of};

@@ -2,6 +2,8 @@
 // Promises: the refusals in their order, as the definitions have them. One pass over the list fills an own array of 256 KB with the distance listed for each vertex, which
 // also tells a vertex that stands twice; only where that pass finds something wrong is the rest read again, since every 25 comes before any 26.
 // Rests on: the rows and offers of `passing`, the readers of `records`, and 25 and 26 of `entries`.
+#![tactic(auto)]
+
 ghost use Rattle.std.specs.Prelude.{◌≡◌, ◌≢◌, ◌≤◌, ◌<◌, replicate};
 ghost use Rattle.journeys.specs.Counting.{none};
 ghost use Rattle.journeys.specs.VendorLists.{size, no_better, backs, far_before, bought_refusal};
@@ -16,7 +18,7 @@ use passing::Arriving;
 use words::{NONE, Refusal, Ticks, refused, word_at};
 
 // The vertices of the query's road with the distances that they have as seeds; `back` is none where "to" is no seed.
-#[derive(Drop)]
+#[derive(Clone, Copy)]
 pub struct Seeds {
     pub from: u32,
     pub near: Ticks,

@@ -1,6 +1,8 @@
 // The records of RULES 3 in their bytes: readers and writers; and the query and the answer as the calls hand them on.
 // Promises: what is read is what `journeys` decodes, a record is refused exactly as RULES 12 says, and what is written reads back.
 // Rests on: the numbers of `words` and the definitions of `journeys`.
+#![tactic(auto)]
+
 ghost use Rattle.std.specs.Prelude.{◌≡◌, true, [], ◌++◌, ℕ, ◌+◌, ◌-◌, ◌*◌, ◌/◌, ◌<◌, ◌≤◌, eqb, leb, length, drop};
 ghost use Rattle.journeys.specs.Bytes.{clocked, midnight};
 ghost use Rattle.journeys.specs.Tables.{len_of, wait_of, vertex_at, walk_at, hop_at, tables_of};
@@ -20,7 +22,7 @@ use words::{
     word_at,
 };
 
-#[derive(Drop)]
+#[derive(Clone, Copy)]
 pub struct Vertex {
     pub first_walk: u32,
     pub first_hop: u32,
@@ -28,7 +30,7 @@ pub struct Vertex {
     pub zeros: u32,
 }
 
-#[derive(Drop)]
+#[derive(Clone, Copy)]
 pub struct Walk {
     pub from: u32,
     pub to: u32,
@@ -37,7 +39,7 @@ pub struct Walk {
     pub twin: u32,
 }
 
-#[derive(Drop)]
+#[derive(Clone, Copy)]
 pub struct Hop {
     pub from: u32,
     pub to: u32,
@@ -46,33 +48,33 @@ pub struct Hop {
 }
 
 // What a reader answers: the good record, or the refusal of it with its place.
-#[derive(Drop)]
+#[derive(Clone, Copy)]
 pub enum VertexRead {
     Good(Vertex),
     Bad(u32),
 }
 
-#[derive(Drop)]
+#[derive(Clone, Copy)]
 pub enum WalkRead {
     Good(Walk),
     Bad(u32),
 }
 
-#[derive(Drop)]
+#[derive(Clone, Copy)]
 pub enum HopRead {
     Good(Hop),
     Bad(u32),
 }
 
 // The two tables that hold arriving records.
-#[derive(Drop)]
+#[derive(Clone, Copy)]
 pub enum Kind {
     Walks,
     Hops,
 }
 
 // A walk record, an offset on it, the arrival, the duration in seconds, the speed in decimetres a second.
-#[derive(Drop)]
+#[derive(Clone, Copy)]
 pub struct Query {
     pub walk: u32,
     pub offset: Offset,
@@ -82,7 +84,7 @@ pub struct Query {
 }
 
 // The six numbers of an answer.
-#[derive(Drop)]
+#[derive(Clone, Copy)]
 pub struct Answer {
     pub refusal: u32,
     pub place: u32,

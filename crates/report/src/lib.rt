@@ -1,6 +1,8 @@
 // The printed text of the program `reach`: lines of words and decimal numbers, each ended by LF.
 // Promises: every byte of the text of an answer and of a faulty job, where there is room for it, and otherwise that nothing is written.
 // Rests on: bytes copied into a buffer (`copying`), the words of `words`, the decimal digits of `io`.
+#![tactic(auto)]
+
 ghost use Rattle.std.specs.Prelude.{◌≡◌, true, [], ◌∷◌, ◌++◌, ◌+◌, ◌*◌, ◌≤◌, length};
 ghost use Rattle.io.specs.Counts.{IsPrefixLen};
 ghost use Rattle.copying.specs.Write.{over, Wrote};

@@ -1,6 +1,8 @@
 // The stops of a timetable, each read from its line when it is asked for: for texts and lists that are too long for records.
 // Promises: how many stops there are, and each by its number, as the definitions of `feed` read them; the trip by its place in the trip list.
 // Rests on: the stop of a line (`halts`, `stoplist`), lists by their ids (`known`), lines (`lines`).
+#![tactic(auto)]
+
 ghost use Rattle.std.specs.Prelude.{◌≡◌, true, ℕ, ◌+◌, ◌*◌, ◌-◌, ◌<◌, ◌≤◌, length, take, drop};
 ghost use Rattle.feed.specs.Lines.{lines_of};
 ghost use Rattle.feed.specs.Trips.{stop};
@@ -9,7 +11,7 @@ ghost use Rattle.reread.specs.Read.{stop_is, stop_read, stops_here, many_lines, 
 
 use stoplist::Columns;
 
-#[derive(Drop)]
+#[derive(Clone, Copy)]
 pub struct Halt {
     pub line: usize,
     pub trip: usize,

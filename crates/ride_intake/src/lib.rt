@@ -1,6 +1,8 @@
 // The refusals of a run with a boarding time before its steps (RULES 29): 1, of the tables and of the list's buffer, 2 to 6, 7 with the boarding time as its last place, and 18.
 // Promises: for any bytes, query and boarding time the first reason, or none. Nothing lent is written.
 // Rests on: the chain's tests in `audit` and `intake`; its own are the list's buffer, the boarding time and the scratch.
+#![tactic(auto)]
+
 ghost use Rattle.std.specs.Prelude.{◌≡◌, [], ◌∷◌, ◌*◌, leb, length};
 ghost use Rattle.journeys.specs.Tables.{tables_of, hop_count};
 ghost use Rattle.journeys.specs.Refusals.{chain, unless, whole_of, table_lengths, contents, query_refusal};

@@ -1,6 +1,8 @@
 // Step 0 of a run with a boarding time: the seeds stand in its map.
 // Promises: the known distance of every vertex is that of its seed, and the table is in order.
 // Rests on: the seeds of the query's road (`parts`, `opening`), the map of `improving`.
+#![tactic(auto)]
+
 ghost use Rattle.std.specs.Prelude.{◌≡◌, length};
 ghost use Rattle.journeys.specs.Records.{seed};
 ghost use Rattle.improving.specs.Figures.{Ready, figures};

@@ -1,6 +1,8 @@
 // The steps of the search with a boarding time, up to its limit: the foremost vertex is settled, the records to it make their offers, the hops that alight there are marked, and with them those that stay for them.
 // Promises: as many steps as the limit and the order of settling allow, each listed, and whether that is all; or the first step after which the list is larger than lent.
 // Rests on: the offers of `offering`, the marks of `marking` and `spreading`, the theory of the search in `boarding`.
+#![tactic(auto)]
+
 ghost use Rattle.std.specs.Prelude.{◌≡◌, length};
 ghost use Rattle.marking.specs.Setting.{tables, query, mode, Judged};
 ghost use Rattle.marking.specs.Pends.{state};
@@ -16,7 +18,7 @@ use words::Ticks;
 use worktable::Nearest;
 
 // How many vertices are listed, and whether that is all (1 or 0); or the step after which the list is larger than lent.
-#[derive(Drop)]
+#[derive(Clone, Copy)]
 pub enum Ridden {
     Done(usize, u32),
     Full(usize),

@@ -1,6 +1,8 @@
 // The run with a boarding time, RULES 29.
 // Promises: for any bytes, query, boarding time and limit the answer that the definitions allow, and every byte of the list's buffer and of the scratch.
 // Rests on: `ride_intake` for the refusals of the input, `arranging` for the hops in the scratch, `ride_opening` for step 0, `ridesteps` for the steps, `ending` for a list that is larger than lent.
+#![tactic(auto)]
+
 ghost use Rattle.std.specs.Prelude.{◌≡◌, ◌*◌, ◌<◌, ◌≤◌, length};
 ghost use Rattle.records.specs.Asked.{query_of};
 ghost use Rattle.records.specs.Columns.{records_in};

@@ -17,7 +17,7 @@ use Rattle.lines.specs.Rows.{undoubled}
 use Rattle.lines.specs.Spans.{quotes, paired}
 use Rattle.values.specs.declared.Number.TheVariants.{Value, Bad}
 use Rattle.values.specs.declared.Time.TheVariants.{Seconds, Bad as None}
-use Rattle.values.specs.Readings.{number_read_lem, time_read}
+use Rattle.values.specs.Readings.{number_read, time_read}
 use Rattle.lines.proofs.Spans.{quoteless, plain-test}
 
 -- a quote is no digit
@@ -48,8 +48,8 @@ empty-length [] = refl
 empty-length (b ∷ r) = sym (eqb-suc-zero (length r))
 
 -- What is read as a number is the same of a value and of its bytes.
-pub number_read_lem : (most : ℕ) (f : List ℕ) → paired f ≡ true → number_read_lem most (undoubled f) ≡ number_read_lem most f
-unfolding number_read_lem
+pub number_read_lem : (most : ℕ) (f : List ℕ) → paired f ≡ true → number_read most (undoubled f) ≡ number_read most f
+unfolding number_read
 number_read_lem most f p =
     ⊎_elim
     (λ (e : number most f ≡ true). ap (λ g. cond (number most g) (Value (value_of g)) Bad) (quoteless f (number-quoteless most f e)))

@@ -1,6 +1,8 @@
 // The fields of a line by their numbers.
 // Promises: whether a line has so many fields with its quotes in order, where a field begins and what it says as a number, as the definitions of `feed` read it; and where five columns begin, by one pass over the line.
 // Rests on: places in a line (`lines`), numbers and times (`values`).
+#![tactic(auto)]
+
 ghost use Rattle.std.specs.Prelude.{◌≡◌, cond, ◌&&◌, ◌+◌, ◌-◌, ◌<◌, ◌≤◌, eqb, length, take, drop};
 ghost use Rattle.feed.specs.Fields.{row_of, field};
 ghost use Rattle.values.specs.Readings.{number_read};
@@ -10,7 +12,7 @@ use lines::{Span, Stand};
 use values::Number;
 
 // Where the five columns of a line begin, if it has as many fields as are wanted and its quotes are in order.
-#[derive(Drop)]
+#[derive(Clone, Copy)]
 pub struct Places {
     pub fits: bool,
     pub trip: usize,

@@ -2,6 +2,8 @@
 // Promises: for any bytes, query and limit the answer that the definitions allow, and every byte of the two lent buffers.
 // Rests on: `intake` and `courier_intake` for the refusals of the input, `opening` for step 0, `steps` for those behind it, `ending` for what the buffers hold at last.
 // From step to step there are the held buffer, plain numbers and the list written, which is not read back.
+#![tactic(auto)]
+
 ghost use Rattle.std.specs.Prelude.{◌≡◌, cond, ℕ, ◌/◌, ◌%◌, ◌≤◌, length, replicate};
 ghost use Rattle.journeys.specs.Tables.{tables_of};
 ghost use Rattle.journeys.specs.Answers.{early, Allowed};

@@ -1,6 +1,8 @@
 // The records of a row where room is scarce and the row is short, in either direction: all that are held are met, and only then the new ones that stay.
 // Promises: the table then holds exactly the map of the definitions, or that map has no room; the marks are as before.
 // Rests on: the row of `directed`, one look at an entry by `worktable`, a new entry where there is room by `blocks`, the clearing of `marks`.
+#![tactic(auto)]
+
 ghost use Rattle.std.specs.Prelude.{◌≡◌, ◌≢◌, true, not, cond, ◌&&◌, ℕ, ◌/◌, ◌<◌, ◌≤◌, eqb, ltb, length, get_or, set, replicate};
 ghost use Rattle.journeys.specs.Counting.{one};
 ghost use Rattle.worktable.specs.Map as map;

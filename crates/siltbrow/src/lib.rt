@@ -1,6 +1,8 @@
 // What the map server in C calls: include/siltbrow.h declares it.
 // Promises: the numbers of RULES 13, for every byte string of every length; the tables are only read.
 // Rests on: `audit`, whose scratch it lends, `search`, which has the run, `queries`, which has many runs, `patients`, which has an evening of them, `covering`, which has the parts in either direction, `making`, which has the courier's list, `riding`, which has the run with a boarding time, `frame`, `moves`, `vendors`, and `timetable`.
+#![tactic(auto)]
+
 mod asking;
 mod changing;
 mod dispatch;

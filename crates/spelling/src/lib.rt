@@ -1,6 +1,8 @@
 // A hop of 20 bytes, written; and the number of a trip by the place of its line in the list.
 // Promises: every byte of the slice, as the definitions of `feed` write a hop.
 // Rests on: the trip list by its places (`naming`), words (`words`).
+#![tactic(auto)]
+
 ghost use Rattle.std.specs.Prelude.{◌≡◌, true, ◌++◌, ◌+◌, ◌-◌, ◌<◌, ◌≤◌, length, take, drop};
 ghost use Rattle.journeys.specs.Counting.{none};
 ghost use Rattle.journeys.specs.Bytes.{word};

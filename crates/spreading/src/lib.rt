@@ -1,6 +1,8 @@
 // Who stays in the vehicle for a marked hop is marked, too: the pending hops are followed, one after another, until none is left.
 // Promises: with a marked hop all hops are marked from which one stays for it; what is true inside a step stays so, and it ends.
 // Rests on: the marks and the pending hops of `marking`, the hops by trip and arrival of `arranging`.
+#![tactic(auto)]
+
 ghost use Rattle.std.specs.Prelude.{◌≡◌, true, ◌<◌, ◌≤◌};
 ghost use Rattle.journeys.specs.Tables.{hop, hop_count};
 ghost use Rattle.marking.specs.Setting.{tables, query, mode, Judged};

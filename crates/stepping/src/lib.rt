@@ -1,6 +1,8 @@
 // One step of the run, in either direction: the foremost vertex of the working table is settled, and its row is passed, the records that arrive at it or for the courier those that leave it.
 // Promises: the map after the step and the record that it lists, or the lowest number that lacks room.
 // Rests on: the working table (`worktable`), `arrivals`, the readers and writers of `records`, the places of `stretches`.
+#![tactic(auto)]
+
 ghost use Rattle.std.specs.Prelude.{◌≡◌, ◌+◌, ◌/◌, ◌<◌, ◌≤◌, length, replicate};
 ghost use Rattle.journeys.specs.Counting.{none};
 ghost use Rattle.worktable.specs.Map.{state_of, distance_of};
@@ -20,14 +22,14 @@ use words::{Seconds, Ticks};
 use worktable::{Nearest, Table};
 
 // Where the run stands: the table, and how many vertices are listed.
-#[derive(Drop)]
+#[derive(Clone, Copy)]
 pub struct Progress {
     pub table: Table,
     pub settled: usize,
 }
 
 // One step further, or the number of the refusal.
-#[derive(Drop)]
+#[derive(Clone, Copy)]
 pub enum Stepped {
     Next(Progress),
     Full(u32),

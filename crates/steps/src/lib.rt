@@ -1,6 +1,8 @@
 // The steps of a run behind step 0, up to its limit, in either direction.
 // Promises: as many steps as the limit and the order of settling allow, and whether that is all; or the first step that lacks room.
 // Rests on: one step (`stepping`), what it means for the held map (`heldmap`).
+#![tactic(auto)]
+
 ghost use Rattle.std.specs.Prelude.{◌≡◌, ◌≤◌, length, replicate};
 ghost use Rattle.journeys.specs.Tables.{tables_of};
 ghost use Rattle.journeys.specs.Query as query;
@@ -16,7 +18,7 @@ use words::Ticks;
 use worktable::{Nearest, Table};
 
 // The end of the steps: how far they went and whether nothing is left, or the refusal and its step.
-#[derive(Drop)]
+#[derive(Clone, Copy)]
 pub enum Ended {
     Done(Progress, u32),
     Refused(u32, usize),

@@ -1,6 +1,8 @@
 // The stops of a timetable as records of 20 bytes, one for each line that is not empty, in the order of the lines.
 // Promises: each record is the stop that the definitions of `feed` read in its line, the trip by its place in the trip list.
 // Rests on: the stop of a line (`halts`), lists by their ids (`known`), the records of `sorting`.
+#![tactic(auto)]
+
 ghost use Rattle.std.specs.Prelude.{◌≡◌, true, cond, ℕ, ◌+◌, ◌*◌, ◌-◌, ◌<◌, ◌≤◌, ◌^◌, length, take, drop, set, get_or};
 ghost use Rattle.journeys.specs.Counting.{none, one};
 ghost use Rattle.journeys.specs.Refusals.{fine};
@@ -15,7 +17,7 @@ use rows::Places;
 use sorting::put;
 
 // How many fields a line has, and in which of them the five columns stand.
-#[derive(Drop)]
+#[derive(Clone, Copy)]
 pub struct Columns {
     pub count: usize,
     pub trip: usize,

@@ -1,6 +1,8 @@
 // The lines of a timetable, line 1 with its columns and each other a stop of a trip, judged: refusals 12 and 13.
 // Promises: which of them the text has first and at which line, as the definitions of `feed` say.
 // Rests on: lines (`lines`), the fields of a line (`rows`), the columns of line 1 (`header`), refusals (`words`).
+#![tactic(auto)]
+
 ghost use Rattle.std.specs.Prelude.{◌≡◌, true, ◌&&◌, ◌||◌, ◌+◌, ◌-◌, ◌<◌, ◌≤◌, eqb, length, take, drop};
 ghost use Rattle.feed.specs.Lines.{empty, lines_of, first_bad_line};
 ghost use Rattle.feed.specs.Fields.{row_of, field};

@@ -1,6 +1,8 @@
 // Where the records of a vertex stand in the right list of records by "from".
 // Promises: the first place, and how many records leave the vertex; or how many walks, which stand first. A guess of the first place is tested by one record; else it is told from a vertex near by where tables are even, for which one record is read, and else sought by halves, for which at most 20 are; the first hop is sought by the list alone.
 // Rests on: where records leave (`listing`) and how many (`starts`), the size of a walk (`records`), numbers in bytes (`words`).
+#![tactic(auto)]
+
 ghost use Rattle.std.specs.Prelude.{◌≡◌, true, ℕ, ◌*◌, ◌/◌, ◌<◌, ◌≤◌, length};
 ghost use Rattle.listing.specs.Places.{total, from_of, below, Sound};
 ghost use Rattle.starts.specs.Sums.{sums};
@@ -12,7 +14,7 @@ use starts::{between, departing_of};
 use words::{lesser, word_at};
 
 // Where the numbers of a vertex begin in the list, and how many there are.
-#[derive(Drop)]
+#[derive(Clone, Copy)]
 pub struct Stretch {
     pub first: usize,
     pub many: usize,

@@ -1,6 +1,8 @@
 // Before a step where room is scarce: every held vertex is touched, block by block, and how the number of entries is going to change.
 // Promises: all are touched, and the block answered is the one to begin with: from it on, round to it again, the table never has more entries than before or after the step.
 // Rests on: the counters of `blocks`, the row of `directed`, one look at an entry by `worktable`.
+#![tactic(auto)]
+
 ghost use Rattle.std.specs.Prelude.{◌≡◌, ◌≢◌, ◌⊎◌, not, cond, ◌&&◌, ℕ, ◌+◌, ◌-◌, ◌/◌, ◌%◌, ◌<◌, ◌≤◌, max, eqb, ltb, length, get_or, replicate};
 ghost use Rattle.journeys.specs.Counting.{one};
 ghost use Rattle.worktable.specs.Map.{absent, touched, remaining_of, distance_limit, Figure, put};

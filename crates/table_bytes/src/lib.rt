@@ -1,6 +1,8 @@
 // Numbers of 4 and of 8 bytes in a lent slice, little-endian; and a buffer of r slots of 16 bytes as four columns of numbers: words of 8 bytes (r), tree nodes of 2 (2 r), heads of 2 (r), nexts of 2 (r).
 // Promises: a read gives the number at its place, a write changes that number and nothing else.
 // Rests on: nothing.
+#![tactic(auto)]
+
 ghost use Rattle.std.specs.Prelude.{◌≡◌, ◌+◌, ◌*◌, ◌<◌, ◌≤◌, length};
 ghost use Rattle.table_bytes.specs.Columns.{dec, enc, col, cols, at, put, set_w, set_t, set_h, set_n};
 

@@ -1,6 +1,8 @@
 // The winner tree and the bucket chains over the columns of a table: who has the least word, and where a vertex is. `r` is the number of slots that the buffer has and `cap` how many of them are used.
 // Promises: after each change the tree's root is the least word, and a vertex is found exactly if a slot has it.
 // Rests on: the columns of `table_bytes`.
+#![tactic(auto)]
+
 ghost use Rattle.std.specs.Prelude.{◌≡◌, ◌≢◌, ◌⊎◌, ◌+◌, ◌*◌, ◌<◌, ◌≤◌, min, length};
 ghost use Rattle.table_bytes.specs.Columns.{cols, at, set_h, set_n};
 ghost use Rattle.table_tree.specs.Words.{vacant, vertex_in, key, bucket_of, Slotted};

@@ -1,6 +1,8 @@
 // Counters of claims, as narrow as the claims of each group of 64 allow, inside a lent scratch of 2,048 numbers.
 // Promises: a counter that is laid holds its claim, each number drained takes one off its own counter alone, and none falls below zero.
 // Rests on: the counting of `journeys`. It knows nothing of what is counted, and has no array of its own.
+#![tactic(auto)]
+
 ghost use Rattle.std.specs.Prelude.{◌≡◌, true, cond, ℕ, ◌+◌, ◌*◌, ◌≤◌, ◌<◌, ◌^◌, max, eqb, ltb, length, get_or};
 ghost use Rattle.tally.specs.Laid as spec;
 ghost use Rattle.tally.specs.Laid.{Width, Placed, Same, More, Drained, Met, left, lowered, listed, filled, packed, words_with};

@@ -1,6 +1,8 @@
 // The operators' timetable: stop_times.txt and two lists of ids become hops of 20 bytes.
 // Promises: the refusal, the number of hops and every byte of the target, as the definitions of `feed` say, for texts of every length.
 // Rests on: the texts judged (`vetting`), tables of ids (`idtable`), and for the trips records in windows (`windows`) or, for want of them, `unaided`.
+#![tactic(auto)]
+
 ghost use Rattle.std.specs.Prelude.{◌≡◌, true, ◌+◌, take, drop};
 ghost use Rattle.journeys.specs.Refusals.{table_of};
 ghost use Rattle.feed.specs.Fields.{row_of};

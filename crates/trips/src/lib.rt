@@ -1,6 +1,8 @@
 // The trip of a hop, and when one has to stand at its stop: what the run with a boarding time reads of a hop beside its ends.
 // Promises: the trip as the definitions have it, 0 in hops of 16 bytes; T less the departure plus the boarding time, in ticks.
 // Rests on: the hops of `records` and the conversions of `words`.
+#![tactic(auto)]
+
 ghost use Rattle.std.specs.Prelude.{◌≡◌, ◌<◌, ◌≤◌};
 ghost use Rattle.journeys.specs.Bytes.{clocked};
 ghost use Rattle.journeys.specs.Tables.{hop_at};

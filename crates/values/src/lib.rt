@@ -1,19 +1,21 @@
 // Numbers and times in the fields of a timetable.
 // Promises: each reads a field exactly as the definitions of `feed` do.
 // Rests on: `feed` alone.
+#![tactic(auto)]
+
 ghost use Rattle.std.specs.Prelude.{◌≡◌, length, ◌+◌, ◌*◌, ◌-◌, ◌≤◌};
 ghost use Rattle.feed.specs.Values.{digit};
 ghost use Rattle.values.specs.Readings.{number_read, time_read};
 
 // A number up to a greatest.
-#[derive(Drop)]
+#[derive(Clone, Copy)]
 pub enum Number {
     Value(u32),
     Bad,
 }
 
 // A time of the service day, in seconds.
-#[derive(Drop)]
+#[derive(Clone, Copy)]
 pub enum Time {
     Seconds(u32),
     Bad,

@@ -1,6 +1,8 @@
 // A bought list of vertices, distances and records, judged against the tables and a query.
 // Promises: for any bytes and query the refusal of the definitions, or that the list is right; nothing is written.
 // Rests on: the check (`audit`), the query's test (`intake`), the seeds of `opening`, refusals 25 to 28 of `reasons`.
+#![tactic(auto)]
+
 ghost use Rattle.std.specs.Prelude.{◌≡◌, ◌/◌, ◌≤◌, ◌<◌, length};
 ghost use Rattle.journeys.specs.Tables.{tables_of};
 ghost use Rattle.journeys.specs.Valid.{Valid};

@@ -1,6 +1,8 @@
 // A timetable and its two lists, judged before its trips are: refusals 29, 12, 13 and 14.
 // Promises: the first of them, as the definitions of `feed` say; and by one pass over the lines, whether 13 and 14 let all of them pass.
 // Rests on: lists (`ids`), lines (`stops`), ids in the lists (`known`), of two tests the lower line (`lowest`).
+#![tactic(auto)]
+
 ghost use Rattle.std.specs.Prelude.{◌≡◌, ◌&&◌, ◌||◌, ◌-◌, ◌≤◌, eqb, length, take, drop};
 ghost use Rattle.journeys.specs.Refusals.{fine};
 ghost use Rattle.journeys.specs.Counting.{none};

@@ -1,6 +1,8 @@
 // The rest of a timetable's answer, behind refusal 14: 15, 16, 17 and the hops.
 // Promises: the timetable's answer and every byte of the target, as the definitions of `feed` say.
 // Rests on: the records of lines (`stoplist`, `recorded`), windows of them (`sieve`), what is carried over them (`carry`), the answer for records (`departures`).
+#![tactic(auto)]
+
 ghost use Rattle.std.specs.Prelude.{◌≡◌, ℕ, ◌+◌, ◌-◌, ◌*◌, ◌<◌, ◌≤◌, List, ◌++◌, length, take};
 ghost use Rattle.journeys.specs.Counting.{none};
 ghost use Rattle.feed.specs.Answers.{feed_refusal, hop_count, target_after};
@@ -22,7 +24,7 @@ use stoplist::Columns;
 const NONE: u32 = 0xFFFF_FFFF;
 
 // How far windows have come: the bound below which all stops are judged, what is carried, and the hops so far.
-#[derive(Drop)]
+#[derive(Clone, Copy)]
 pub struct Run {
     pub lo: Bound,
     pub carry: Carry,

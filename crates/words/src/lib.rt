@@ -1,6 +1,8 @@
 // Numbers in bytes, bytes written at a place, the three quantities of RULES 5.2, and refusals by number and place.
 // Promises: what is read is what `journeys` decodes, what is written reads back, and seconds, ticks and offsets meet in the named conversions alone.
 // Rests on: the definitions of `journeys` alone.
+#![tactic(auto)]
+
 ghost use Rattle.std.specs.Prelude.{◌≡◌, ◌+◌, ◌*◌, ◌≤◌, min, leb, pos, nat_abs, ◌-ℤ◌, length, replicate, ◌≤ℤ◌};
 ghost use Rattle.journeys.specs.Bytes as bytes;
 ghost use Rattle.journeys.specs.Bytes.{be16, be32, clock, clocked};
@@ -10,17 +12,17 @@ ghost use Rattle.words.specs.Told.{told};
 ghost use Rattle.words.specs.Written.{written, swapped};
 
 // Seconds from midnight of the service day, ticks, and decimetres on a walk record: three quantities, joined by the conversions below alone.
-#[derive(Drop)]
+#[derive(Clone, Copy)]
 pub struct Seconds(pub i32);
 
-#[derive(Drop)]
+#[derive(Clone, Copy)]
 pub struct Ticks(pub u32);
 
-#[derive(Drop)]
+#[derive(Clone, Copy)]
 pub struct Offset(pub u32);
 
 // Number and place; both 0 where nothing is refused.
-#[derive(Drop)]
+#[derive(Clone, Copy)]
 pub struct Refusal {
     pub number: u32,
     pub place: u32,

@@ -1,6 +1,8 @@
 // The working table of the search inside the lent held buffer: a finite map from vertices to distance, state and remaining.
 // Promises: each call does to the map, which `map_of` tells of the bytes, what its contract says; how it lies there is the affair of this crate and of the three named table_.
 // Rests on: `table_bytes`, `table_tree`, `table_records`, the zeroing of `words`; the held records of `journeys`.
+#![tactic(auto)]
+
 ghost use Rattle.std.specs.Prelude.{◌≡◌, ◌≢◌, ◌-◌, ◌/◌, ◌%◌, ◌<◌, ◌≤◌, min, eqb, length};
 ghost use Rattle.table_bytes.specs.Columns.{cols};
 ghost use Rattle.table_tree.specs.Words.{vacant, Slotted};
@@ -23,7 +25,7 @@ use table_tree::{
 const SETTLED: u64 = 0x8000_0000_0000_0000;
 
 // The numbers that go with a buffer while it is a table: the slots that it has, those that may be used, and how many of these are laid out.
-#[derive(Drop)]
+#[derive(Clone, Copy)]
 pub struct Table {
     slots: usize,
     room: usize,
@@ -33,14 +35,14 @@ pub struct Table {
     free: usize,
 }
 
-#[derive(Drop)]
+#[derive(Clone, Copy)]
 pub enum Found {
     At(usize),
     Absent,
 }
 
 // What a vertex has after a look at it: no entry, one that stays, or a spent one at its slot, for the caller to drop.
-#[derive(Drop)]
+#[derive(Clone, Copy)]
 pub enum Passed {
     Absent,
     Kept,
@@ -48,7 +50,7 @@ pub enum Passed {
 }
 
 // Slot, vertex, distance.
-#[derive(Drop)]
+#[derive(Clone, Copy)]
 pub enum Nearest {
     At(usize, usize, u32),
     Nothing,

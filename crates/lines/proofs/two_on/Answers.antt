@@ -1,0 +1,9 @@
+use borrow.Author.Rules.{rules}
+use mathlib.Core.Path.{◌≡◌}
+use Rattle.journeys.proofs.Tests.{and_both}
+use Rattle.lines.proofs.Strides.{two-on-is}
+use Rattle.lines.proofs.two_on.Goals as goal
+
+pub returns : goal.returns
+returns c =
+    λ e. let both = and_both _ _ e in two-on-is c.args.text.now c.args.i c.requires both.0 both.1

@@ -1,0 +1,26 @@
+-- `change_word`: the loop climbs from the leaf to the root, and each node on the way gets its winner.
+use borrow.Author.Rules.{rules}
+use native.Mathlib.Omega.{arith}
+use mathlib.Core.Path.{sym, ap, ◌∙◌}
+use mathlib.Core.Logic.{⊎_elim, inl, inr}
+use Rattle.table_bytes.specs.Columns.{Cols, cols}
+use Rattle.table_bytes.proofs.Access.{sized}
+use Rattle.table_tree.proofs.ReplayLaws.{Climbing, climb-start, climb-step, climb-end, climb-sib, climb-low, climb-cur}
+use Rattle.table_tree.proofs.RiseLaws.{changed}
+use Rattle.table_tree.proofs.change_word.Goals as goal
+
+pub loop-p-init : goal.loop-p-init
+loop-p-init c =
+    climb-start (c.set_word.auto.b ∙ c.requires.0.len) c.requires.1
+    (omega (arith, (sized c.args.r c.args.b.now).w, c.requires.0.fits)) c.requires.2
+    (ap (λ (z : Cols). z.w) c.set_word.ensures) (ap (λ (z : Cols). z.t) c.set_word.ensures)
+
+pub loop-p-preserved : goal.loop-p-preserved
+loop-p-preserved c =
+    climb-step c.requires.0.fits c.loop-p.invariant c.loop-p-test.true c.tree-s.ensures c.word-w.ensures
+    (⊎_elim (λ w. inl (w.0.taken, w.1, w.2)) (λ w. inr (w.0.left, w.1, w.2)) c.if-w-least.branch)
+    c.set_tree.auto.b c.set_tree.ensures
+
+pub returns : goal.returns
+returns c =
+    changed {c = cols c.args.r c.args.b.now} c.set_word.ensures c.loop-p.invariant.kept (climb-end c.loop-p.invariant c.loop-p-test.false)

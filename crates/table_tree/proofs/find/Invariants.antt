@@ -1,0 +1,11 @@
+use borrow.Author.Rules.{rules}
+use native.Mathlib.Omega.{arith}
+use Rattle.table_bytes.specs.Columns.{cols}
+use Rattle.table_tree.proofs.SearchLaws.{Seeking, find-miss, find-start, find-here, find-last, find-next, find-less}
+use Rattle.table_tree.proofs.find.Given as goal
+
+abbrev pub invariant-loop-x : goal.invariant-loop-x
+invariant-loop-x l = Seeking l.cap l.mask (cols l.r l.b).w l.u l.k l.s
+
+abbrev pub decreases-loop-x : goal.decreases-loop-x
+decreases-loop-x l = l.s
