@@ -7,6 +7,7 @@ use Rattle.table_bytes.specs.Columns.{Cols, cols}
 use Rattle.table_bytes.proofs.Access.{sized}
 use Rattle.table_tree.proofs.ReplayLaws.{Climbing, climb-start, climb-step, climb-end, climb-sib, climb-low, climb-cur}
 use Rattle.table_tree.proofs.RiseLaws.{changed}
+use Rattle.table_tree.proofs.change_word.Goals.{then-w-least, else-w-least}
 use Rattle.table_tree.proofs.change_word.Goals as goal
 
 pub loop-p-init : goal.loop-p-init
@@ -18,7 +19,7 @@ loop-p-init c =
 pub loop-p-preserved : goal.loop-p-preserved
 loop-p-preserved c =
     climb-step c.requires.0.fits c.loop-p.invariant c.loop-p-test.true c.tree-s.ensures c.word-w.ensures
-    (⊎_elim (λ w. inl (w.0.taken, w.1, w.2)) (λ w. inr (w.0.left, w.1, w.2)) c.if-w-least.branch)
+    (elim c.if-w-least.branch [ then-w-least w ↦ inl (w.if-w-least.true, w.winner-is, w.least-is) | else-w-least w ↦ inr (w.if-w-least.false, w.winner-is, w.least-is) ])
     c.set_tree.auto.b c.set_tree.ensures
 
 pub returns : goal.returns

@@ -24,16 +24,16 @@ pub returns-in_default-third : goal.returns-in_default-third
 returns-in_default-third c = let two : c.args.h + 6 - (c.args.h + 4) ≡ 2 = omega arith in let bad : number 59 (take 2 (drop (c.args.h + 4) c.args.field.now)) ≡ false = rw two at (read-bad 59 _ (sym c.read_number-third.ensures ∙ c.in_default-third.is)) in sym (bad-seconds c.args.field.now c.args.h c.requires.0 c.requires.1 c.requires.2 bad)
 
 pub overflow_mul-result : goal.overflow_mul-result
-overflow_mul-result c = let x = read-value 47 _ _ (sym c.read_number-first.ensures ∙ c.first-1.given.1) in omega arith
+overflow_mul-result c = let x = read-value 47 _ _ (sym c.read_number-first.ensures ∙ c.in-Value.is) in omega arith
 
 pub overflow_mul-result-2 : goal.overflow_mul-result-2
-overflow_mul-result-2 c = let y = read-value 59 _ _ (sym c.read_number-second.ensures ∙ c.second-1.given.1) in omega arith
+overflow_mul-result-2 c = let y = read-value 59 _ _ (sym c.read_number-second.ensures ∙ c.in-Value-second.is) in omega arith
 
 pub overflow_add-result : goal.overflow_add-result
-overflow_add-result c = let x = read-value 47 _ _ (sym c.read_number-first.ensures ∙ c.first-1.given.1) in let y = read-value 59 _ _ (sym c.read_number-second.ensures ∙ c.second-1.given.1) in omega arith
+overflow_add-result c = let x = read-value 47 _ _ (sym c.read_number-first.ensures ∙ c.in-Value.is) in let y = read-value 59 _ _ (sym c.read_number-second.ensures ∙ c.in-Value-second.is) in omega arith
 
 pub overflow_add-result-2 : goal.overflow_add-result-2
-overflow_add-result-2 c = let x = read-value 47 _ _ (sym c.read_number-first.ensures ∙ c.first-1.given.1) in let y = read-value 59 _ _ (sym c.read_number-second.ensures ∙ c.second-1.given.1) in let z = read-value 59 _ _ (sym c.read_number-third.ensures ∙ c.third-1.given.1) in omega arith
+overflow_add-result-2 c = let x = read-value 47 _ _ (sym c.read_number-first.ensures ∙ c.in-Value.is) in let y = read-value 59 _ _ (sym c.read_number-second.ensures ∙ c.in-Value-second.is) in let z = read-value 59 _ _ (sym c.read_number-third.ensures ∙ c.in-Value-third.is) in omega arith
 
 pub returns : goal.returns
-returns c = let two : c.args.h + 3 - (c.args.h + 1) ≡ 2 = omega arith in let three : c.args.h + 6 - (c.args.h + 4) ≡ 2 = omega arith in let y : number_read 59 (take 2 (drop (c.args.h + 1) c.args.field.now)) ≡ Value c.second-1.given.0.0 = rw two at (sym c.read_number-second.ensures ∙ c.second-1.given.1) in let z : number_read 59 (take 2 (drop (c.args.h + 4) c.args.field.now)) ≡ Value c.third-1.given.0.0 = rw three at (sym c.read_number-third.ensures ∙ c.third-1.given.1) in sym (good-time c.args.field.now c.args.h c.requires.0 c.requires.1 c.requires.2 _ _ _ c.if-field-h.false (sym c.read_number-first.ensures ∙ c.first-1.given.1) y z)
+returns c = let two : c.args.h + 3 - (c.args.h + 1) ≡ 2 = omega arith in let three : c.args.h + 6 - (c.args.h + 4) ≡ 2 = omega arith in let y : number_read 59 (take 2 (drop (c.args.h + 1) c.args.field.now)) ≡ Value c.in-Value-second.minutes = rw two at (sym c.read_number-second.ensures ∙ c.in-Value-second.is) in let z : number_read 59 (take 2 (drop (c.args.h + 4) c.args.field.now)) ≡ Value c.in-Value-third.seconds = rw three at (sym c.read_number-third.ensures ∙ c.in-Value-third.is) in sym (good-time c.args.field.now c.args.h c.requires.0 c.requires.1 c.requires.2 _ _ _ c.if-field-h.false (sym c.read_number-first.ensures ∙ c.in-Value.is) y z)

@@ -1,0 +1,18 @@
+use borrow.Author.Tests.{not-true, not-false}
+use borrow.Author.Rules.{rules}
+use Prim.Native.Nat.{◌≤◌, ◌-◌}
+use native.Mathlib.Omega.{arith}
+use mathlib.Core.Path.{◌≡◌, refl, sym, ap, ◌∙◌}
+use lib.ListN.{length, drop}
+use Rattle.journeys.specs.Counting.{none}
+use Rattle.feed.specs.Lines.{lines_of, first_bad_line}
+use Rattle.feed.specs.Ids.{list_line, ids_refusal}
+use Rattle.ids.proofs.ListLines.{ids_refusal-is}
+use Rattle.lines.proofs.Passes.{place_is, next_place, pass-over, pass-good, pass-bad, stop-within, next-within, next-later}
+use Rattle.ids.proofs.list_fault.Given as goal
+
+abbrev pub invariant-loop-at : goal.invariant-loop-at
+invariant-loop-at l = (l.at ≤ length l.text) × (l.line ≤ none) × (first_bad_line 29 (list_line l.most) l.line (lines_of (drop l.at l.text)) ≡ ids_refusal l.most l.text)
+
+abbrev pub decreases-loop-at : goal.decreases-loop-at
+decreases-loop-at l = length l.text - l.at

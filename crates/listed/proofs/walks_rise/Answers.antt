@@ -1,0 +1,21 @@
+-- `walks_rise`: one number more that rises and is a walk that leaves v.
+use borrow.Author.Rules.{rules}
+use mathlib.Core.Path.{◌≡◌, refl, sym, ap, ◌∙◌}
+use Prim.Native.Nat.{ℕ, ◌+◌, ◌-◌, ◌*◌, ◌<◌, ◌≤◌}
+use native.Mathlib.Omega.{arith}
+use Rattle.records.specs.Columns.{records_in, from_at}
+use Rattle.listed.specs.Stretches.{Rising}
+use Rattle.listed.proofs.Judging.{rising_none, rising-more}
+use Rattle.listed.proofs.WaitLaws.{rising-later}
+use Rattle.listed.proofs.walks_rise.Goals as goal
+use Rattle.listed.proofs.walks_rise.Goals.{At-loop-i}
+
+-- where it stops
+stops : (c : At-loop-i) → let a = c.args in
+    (a.first ≤ c.loop-i.i) × (c.loop-i.i ≤ a.end) × Rising (from_at 16 a.walks.now) (records_in 16 a.walks.now) a.v a.first c.loop-i.i (records_in 16 a.walks.now) a.list.now
+stops c = let i = c.loop-i.invariant in (i.0, i.1, rising-later _ i.2.within (omega arith) i.2)
+
+pub loop-i-preserved : goal.loop-i-preserved
+loop-i-preserved c =
+    let i = c.loop-i.invariant in
+    (omega (arith, i.0), omega (arith, c.loop-i-test.true), rising-more _ _ _ _ _ _ _ _ i.2 c.word_at-x.ensures c.if-x-low.false (omega (arith, c.if-ways-x.false)) (sym c.from_at.ensures ∙ c.if-from_at-v.false))
