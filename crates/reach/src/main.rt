@@ -1,13 +1,15 @@
 // The program `reach`: a job on standard input, its text on standard output, with room lent for all and no step limit.
 // Promises: the text is that of RULES 14, for every input (`Says`).
-// Rests on: the job reader (`job`), the run (`search`), the parts of its list (`covering`), the printed text (`report`), and the contracts of the C library's read and write.
+// Rests on: the job reader (`job`), the run (`search`), the parts of its list (`covering`), the printed text (`report`), and std's reading and writing of the standard streams.
 ghost use Rattle.std.specs.Prelude.{◌≡◌, List, ℕ, ◌≤◌, length, take};
+ghost use Rattle.std.specs.Io.KnownBytes.{Consumes};
 ghost use Rattle.io.specs.Counts.{IsPrefixLen};
 ghost use Rattle.records.specs.Asked.{query_of};
 ghost use Rattle.reach.specs.Says.{RunTold, Answered};
 
 use job::Job;
 use records::Query;
+use std::io::{ErrorKind, Read, Write};
 
 // The hops of a job have 16 bytes: it knows no trips.
 const HOP_SIZE: usize = 16;
@@ -80,12 +82,37 @@ fn answer_read(input: &[u8], n: usize, out: &mut [u8]) -> usize
     answer(&input[..n], out)
 }
 
-fn main() {
+// Reads until the buffer is full, the input ends or a read fails; answers how many bytes stand at its front then, which are those that the input has given.
+fn read_full<R: Read>(input: &mut R, buf: &mut [u8]) -> usize
+    ensures prefix_len { IsPrefixLen result buf.new }
+    ensures bytes { Consumes (R.remaining input.old) (R.remaining input.new) (take result buf.new) }
+{
+    let mut done = 0;
+    for _ in 0..u64::MAX {
+        if done >= buf.len() {
+            return done;
+        }
+        match input.read(&mut buf[done..]) {
+            Ok(0) => return done,
+            Ok(n) => done += n,
+            Err(e) => {
+                if e.kind() != ErrorKind::Interrupted {
+                    return done;
+                }
+            }
+        }
+    }
+    done
+}
+
+fn main(rt: HostRuntime) {
     let mut input = [0u8; 51221];
-    let n = io::read_full(0, &mut input);
+    let n = read_full(&mut rt.stdin(), &mut input);
     let mut out = [0u8; 100548];
     let m = answer_read(&input, n, &mut out);
-    if !io::write_all(1, &out[..m]) {
-        io::write_all(2, b"reach: the answer cannot be written\n");
+    if rt.stdout().write_all(&out[..m]).is_err() {
+        let _ = rt
+            .stderr()
+            .write_all(b"reach: the answer cannot be written\n");
     }
 }
