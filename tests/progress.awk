@@ -1,10 +1,25 @@
-# What `rt check` or `rt staticlib` prints, as a line for each crate of `target` that is proved: its name, its seconds, how many there are, what comes next.
+# What `rt lib` or `rt run` prints, as a line for each crate of `target` that is proved: its name, its seconds, how many there are, what comes next.
 # The first file is crates.txt. Crates that were proved before are only counted. Where a crate is not proved, what was said of it is shown.
+# `clock` is a command that prints the seconds of now.
+BEGIN {
+    if (!clock) clock = "date +%s"
+    began = now()
+}
+
+function now(    seconds) {
+    clock | getline seconds
+    close(clock)
+    return seconds
+}
+
 NR == FNR {
-    if ($0 ~ /^[a-z_]+:/) {
-        name = substr($1, 1, length($1) - 1)
+    if ($0 ~ /^[a-z]/) {
+        name = $1
+        sub(":.*", "", name)
         crate[++crates] = name
-        for (i = 2; i <= NF; i++) needs[name, $i] = 1
+        line = $0
+        sub("^[^:]*:", "", line)
+        for (i = split(line, words, " "); i > 0; i--) needs[name, words[i]] = 1
     }
     next
 }
@@ -18,6 +33,15 @@ NR == FNR {
     for (i = 1; i <= crates; i++) all += wanted[crate[i]]
 }
 
+# A crate is done, and with it those that it rests on: rt says nothing of a library that stood already.
+function finish(name,    i) {
+    if (done[name]) return
+    done[name] = 1
+    number++
+    for (i = 1; i <= crates; i++)
+        if ((name, crate[i]) in needs) finish(crate[i])
+}
+
 # The crates that nothing keeps from being proved.
 function following(    text, i, j, ready) {
     for (i = 1; i <= crates; i++) {
@@ -29,27 +53,32 @@ function following(    text, i, j, ready) {
     return text
 }
 
-/^rt: [a-z_]+ proved/ {
-    done[$2] = 1
-    number++
-    if ($4 != "(unchanged") {
-        printf "%4d of %d  %s proved in %s s%s\n", number, all, $2, substr($4, 2), following()
+# Behind this line stands the verdict on the crate.
+/^crate [a-z_0-9]+: modules/ {
+    name = substr($2, 1, length($2) - 1)
+    unchanged = / checked=0$/
+    next
+}
+
+/^logic=proved/ {
+    finish(name)
+    if (!unchanged) {
+        ended = now()
+        printf "%4d of %d  %s proved in %d s%s\n", number, all, name, ended - began, following()
         fflush()
+        began = ended
     }
     said = ""
     next
 }
 
-/^rt: .*(NOT PROVED|FAILED)/ {
-    print said $0
-    if (!($2 in told) && $0 !~ /its dependency/) print "siltbrow: all that was said of " $2 " is in target/log/" $2 ".out"
-    told[$2] = failed = 1
+/^logic=/ {
+    print said "siltbrow: " name " is not proved; all that was said is in target/log/" target ".out"
     said = ""
     fflush()
     next
 }
 
-/^rt: ok|^rt: .* ran|^rt: target\/staticlib/ { said = ""; next }
-/^(fn|struct|enum) .*: proved$/ { next }
+/^(statements|library|axioms) [a-z_0-9]+: |^logic \/|^checked .* of [0-9]+$|^fn .*: proved$|^linked |^rt: (chose --jobs|running|[a-z_0-9]+: begins with) / { next }
 { said = said $0 "\n" }
 END { if (said) printf "%s", said }

@@ -21,9 +21,9 @@ const USAGE: &str = "usage:
 
 /// The product is for x86-64; elsewhere its module is compiled once more.
 const CODE: &str = if cfg!(target_arch = "x86_64") {
-    "`target/staticlib/libsiltbrow.a`, as `rt staticlib siltbrow` writes it"
+    "`target/staticlib/libsiltbrow.a`, as `rt lib` writes it"
 } else {
-    "the LLVM module of `rt staticlib siltbrow`, compiled for this processor; the product itself is for x86-64"
+    "the LLVM module of `rt lib`, compiled for this processor; the product itself is for x86-64"
 };
 
 fn main() -> ExitCode {

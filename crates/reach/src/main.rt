@@ -1,15 +1,17 @@
 // The program `reach`: a job on standard input, its text on standard output, with room lent for all and no step limit.
 // Promises: the text is that of RULES 14, for every input (`Says`).
-// Rests on: the job reader (`job`), the run (`search`), the parts of its list (`covering`), the printed text (`report`), and the contracts of the C library's read and write.
+// Rests on: the job reader (`job`), the run (`search`), the parts of its list (`covering`), the printed text (`report`), and std's reading and writing of the standard streams.
 #![tactic(auto)]
 
-ghost use Rattle.std.specs.Prelude.{◌≡◌, List, ℕ, ◌≤◌, length, take};
+ghost use Rattle.std.specs.Prelude.{◌≡◌, List, ℕ, true, IfSome, ◌<◌, ◌≤◌, length, take};
+ghost use Rattle.std.specs.Io.KnownBytes.{Consumes, IsAtEnd};
 ghost use Rattle.io.specs.Counts.{IsPrefixLen};
 ghost use Rattle.records.specs.Asked.{query_of};
 ghost use Rattle.reach.specs.Says.{RunTold, Answered};
 
 use job::Job;
 use records::Query;
+use std::io::{ErrorKind, Read, Write};
 
 // The hops of a job have 16 bytes: it knows no trips.
 const HOP_SIZE: usize = 16;
@@ -82,12 +84,70 @@ fn answer_read(input: &[u8], n: usize, out: &mut [u8]) -> usize
     answer(&input[..n], out)
 }
 
-fn main() {
-    let mut input = [0u8; 51221];
-    let n = io::read_full(0, &mut input);
+// So many bytes at the front of a buffer, and whether every read was made without a failure.
+#[derive(Drop)]
+struct Filled {
+    count: usize,
+    unfailing: bool,
+}
+
+// Reads until the buffer is full, the input ends or a read fails. What stands at the front of the buffer then is what the input has given; where no read failed, that is all
+// of it or as much as there is room for.
+fn read_full<R: Read>(input: &mut R, buf: &mut [u8]) -> Filled
+    ensures prefix_len { IsPrefixLen result.count buf.new }
+    ensures bytes { Consumes (R.remaining input.old) (R.remaining input.new) (take result.count buf.new) }
+    ensures end { result.unfailing ≡ true → result.count < length buf.old → IsAtEnd (R.remaining input.new) }
+{
+    let mut done = 0;
+    for _ in 0..u64::MAX {
+        if done >= buf.len() {
+            return Filled {
+                count: done,
+                unfailing: true,
+            };
+        }
+        match input.read(&mut buf[done..]) {
+            Ok(0) => {
+                return Filled {
+                    count: done,
+                    unfailing: true,
+                };
+            }
+            Ok(n) => done += n,
+            Err(e) => {
+                if e.kind() != ErrorKind::Interrupted {
+                    break;
+                }
+            }
+        }
+    }
+    Filled {
+        count: done,
+        unfailing: false,
+    }
+}
+
+// The text of what an input gives: where no read fails, that of the whole input, however long it is.
+fn answer_from<R: Read>(input: &mut R, out: &mut [u8]) -> Filled
+    requires { 100548 ≤ length out.old }
+    ensures answered { result.unfailing ≡ true → IfSome (R.remaining input.old) (λ s. Answered s out.old out.new result.count) }
+    ensures prefix_len { IsPrefixLen result.count out.new }
+{
+    let mut buf = [0u8; 51221];
+    let given = read_full(input, &mut buf);
+    let count = answer_read(&buf, given.count, out);
+    Filled {
+        count,
+        unfailing: given.unfailing,
+    }
+}
+
+fn main(rt: HostRuntime) {
     let mut out = [0u8; 100548];
-    let m = answer_read(&input, n, &mut out);
-    if !io::write_all(1, &out[..m]) {
-        io::write_all(2, b"reach: the answer cannot be written\n");
+    let text = answer_from(&mut rt.stdin(), &mut out);
+    if rt.stdout().write_all(&out[..text.count]).is_err() {
+        let _ = rt
+            .stderr()
+            .write_all(b"reach: the answer cannot be written\n");
     }
 }

@@ -3,8 +3,7 @@ ghost use Rattle.siltbrow.specs.ManyCalls.{ManyRan};
 
 // One run for each record of `queries`, in turn. 1 where `queries` is no whole number of records or `answers` is not 24 bytes for each, and then
 // nothing is written.
-#[unsafe(no_mangle)]
-pub extern "C" fn siltbrow_runs<'a>(
+pub fn siltbrow_runs<'a>(
     vertices: &[u8],
     walks: &'a [u8],
     hops: &'a [u8],

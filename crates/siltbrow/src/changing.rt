@@ -7,8 +7,7 @@ use records::Query;
 use words::{Offset, Seconds};
 
 // The answer slice gets its six numbers, the counts of parts and of held records being 0; 1 where it is not 24 bytes, and then nothing is written.
-#[unsafe(no_mangle)]
-pub extern "C" fn siltbrow_run_boarding(
+pub fn siltbrow_run_boarding(
     vertices: &[u8],
     walks: &[u8],
     hops: &[u8],

@@ -13,8 +13,7 @@ use records::Query;
 use words::{Offset, Seconds};
 
 // The list, or refusal times 2^32 plus place, and then the list is as it was.
-#[unsafe(no_mangle)]
-pub extern "C" fn siltbrow_courier_list(
+pub fn siltbrow_courier_list(
     vertices: &[u8],
     walks: &[u8],
     hops: &[u8],
@@ -37,8 +36,7 @@ pub extern "C" fn siltbrow_courier_list(
 }
 
 // The courier's parts of a settled list. The answer slice gets its three numbers; 1 where it is not 12 bytes, and then nothing is written.
-#[unsafe(no_mangle)]
-pub extern "C" fn siltbrow_courier_parts(
+pub fn siltbrow_courier_parts(
     vertices: &[u8],
     walks: &[u8],
     hops: &[u8],
@@ -80,8 +78,7 @@ pub extern "C" fn siltbrow_courier_parts(
 }
 
 // The courier's run. The answer slice gets its six numbers, the count of parts being 0; 1 where it is not 24 bytes, and then nothing is written.
-#[unsafe(no_mangle)]
-pub extern "C" fn siltbrow_courier<'a>(
+pub fn siltbrow_courier<'a>(
     vertices: &[u8],
     walks: &'a [u8],
     hops: &'a [u8],

@@ -2,13 +2,7 @@
 ghost use Rattle.siltbrow.specs.FrameCall.{FrameAnswered};
 
 // The frame of a settled list. The answer slice gets its six numbers; 1 where it is not 24 bytes, and then nothing is written.
-#[unsafe(no_mangle)]
-pub extern "C" fn siltbrow_frame(
-    vertices: &[u8],
-    list: &[u8],
-    coordinates: &[u8],
-    answer: &mut [u8],
-) -> u32
+pub fn siltbrow_frame(vertices: &[u8], list: &[u8], coordinates: &[u8], answer: &mut [u8]) -> u32
     ensures { FrameAnswered vertices.now list.now coordinates.now answer.old answer.new result }
 {
     if answer.len() != 24 {

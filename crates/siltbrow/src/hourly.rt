@@ -8,8 +8,7 @@ use words::{Offset, Seconds};
 
 // Several arrivals, the first of them in the query. The answer slice gets the six numbers of the last run; 1 where it is not 24 bytes, and then nothing
 // is written.
-#[unsafe(no_mangle)]
-pub extern "C" fn siltbrow_patients<'a>(
+pub fn siltbrow_patients<'a>(
     vertices: &[u8],
     walks: &'a [u8],
     hops: &'a [u8],

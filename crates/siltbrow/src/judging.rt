@@ -9,8 +9,7 @@ use records::Query;
 use words::{Offset, Seconds};
 
 // A list of entries of 12 bytes: vertex, distance, record. Nothing is written.
-#[unsafe(no_mangle)]
-pub extern "C" fn siltbrow_judge(
+pub fn siltbrow_judge(
     vertices: &[u8],
     walks: &[u8],
     hops: &[u8],

@@ -1,4 +1,4 @@
-// What the map server in C calls: include/siltbrow.h declares it.
+// What the map server in C calls, as functions: include/siltbrow.h declares them, and `siltbrow_c` exports each with its clauses.
 // Promises: the numbers of RULES 13, for every byte string of every length; the tables are only read.
 // Rests on: `audit`, whose scratch it lends, `search`, which has the run, `queries`, which has many runs, `patients`, which has an evening of them, `covering`, which has the parts in either direction, `making`, which has the courier's list, `riding`, which has the run with a boarding time, `frame`, `moves`, `vendors`, and `timetable`.
 #![tactic(auto)]
@@ -20,12 +20,20 @@ ghost use Rattle.intake.specs.Lending.{lent};
 ghost use Rattle.siltbrow.specs.Packed.{packed};
 ghost use Rattle.siltbrow.specs.Ran.{Ran};
 
+pub use asking::siltbrow_runs;
+pub use changing::siltbrow_run_boarding;
+pub use dispatch::{siltbrow_courier, siltbrow_courier_list, siltbrow_courier_parts};
+pub use framing::siltbrow_frame;
+pub use hourly::siltbrow_patients;
+pub use judging::siltbrow_judge;
+pub use moving::{siltbrow_hops_backward, siltbrow_hops_forward};
 use records::Query;
+pub use streets::siltbrow_parts;
+pub use timetabling::siltbrow_timetable;
 use words::{Offset, Seconds};
 
 // The check alone, refusal times 2^32 plus place. Whoever lends hops names their size, 16 or 20 bytes.
-#[unsafe(no_mangle)]
-pub extern "C" fn siltbrow_check(vertices: &[u8], walks: &[u8], hops: &[u8], hop_size: u32) -> u64
+pub fn siltbrow_check(vertices: &[u8], walks: &[u8], hops: &[u8], hop_size: u32) -> u64
     ensures { result ≡ packed (check hop_size vertices.now walks.now hops.now) }
 {
     let mut scratch = [0u16; 2048];
@@ -34,8 +42,7 @@ pub extern "C" fn siltbrow_check(vertices: &[u8], walks: &[u8], hops: &[u8], hop
 }
 
 // The run. The answer slice gets its six numbers, the count of parts being 0; 1 where it is not 24 bytes, and then nothing is written.
-#[unsafe(no_mangle)]
-pub extern "C" fn siltbrow_run<'a>(
+pub fn siltbrow_run<'a>(
     vertices: &[u8],
     walks: &'a [u8],
     hops: &'a [u8],

@@ -4,8 +4,7 @@ ghost use Rattle.moves.specs.Moved.{lengthened, shortened, forward_refusal, back
 ghost use Rattle.siltbrow.specs.Packed.{packed};
 
 // Hops of 16 bytes to hops of 20, each with the trip 0.
-#[unsafe(no_mangle)]
-pub extern "C" fn siltbrow_hops_forward(source: &[u8], target: &mut [u8]) -> u64
+pub fn siltbrow_hops_forward(source: &[u8], target: &mut [u8]) -> u64
     ensures value { result ≡ packed (forward_refusal source.now target.old) }
     ensures target_after { target.new ≡ leaves (forward_refusal source.now target.old) (lengthened source.now) target.old }
 {
@@ -14,8 +13,7 @@ pub extern "C" fn siltbrow_hops_forward(source: &[u8], target: &mut [u8]) -> u64
 }
 
 // Hops of 20 bytes to hops of 16, if none has a trip.
-#[unsafe(no_mangle)]
-pub extern "C" fn siltbrow_hops_backward(source: &[u8], target: &mut [u8]) -> u64
+pub fn siltbrow_hops_backward(source: &[u8], target: &mut [u8]) -> u64
     ensures value { result ≡ packed (backward_refusal source.now target.old) }
     ensures target_after { target.new ≡ leaves (backward_refusal source.now target.old) (shortened source.now) target.old }
 {

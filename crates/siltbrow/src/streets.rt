@@ -20,8 +20,7 @@ pub fn put_three(out: &mut [u8], a: PartsAnswer)
 }
 
 // The parts of a settled list. The answer slice gets its three numbers; 1 where it is not 12 bytes, and then nothing is written.
-#[unsafe(no_mangle)]
-pub extern "C" fn siltbrow_parts(
+pub fn siltbrow_parts(
     vertices: &[u8],
     walks: &[u8],
     hops: &[u8],

@@ -3,8 +3,7 @@ ghost use Rattle.timetable.specs.Lent.{feed_of, Called};
 
 // The hops of stop_times.txt and of two lists of ids go into `hops`. The answer slice gets refusal, place and number of hops; 1 where it is not 12
 // bytes, and then nothing is written.
-#[unsafe(no_mangle)]
-pub extern "C" fn siltbrow_timetable(
+pub fn siltbrow_timetable(
     stop_times: &[u8],
     stops: &[u8],
     trips: &[u8],
