@@ -200,7 +200,7 @@ module _ (s : Search) (C : Complete s) where
     λ p.
         let told = C.told p.0 in
         let l = theory.order_of s.network C.ways s.distance told in
-        let O = theory.order-is s.network C.ways s.distance told in
+        let O = theory.order_is s.network C.ways s.distance told in
         room-accepted p.0 l O (p.1 l O),
   )
 

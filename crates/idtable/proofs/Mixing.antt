@@ -20,7 +20,7 @@ mixed-over y h i l = rw (drop_of_length-le y l) refl
 pub mixed-low : (h : ℕ) (y : List ℕ) → h < 4294967296 → mixed h y < 4294967296
 unfolding mixed
 mixed-low h [] l = l
-mixed-low h (b ∷ y) l = mixed-low _ y (mod-lt _ (omega arith))
+mixed-low h (b ∷ y) l = mixed-low ((h + b) * 2654435761 % 4294967296) y (mod-lt _ (omega arith))
 
 -- a number below 2^32 times n
 pub part_low : (h n : ℕ) → h < 4294967296 → 0 < n → h * n < 4294967296 * n

@@ -1,6 +1,6 @@
 -- `audit::table_faults` meets its contract: the records before i are good, `order` is the first of them out of order, and `alone` of them have no twin. Assumes nothing.
 use mathlib.Core.Path.{◌≡◌, refl, sym, ap, ap₂, ◌∙◌}
-use mathlib.Core.Logic.{⊎_elim, ◌≢◌}
+use mathlib.Core.Logic.{◌≢◌}
 use mathlib.Core.Bool.{Bool}
 use mathlib.Core.List.{List}
 use Prim.Native.Nat.{ℕ, ◌+◌, ◌-◌, ◌≤◌, ◌<◌}
@@ -22,7 +22,7 @@ use native.Mathlib.Omega.{arith}
 use borrow.Author.Rules.{rules}
 use Rattle.audit.proofs.table_faults.Invariants.{has_no_twin}
 use Rattle.audit.proofs.table_faults.Goals as goal
-use Rattle.audit.proofs.table_faults.Goals.{After-row_known-1}
+use Rattle.audit.proofs.table_faults.Goals.{After-row_known-1, then-no_twin, else-no_twin}
 
 -- what is added where the two arms meet makes the count of one record more
 counts : (c : After-row_known-1) →
@@ -33,7 +33,7 @@ counts c =
     let loop = c.loop-i in
     let a = c.args in
     let added : c.if-no_twin.alone ≡ one c.alone-no_twin.result =
-    ⊎_elim (λ w. w.1 ∙ sym (is_one w.0.taken)) (λ w. w.1 ∙ sym (is_zero w.0.left)) c.if-no_twin.branch in
+    elim c.if-no_twin.branch [ then-no_twin w ↦ w.alone-is ∙ sym (is_one w.if-no_twin.true) | else-no_twin w ↦ w.alone-is ∙ sym (is_zero w.if-no_twin.false) ] in
     omega (arith, loop.invariant.6, added, ap one c.alone-no_twin.ensures, count_next (has_no_twin a.table.now) loop.i)
 
 pub loop-i-init : goal.loop-i-init

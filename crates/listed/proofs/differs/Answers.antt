@@ -19,7 +19,7 @@ leaves c = sym c.from_of.ensures ∙ c.if-from_of-v.true
 
 at_in : (c : Then-from_of-v) → c.loop-r.at < c.args.end
 at_in c =
-    at_low c.requires.first_value.0 c.requires.first_value.1 c.loop-r.invariant.1 (in-range c) (leaves c)
+    at_low c.requires.first_value.0 c.requires.first_value.1 c.loop-r.invariant.1 (omega (arith, c.requires.le_hop_size.2, c.loop-r-test.true)) (leaves c)
 
 pub loop-r-init : goal.loop-r-init
 loop-r-init c = (omega arith, passed_none c.requires.first_value.0 c.requires.first_value.1)

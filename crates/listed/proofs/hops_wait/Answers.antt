@@ -52,3 +52,12 @@ returns c =
       before = c.loop-i.invariant.4;
       risen = λ all first rising. record { low = c.loop-i.least; rising = subst (λ (j : ℕ). Rising (from_of a.hop_size a.walks.now a.hops.now) (total a.hop_size a.walks.now a.hops.now) a.v first j c.loop-i.least a.list.now) e (c.loop-i.invariant.5 all first rising) };
     })
+
+pub returns-then-x-least : goal.returns-then-x-least
+returns-then-x-least c = wrong-is _ _ _ _ _ _ _ _ _ _
+
+pub returns-then-n-x : goal.returns-then-n-x
+returns-then-n-x c = wrong-is _ _ _ _ _ _ _ _ _ _
+
+pub returns-then-place-ge-PLACES : goal.returns-then-place-ge-PLACES
+returns-then-place-ge-PLACES c = wrong-is _ _ _ _ _ _ _ _ _ _

@@ -19,3 +19,15 @@ pub loop-i-preserved : goal.loop-i-preserved
 loop-i-preserved c =
     let i = c.loop-i.invariant in
     (omega (arith, i.0), omega (arith, c.loop-i-test.true), rising-more _ _ _ _ _ _ _ _ i.2 c.word_at-x.ensures c.if-x-low.false (omega (arith, c.if-ways-x.false)) (sym c.from_at.ensures ∙ c.if-from_at-v.false))
+
+pub returns-then-ways-x : goal.returns-then-ways-x
+returns-then-ways-x c = stops (goal.at.returns-then-ways-x c).At-loop-i
+
+pub returns-then-x-low : goal.returns-then-x-low
+returns-then-x-low c = stops (goal.at.returns-then-x-low c).At-loop-i
+
+pub returns-then-from_at-v : goal.returns-then-from_at-v
+returns-then-from_at-v c = stops (goal.at.returns-then-from_at-v c).At-loop-i
+
+pub returns : goal.returns
+returns c = stops (goal.at.returns c).At-loop-i

@@ -12,7 +12,7 @@ use Rattle.report.proofs.fault_line.Goals as goal
 pub returns-then-out-lt25 : goal.returns-then-out-lt25
 returns-then-out-lt25 c =
     let d = c.args.out.now in
-    none-shown d (fault_in c.args.n (length d)) (fault-lacks c.args.n (length d) c.if-out-lt25.true)
+    let all = none-shown d (fault_in c.args.n (length d)) (fault-lacks c.args.n (length d) c.if-out-lt25.true) in record { out_after = all.0; value = all.1.0; prefix_len = all.1.1 }
 
 pub number-b-requires : goal.number-b-requires
 number-b-requires c =
@@ -35,4 +35,4 @@ returns c =
     let most = length-64 c.args.n c.ranges.n.fits in
     let b = both (omega (arith, p.ensures.next, l)) p.ensures q.ensures in
     let w = both (omega (arith, most, p.ensures.next, q.ensures.next, l)) b n.ensures in
-    text-shown (fault_in c.args.n (length d)) (fault-fits c.args.n (length d) l) (as-text (fault-is c.args.n) w)
+    let all = text-shown (fault_in c.args.n (length d)) (fault-fits c.args.n (length d) l) (as-text (fault-is c.args.n) w) in record { out_after = all.0; value = all.1.0; prefix_len = all.1.1 }

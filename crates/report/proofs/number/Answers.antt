@@ -7,9 +7,9 @@ use Rattle.report.proofs.number.Goals as goal
 pub put-requires : goal.put-requires
 put-requires c =
     let d = c.decimal-k in
-    rw (d.ensures.1.1 ∙ decimal-is c.args.x d.result c.ranges.x.fits d.ensures.len) c.requires
+    rw (d.ensures.digits ∙ decimal-is c.args.x d.result c.ranges.x.fits d.ensures.len) c.requires
 
 pub returns : goal.returns
 returns c =
     let d = c.decimal-k in
-    rw (d.ensures.1.1 ∙ decimal-is c.args.x d.result c.ranges.x.fits d.ensures.len) at c.put.ensures
+    rw (d.ensures.digits ∙ decimal-is c.args.x d.result c.ranges.x.fits d.ensures.len) at c.put.ensures

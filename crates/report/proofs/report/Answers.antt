@@ -7,9 +7,6 @@ use Rattle.report.proofs.LineLaws.{text-fits, text-lacks}
 use borrow.Author.Rules.{rules}
 use Rattle.report.proofs.report.Goals as goal
 
--- TYPED abbrev asked : tie.Start → OneAnswer
--- asked c = given c.args.answer c.args.settled.now c.args.parts.now c.args.held.now
-
 pub whole-requires : goal.whole-requires
 unfolding fits
 whole-requires c = c.if-room.true
@@ -18,10 +15,10 @@ pub returns-then-room : goal.returns-then-room
 unfolding fits
 returns-then-room c =
     let n = length c.args.out.now in
-    text-shown (report (asked c) n) (text-fits (asked c) n c.if-room.true) c.whole.ensures
+    let all = text-shown (report (given c.args.answer c.args.settled.now c.args.parts.now c.args.held.now) n) (text-fits (given c.args.answer c.args.settled.now c.args.parts.now c.args.held.now) n c.if-room.true) c.whole.ensures in record { out_after = all.0; value = all.1.0; prefix_len = all.1.1 }
 
 pub returns-else-room : goal.returns-else-room
 unfolding fits
 returns-else-room c =
     let d = c.args.out.now in
-    none-shown d (report (asked c) (length d)) (text-lacks (asked c) (length d) c.if-room.false)
+    let all = none-shown d (report (given c.args.answer c.args.settled.now c.args.parts.now c.args.held.now) (length d)) (text-lacks (given c.args.answer c.args.settled.now c.args.parts.now c.args.held.now) (length d) c.if-room.false) in record { out_after = all.0; value = all.1.0; prefix_len = all.1.1 }

@@ -9,18 +9,15 @@ use borrow.Author.Rules.{rules}
 use Rattle.report.proofs.whole.Goals as goal
 use Rattle.report.proofs.whole.Goals.{Start}
 
--- TYPED abbrev asked : tie.Start → OneAnswer
--- asked c = given c.args.answer c.args.settled.now c.args.parts.now c.args.held.now
-
-room : (c : Start) → Room (asked c) (length c.args.out.now)
-room c = has_room (asked c) (length c.args.out.now) c.requires
+room : (c : Start) → Room (given c.args.answer c.args.settled.now c.args.parts.now c.args.held.now) (length c.args.out.now)
+room c = has_room (given c.args.answer c.args.settled.now c.args.parts.now c.args.held.now) (length c.args.out.now) c.requires
 
 pub answer_line-a-requires : goal.answer_line-a-requires
 answer_line-a-requires c = omega (arith, (room (goal.at.answer_line-a-requires c).Start).out)
 
 pub returns-then-answer-ne0 : goal.returns-then-answer-ne0
 returns-then-answer-ne0 c =
-    as-text (refusal-text (asked (goal.at.returns-then-answer-ne0 c).WHERE) c.if-answer-ne0.true) c.answer_line-a.ensures.wrote
+    as-text (refusal-text (given c.args.answer c.args.settled.now c.args.parts.now c.args.held.now) c.if-answer-ne0.true) c.answer_line-a.ensures.wrote
 
 pub lists-b-requires : goal.lists-b-requires
 lists-b-requires c =
@@ -42,4 +39,4 @@ returns c =
     let m = c.lists-b in
     let e = c.end_line in
     let b = both (omega (arith, r.out, l.ensures.upper_bound)) l.ensures.wrote m.ensures.wrote in
-    as-text (answer-text (asked (goal.at.returns c).Start) c.if-answer-ne0.false) (both (omega (arith, r.out, l.ensures.upper_bound, m.ensures.upper_bound)) b e.ensures.wrote)
+    as-text (answer-text (given c.args.answer c.args.settled.now c.args.parts.now c.args.held.now) c.if-answer-ne0.false) (both (omega (arith, r.out, l.ensures.upper_bound, m.ensures.upper_bound)) b e.ensures.wrote)

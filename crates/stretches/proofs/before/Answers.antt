@@ -17,7 +17,7 @@ into-low c = omega (arith, c.loop-lo.invariant.2, c.loop-lo-test.true)
 number-low : (c : After-word_at-x) → let a = c.args in
     c.word_at-x.result < total a.hop_size a.walks.now a.hops.now
 number-low c =
-    here-low c.requires.right _ _ (into-low c.before) c.word_at-x.ensures
+    here-low c.requires.right _ _ (omega (arith, c.loop-lo.invariant.2, c.loop-lo-test.true)) c.word_at-x.ensures
 
 pub loop-lo-init : goal.loop-lo-init
 loop-lo-init c =

@@ -21,7 +21,7 @@ place-low c = omega (arith, c.if-i-n.true, c.requires.sound.1)
 -- the vertex whose numbers begin there
 vertex-low : (c : After-from_of-w) → c.from_of-w.result < length c.args.vertices.now / 12
 vertex-low c =
-    let low = c.requires.sound.0.low c.word_at.result (here-low c.requires.right _ _ (place-low c.before.before) c.word_at.ensures) in
+    let low = c.requires.sound.0.low c.word_at.result (here-low c.requires.right _ _ (omega (arith, c.if-i-n.true, c.requires.sound.1)) c.word_at.ensures) in
     omega (arith, low, c.from_of-w.ensures)
 
 begins : (c : After-from_of-w) → c.fall-i.result ≡ sums c.args.vertices.now c.from_of-w.result
@@ -29,7 +29,7 @@ begins c =
     let a = c.args in
     let F = from_of a.hop_size a.walks.now a.hops.now in
     let falls = c.fall-i.ensures c.if-i-n.true in
-    falls-first c.requires.right c.fall-i.result c.word_at.result c.word_at.ensures (place-low c.before.before) falls.0 falls.1
+    falls-first c.requires.right c.fall-i.result c.word_at.result c.word_at.ensures (omega (arith, c.if-i-n.true, c.requires.sound.1)) falls.0 falls.1
     ∙ ap (λ (w : ℕ). below F w (total a.hop_size a.walks.now a.hops.now)) (sym c.from_of-w.ensures)
     ∙ sym (c.requires.sound.0.counted c.from_of-w.result)
 
