@@ -90,9 +90,9 @@ module _ (F : Feed) (ok : Accepted F) where
       (k.0, omega (arith, k.1, count-is), subst (λ (b : List ℕ). Stands b k.0 S p i) (sym target_is) (pair-stands _ k.0 p i k.1 k.2 q))
 
   -- no arrival before the departure that it follows
-  in_time : (p i : ℕ) → Pair S p i → (stop S p).departure ≤ (stop S i).arrival
+  in_time_lem : (p i : ℕ) → Pair S p i → (stop S p).departure ≤ (stop S i).arrival
   unfolding first_bad_stop in_time too_soon next
-  in_time p i q =
+  in_time_lem p i q =
       let n = some (between S p i) (length S) in
       let timed = (and_both (stop S p).timed (stop S i).timed (and_both ((stop S p).timed && (stop S i).timed) (earlier S p i) (and_both ((stop S p).timed && (stop S i).timed && earlier S p i) (not n) q.consecutive).0).0).1 in
       let good : in_time S i ≡ true = unless-fine (in_time S i) 16 (place (stop S i).line) (omega arith) (from-fine (λ i. unless (in_time S i) 16 (place (stop S i).line)) (length S) 0 parts.times i (omega arith) (omega (arith, q.arrives))) in
@@ -135,7 +135,7 @@ module _ (F : Feed) (ok : Accepted F) where
       unfolding ends_ok
       hop-good p i q h e =
           let a = (limits i q.arrives).arrival in
-          let d = in_time p i q in
+          let d = in_time_lem p i q in
           rw e
           (and-true
           (and-true (and-true (lt-ltb _ _ (vertex-there p q.departs)) (lt-ltb _ _ (vertex-there i q.arrives))) (ap not (ne_eqb _ _ q.apart)))

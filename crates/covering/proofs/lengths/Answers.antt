@@ -1,0 +1,13 @@
+use mathlib.Core.Path.{◌∙◌}
+use borrow.Author.Rules.{rules}
+use Rattle.covering.proofs.FirstFault.{list-cut, parts_cut, none-cut}
+use Rattle.covering.proofs.lengths.Goals as goal
+
+pub returns-then-list-ne0 : goal.returns-then-list-ne0
+returns-then-list-ne0 c = c.refused.ensures ∙ list-cut _ _ c.if-list-ne0.true
+
+pub returns-then-parts-ne0 : goal.returns-then-parts-ne0
+returns-then-parts-ne0 c = c.refused-then-parts-ne0.ensures ∙ parts_cut _ _ c.if-list-ne0.false c.if-parts-ne0.true
+
+pub returns : goal.returns
+returns c = c.fine.ensures ∙ none-cut _ _ c.if-list-ne0.false c.if-parts-ne0.false

@@ -1,0 +1,24 @@
+use mathlib.Core.Path.{◌≡◌, refl, sym, ◌∙◌}
+use mathlib.Core.Bool.{true}
+use Prim.Native.Nat.{ℕ, ◌-◌, ◌/◌, ◌≤◌, ◌<◌}
+use native.Mathlib.Omega.{arith}
+use lib.ListN.{length, length-set}
+use borrow.Author.Tests.{not-true, not-false}
+use borrow.Author.Rules.{rules}
+use Rattle.journeys.specs.VendorLists.{far_before}
+use Rattle.journeys.proofs.Counting.{below_suc}
+use Rattle.reasons.specs.Rows.{net_of, Figures, Gives, entry_good}
+use Rattle.reasons.proofs.OnePass.{good-words, good-low, good-by}
+use Rattle.reasons.proofs.Listing.{first-figures, more-figures, more_given}
+use Rattle.reasons.proofs.first_wrong.Given as goal
+
+abbrev pub invariant-loop-i : goal.invariant-loop-i
+invariant-loop-i l =
+    (l.i ≤ length l.list / 12)
+    × ((k : ℕ) → k < l.i → entry_good (net_of l.vertices l.walks l.hops l.all l.ends) l.all.allowed.0 l.list k ≡ true)
+    × Figures l.far
+    × Gives l.far (far_before l.list l.i)
+    × (length l.far ≡ length l.initial.far)
+
+abbrev pub decreases-loop-i : goal.decreases-loop-i
+decreases-loop-i l = length l.list / 12 - l.i

@@ -1,0 +1,17 @@
+use borrow.Author.Rules.{rules}
+use Prim.Native.Nat.{◌≤◌, ◌-◌, ◌+◌}
+use native.Mathlib.Omega.{arith}
+use mathlib.Core.Path.{◌≡◌, refl, sym, ap, ◌∙◌}
+use lib.ListN.{length, drop}
+use Rattle.feed.specs.Lines.{lines_of}
+use Rattle.lines.proofs.Passes.{stop-within}
+use Rattle.naming.proofs.Places.{next-is, next-as, some-line, no_line}
+use Rattle.reread.specs.Read.{many_lines}
+use Rattle.reread.proofs.Reading.{many-past, many-here, many-over}
+use Rattle.reread.proofs.count_stops.Given as goal
+
+abbrev pub invariant-loop-at : goal.invariant-loop-at
+invariant-loop-at l = (l.at ≤ length l.text) × (l.n ≤ l.at) × (l.n + many_lines (lines_of (drop l.at l.text)) ≡ many_lines (lines_of (drop l.from l.text)))
+
+abbrev pub decreases-loop-at : goal.decreases-loop-at
+decreases-loop-at l = length l.text - l.at

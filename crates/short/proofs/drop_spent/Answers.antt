@@ -1,0 +1,36 @@
+-- `short::drop_spent` meets its contract: only a spent entry goes. Assumes nothing.
+use mathlib.Core.Path.{sym, ap}
+use Rattle.worktable.specs.Map.{put}
+use Rattle.worktable.specs.Table.{map_of}
+use Rattle.worktable.proofs.MapLaws.{swept-spent, swept_kept}
+use Rattle.worktable.proofs.PassLaws.{passed-absent, passed-kept, passed-spent}
+use Rattle.meeting.proofs.Leading as le
+use Rattle.blocks.proofs.NextRecord as nx
+use borrow.Author.Rules.{rules}
+use Rattle.short.proofs.drop_spent.Goals as goal
+
+pub drop-requires : goal.drop-requires
+drop-requires c =
+    let a = c.args in
+    (c.requires.0, (passed-spent a.allowed.0 a.t a.held.now a.u (map_of a.t a.held.now a.u) c.requires.1 c.in-Spent.is).0)
+
+pub returns-in-Spent : goal.returns-in-Spent
+returns-in-Spent c =
+    let a = c.args in
+    let m = map_of a.t a.held.now in
+    let k = passed-spent a.allowed.0 a.t a.held.now a.u (m a.u) c.requires.1 c.in-Spent.is in
+    le.leads-gives c.drop.ensures (ap (put m a.u) (sym (swept-spent a.allowed.0 (m a.u) k.1)))
+
+pub returns-in-Kept : goal.returns-in-Kept
+returns-in-Kept c =
+    let a = c.args in
+    let m = map_of a.t a.held.now in
+    let k = passed-kept a.allowed.0 a.t a.held.now a.u (m a.u) c.requires.1 c.in-Kept.is in
+    le.leads-here c.requires.0 (le.stays_put m a.u _ (sym (swept_kept a.allowed.0 (m a.u) k.1)))
+
+pub returns-in-Absent : goal.returns-in-Absent
+returns-in-Absent c =
+    let a = c.args in
+    let m = map_of a.t a.held.now in
+    let z = passed-absent a.allowed.0 a.t a.held.now a.u (m a.u) c.requires.1 c.in-Absent.is in
+    le.leads-here c.requires.0 (le.stays_put m a.u _ (sym (swept_kept a.allowed.0 (m a.u) (nx.absent-kept a.allowed.0 z))))

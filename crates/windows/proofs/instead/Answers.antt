@@ -1,0 +1,20 @@
+-- `instead`: the hops are more than the room, and stay so.
+use borrow.Author.Rules.{rules}
+use mathlib.Core.Path.{◌≡◌, refl, sym, ap, subst, ◌∙◌}
+use mathlib.Core.List.{List, ◌++◌}
+use Prim.Native.Nat.{ℕ, ◌+◌, ◌-◌, ◌*◌, ◌<◌, ◌≤◌}
+use native.Mathlib.Omega.{arith}
+use lib.ListN.{length, take}
+use Rattle.sorting.specs.Sorted.{recs, sorted}
+use Rattle.sorting.proofs.Arranged.{sorted-ascends}
+use Rattle.windows.specs.Gone.{lines_records, Held}
+use Rattle.windows.proofs.GoneLaws.{gone-next, held-still}
+use Rattle.windows.proofs.instead.Goals as goal
+
+pub returns : goal.returns
+returns c =
+    let a = c.args in
+    let e = c.piece-p.ensures in
+    let S = sorted (lines_records a.c a.stops.now a.trips.now a.text.now a.from) in
+    let r = c.piece-p.result in
+    (e.0, gone-next S (sorted-ascends _) a.run (record { lo = r.lo; carry = r.carry; hops = a.run.hops }) e.0 e.1 (λ H h. held-still H _ c.requires.target_len.2 h))
