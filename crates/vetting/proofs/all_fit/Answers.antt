@@ -14,7 +14,11 @@ use Rattle.vetting.proofs.all_fit.Goals as goal
 pub part_fits-requires : goal.part_fits-requires
 part_fits-requires c =
     let w = stop-within c.args.text.now c.loop-at.at c.line_stop-stop.result 0 c.loop-at.invariant.0 c.line_stop-stop.ensures in
-    ((c.requires.inside.0, w.0, w.1), c.requires.1)
+    record {
+      inside = (c.requires.inside.0, w.0, w.1);
+      slots = c.requires.slots;
+      slots_2 = c.requires.slots_2;
+    }
 
 pub returns-then-not-part_fits : goal.returns-then-not-part_fits
 returns-then-not-part_fits c =

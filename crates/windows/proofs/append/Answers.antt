@@ -1,0 +1,19 @@
+-- `append`: record by record.
+use borrow.Author.Rules.{rules}
+use mathlib.Core.Path.{◌≡◌, refl, sym, ap, subst, ◌∙◌}
+use mathlib.Core.List.{◌++◌}
+use Prim.Native.Nat.{ℕ, ◌+◌, ◌-◌, ◌*◌, ◌<◌, ◌≤◌}
+use native.Mathlib.Omega.{arith}
+use lib.ListN.{length, take}
+use Rattle.table_bytes.proofs.Access.{col-length}
+use Rattle.sorting.specs.Sorted.{recs}
+use Rattle.windows.proofs.GoneLaws.{append-start, append-one}
+use Rattle.windows.proofs.append.Goals as goal
+
+pub loop-i-preserved : goal.loop-i-preserved
+loop-i-preserved c =
+    let a = c.args in (
+      c.put.auto.b ∙ c.loop-i.invariant.0,
+      omega (arith, c.loop-i-test.true),
+      append-one a.k c.loop-i.i _ _ _ _ _ c.loop-i.invariant.2 (rw (col-length 20 a.room c.loop-i.target 0) (omega (arith, c.loop-i-test.true, c.requires.3))) (rw (col-length 20 a.n a.b.now 0) (omega (arith, c.loop-i-test.true, c.requires.2))) c.item_at-x.ensures c.put.ensures,
+    )
