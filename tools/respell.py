@@ -1,7 +1,7 @@
 #!/usr/bin/env python3
 """Brings the repository's own definitions, lemmas, fields and variables to snake case, after port.py of the kit.
 
-usage: python3 tools/respell.py            at the top of the repository: rewrites specs/, proofs/ and the clauses of src/ in place
+usage: python3 tools/respell.py            at the top of the repository, once: rewrites specs/, proofs/ and the clauses of src/ in place
        python3 tools/respell.py --names    prints each old and new name
 
 A word is respelled if it begins with a small letter and has a capital in it, as heldList, which becomes held_list; each part of a name that
@@ -35,7 +35,7 @@ LEMMAS = {
 
 
 def snake(part):
-    return re.sub(r"(?<=[a-z0-9])([A-Z]+)", lambda m: "_" + m.group(1).lower(), part)
+    return re.sub(r"(?<=[a-z0-9])[A-Z]|(?<=[A-Z])[A-Z](?=[a-z])", lambda m: "_" + m.group(0).lower(), part)
 
 
 def files(kind):
@@ -118,6 +118,9 @@ def main(argv):
     if argv == ["--names"]:
         for a, b in sorted(names.items()):
             print(a, b)
+        return 0
+    if not names:
+        print("nothing is left to respell")
         return 0
     for path in files("specs") + files("proofs") + sources():
         old = open(path, encoding="utf-8").read()
