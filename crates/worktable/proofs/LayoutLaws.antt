@@ -163,15 +163,15 @@ module _ {t : Table} {c : Cols} (p : Layout t c) where
       count = omega (arith, p.count);
       top16 = omega (arith, f.low);
       linked =
-        let v : Vacancies t.capacity (set c.w s vacant) (set c₁.n s t.top) (s ∷ p.list) s = (
-          refl,
-          f.low,
-          gone,
-          far,
-          subst (λ (z : ℕ). Vacancies t.capacity (set c.w s vacant) (set c₁.n s t.top) p.list z) (sym (get_or-set_same c₁.n s t.top 0 len))
-              (vacancies-keep t.capacity c.w c.n (set c.w s vacant) (set c₁.n s t.top) p.list t.top s far
-              (λ y ne z. (get_or-set_other c.w s y vacant 0 ne ∙ z, get_or-set_other c₁.n s y t.top 0 ne ∙ lk.rest y ne z)) p.linked),
-        ) in
-        subst (λ (z : List ℕ). Vacancies t.capacity z d.n (s ∷ p.list) s) (sym drop-words)
-            (subst (λ (z : List ℕ). Vacancies t.capacity (set c.w s vacant) z (s ∷ p.list) s) (sym links) v);
+          let v : Vacancies t.capacity (set c.w s vacant) (set c₁.n s t.top) (s ∷ p.list) s = (
+            refl,
+            f.low,
+            gone,
+            far,
+            subst (λ (z : ℕ). Vacancies t.capacity (set c.w s vacant) (set c₁.n s t.top) p.list z) (sym (get_or-set_same c₁.n s t.top 0 len))
+                (vacancies-keep t.capacity c.w c.n (set c.w s vacant) (set c₁.n s t.top) p.list t.top s far
+                (λ y ne z. (get_or-set_other c.w s y vacant 0 ne ∙ z, get_or-set_other c₁.n s y t.top 0 ne ∙ lk.rest y ne z)) p.linked),
+          ) in
+          subst (λ (z : List ℕ). Vacancies t.capacity z d.n (s ∷ p.list) s) (sym drop-words)
+          (subst (λ (z : List ℕ). Vacancies t.capacity (set c.w s vacant) z (s ∷ p.list) s) (sym links) v);
     }

@@ -24,16 +24,16 @@ go_on {r} {a} {b} e z f = f ∙ sym (or-next a b (none e z))
 pub table_faults-of_walks-requires : goal.table_faults-of_walks-requires
 unfolding size_of
 table_faults-of_walks-requires c = record {
-      table_bound = (c.requires.sizes.walks_most, omega arith);
-      le_size = (omega arith, refl);
-    }
+  table_bound = (c.requires.sizes.walks_most, omega arith);
+  le_size = (omega arith, refl);
+}
 
 pub table_faults-of_hops-requires : goal.table_faults-of_hops-requires
 unfolding size_of
 table_faults-of_hops-requires c = record {
-      table_bound = (c.requires.sizes.hops_most, omega arith);
-      le_size = (c.requires.sizes.hop_fits, refl);
-    }
+  table_bound = (c.requires.sizes.hops_most, omega arith);
+  le_size = (c.requires.sizes.hop_fits, refl);
+}
 
 pub returns-then-of_walks-ne0 : goal.returns-then-of_walks-ne0
 returns-then-of_walks-ne0 c =
@@ -67,7 +67,7 @@ vertex_records-requires c =
       sizes = c.requires.sizes;
       scratch_len = (c.requires.scratch_len.0, c.table_faults-of_walks.ensures.alone_value c.if-of_walks-ne0.false, c.requires.scratch_len.1);
       passed = passed a.hop_size a.vertices.now a.walks.now a.hops.now (none c.table_faults-of_walks.ensures.bad_value c.if-of_walks-ne0.false) (none c.table_faults-of_hops.ensures.bad_value c.if-of_hops-ne0.false)
-            (none (c.table_faults-of_walks.ensures.order_value c.if-of_walks-ne0.false) c.if-of_walks-ne0-2.false) (none (c.table_faults-of_hops.ensures.order_value c.if-of_hops-ne0.false) c.if-of_hops-ne0-2.false);
+          (none (c.table_faults-of_walks.ensures.order_value c.if-of_walks-ne0.false) c.if-of_walks-ne0-2.false) (none (c.table_faults-of_hops.ensures.order_value c.if-of_hops-ne0.false) c.if-of_hops-ne0-2.false);
     }
 
 pub returns : goal.returns

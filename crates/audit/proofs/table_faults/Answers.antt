@@ -51,10 +51,10 @@ loop-i-init c =
 
 pub record_fault-bad-requires : goal.record_fault-bad-requires
 record_fault-bad-requires c = record {
-      i_bound = (omega arith, c.requires.table_bound.0);
-      by_index = c.loop-i.invariant.4;
-      le_size = c.requires.le_size;
-    }
+  i_bound = (omega arith, c.requires.table_bound.0);
+  by_index = c.loop-i.invariant.4;
+  le_size = c.requires.le_size;
+}
 
 pub returns-then-bad-ne0 : goal.returns-then-bad-ne0
 returns-then-bad-ne0 c =

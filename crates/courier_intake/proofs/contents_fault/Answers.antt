@@ -26,9 +26,9 @@ contents_counted-bad-requires c =
 
 pub returns-then-bad-ne0 : goal.returns-then-bad-ne0
 returns-then-bad-ne0 c = let told = c.contents_counted-bad.ensures in record {
-      result_value = refuses _ told.result_value _ c.if-bad-ne0.true;
-      scratch_after = told.scratch_after;
-    }
+  result_value = refuses _ told.result_value _ c.if-bad-ne0.true;
+  scratch_after = told.scratch_after;
+}
 
 pub returns-then-sure : goal.returns-then-sure
 returns-then-sure c =
@@ -45,15 +45,15 @@ contents-bad-requires c = sizes _ _ _ _ c.requires.hops_value
 
 pub returns-then-bad-ne0-2 : goal.returns-then-bad-ne0-2
 returns-then-bad-ne0-2 c = let told = c.contents-bad.ensures in record {
-      result_value = refuses _ told.result_value _ c.if-bad-ne0-2.true;
-      scratch_after = told.scratch_after;
-    }
+  result_value = refuses _ told.result_value _ c.if-bad-ne0-2.true;
+  scratch_after = told.scratch_after;
+}
 
 pub fault-other-requires : goal.fault-other-requires
 fault-other-requires c = record {
-      le_hop_size = (omega (arith, size_fits _ _ _ _ c.requires.hops_value), lengths-valid _ _ _ _ c.requires.hops_value (fine-so-far _ c.contents-bad.ensures.result_value c.if-bad-ne0-2.false));
-      list_len = c.requires.list_len;
-    }
+  le_hop_size = (omega (arith, size_fits _ _ _ _ c.requires.hops_value), lengths-valid _ _ _ _ c.requires.hops_value (fine-so-far _ c.contents-bad.ensures.result_value c.if-bad-ne0-2.false));
+  list_len = c.requires.list_len;
+}
 
 pub returns-then-other-ne0 : goal.returns-then-other-ne0
 returns-then-other-ne0 c =

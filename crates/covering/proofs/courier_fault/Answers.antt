@@ -28,9 +28,9 @@ returns-then-short-ne0 c =
 
 pub contents_fault-bad-requires : goal.contents_fault-bad-requires
 contents_fault-bad-requires c = record {
-      hops_value = fine-so-far _ c.lengths-uneven.ensures c.if-uneven-ne0.false;
-      list_len = length_is _ _ _ _ _ (fine-so-far _ c.list_length-short.ensures c.if-short-ne0.false);
-    }
+  hops_value = fine-so-far _ c.lengths-uneven.ensures c.if-uneven-ne0.false;
+  list_len = length_is _ _ _ _ _ (fine-so-far _ c.list_length-short.ensures c.if-short-ne0.false);
+}
 
 pub returns-then-bad-ne0 : goal.returns-then-bad-ne0
 unfolding courier_parts_early

@@ -16,9 +16,9 @@ use Rattle.evening.proofs.first_fault.Goals as goal
 pub returns-then-sizes-ne0 : goal.returns-then-sizes-ne0
 unfolding evening_refusal
 returns-then-sizes-ne0 c = record {
-      result_value = refuses _ c.lengths_fault-sizes.ensures _ c.if-sizes-ne0.true;
-      scratch_after = c.clear.ensures;
-    }
+  result_value = refuses _ c.lengths_fault-sizes.ensures _ c.if-sizes-ne0.true;
+  scratch_after = c.clear.ensures;
+}
 
 pub contents-bad-requires : goal.contents-bad-requires
 contents-bad-requires c =
@@ -27,16 +27,16 @@ contents-bad-requires c =
 pub returns-then-bad-ne0 : goal.returns-then-bad-ne0
 unfolding evening_refusal
 returns-then-bad-ne0 c = record {
-      result_value = hands_on _ c.lengths_fault-sizes.ensures c.if-sizes-ne0.false (refuses _ c.contents-bad.ensures.result_value _ c.if-bad-ne0.true);
-      scratch_after = c.contents-bad.ensures.scratch_after;
-    }
+  result_value = hands_on _ c.lengths_fault-sizes.ensures c.if-sizes-ne0.false (refuses _ c.contents-bad.ensures.result_value _ c.if-bad-ne0.true);
+  scratch_after = c.contents-bad.ensures.scratch_after;
+}
 
 pub returns-then-asked-ne0 : goal.returns-then-asked-ne0
 unfolding evening_refusal
 returns-then-asked-ne0 c = record {
-      result_value = hands_on _ c.lengths_fault-sizes.ensures c.if-sizes-ne0.false (hands_on _ c.contents-bad.ensures.result_value c.if-bad-ne0.false (refuses _ (c.query_fault-asked.ensures _ _ _) _ c.if-asked-ne0.true));
-      scratch_after = c.contents-bad.ensures.scratch_after;
-    }
+  result_value = hands_on _ c.lengths_fault-sizes.ensures c.if-sizes-ne0.false (hands_on _ c.contents-bad.ensures.result_value c.if-bad-ne0.false (refuses _ (c.query_fault-asked.ensures _ _ _) _ c.if-asked-ne0.true));
+  scratch_after = c.contents-bad.ensures.scratch_after;
+}
 
 pub patients_fault-many-requires : goal.patients_fault-many-requires
 patients_fault-many-requires c =
@@ -48,10 +48,10 @@ patients_fault-many-requires c =
 pub returns-then-many-ne0 : goal.returns-then-many-ne0
 unfolding evening_refusal
 returns-then-many-ne0 c = record {
-      result_value = hands_on _ c.lengths_fault-sizes.ensures c.if-sizes-ne0.false
+  result_value = hands_on _ c.lengths_fault-sizes.ensures c.if-sizes-ne0.false
       (hands_on _ c.contents-bad.ensures.result_value c.if-bad-ne0.false (hands_on _ (c.query_fault-asked.ensures _ _ _) c.if-asked-ne0.false (refuses _ c.patients_fault-many.ensures _ c.if-many-ne0.true)));
-      scratch_after = c.contents-bad.ensures.scratch_after;
-    }
+  scratch_after = c.contents-bad.ensures.scratch_after;
+}
 
 pub evening_fault-requires : goal.evening_fault-requires
 evening_fault-requires c =
@@ -60,7 +60,7 @@ evening_fault-requires c =
 pub returns : goal.returns
 unfolding evening_refusal
 returns c = record {
-      result_value = hands_on _ c.lengths_fault-sizes.ensures c.if-sizes-ne0.false
+  result_value = hands_on _ c.lengths_fault-sizes.ensures c.if-sizes-ne0.false
       (hands_on _ c.contents-bad.ensures.result_value c.if-bad-ne0.false (hands_on _ (c.query_fault-asked.ensures _ _ _) c.if-asked-ne0.false (hands_on _ c.patients_fault-many.ensures c.if-many-ne0.false c.evening_fault.ensures)));
-      scratch_after = c.contents-bad.ensures.scratch_after;
-    }
+  scratch_after = c.contents-bad.ensures.scratch_after;
+}

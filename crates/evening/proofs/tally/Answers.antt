@@ -32,8 +32,7 @@ overflow_add-sum c =
 pub loop-i-preserved : goal.loop-i-preserved
 unfolding listed_patients
 loop-i-preserved c =
-    let L = c.loop-i in
-    (
+    let L = c.loop-i in (
       omega arith,
       tally-turn c.args.report.now c.args.list.now L.report L.i _ _ _ L.invariant.1 c.word_at-v.ensures c.word_at-times.ensures c.put_word.ensures,
       c.report-1.given ∙ L.invariant.2,

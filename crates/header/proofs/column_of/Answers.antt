@@ -13,9 +13,9 @@ loop-next-init c = (omega arith, omega arith, column-whole _ _)
 
 pub named-requires : goal.named-requires
 named-requires c = record {
-      at_in_bounds = (omega arith, (goes-field c.args.line.now c.loop-next.at c.loop-next.invariant.0 _ (sym c.some_fields-stand.ensures ∙ c.in-Begins.is)).2);
-      name_value = c.requires;
-    }
+  at_in_bounds = (omega arith, (goes-field c.args.line.now c.loop-next.at c.loop-next.invariant.0 _ (sym c.some_fields-stand.ensures ∙ c.in-Begins.is)).2);
+  name_value = c.requires;
+}
 
 pub returns-then-named : goal.returns-then-named
 returns-then-named c = sym (column-here _ _ _ _ _ (goes-field c.args.line.now c.loop-next.at c.loop-next.invariant.0 _ (sym c.some_fields-stand.ensures ∙ c.in-Begins.is)).1 (sym c.named.ensures ∙ c.if-named.true)) ∙ c.loop-next.invariant.2
@@ -28,9 +28,9 @@ loop-next-preserved c = let g = goes-field c.args.line.now c.loop-next.at c.loop
 
 pub named-requires-in-Ended : goal.named-requires-in-Ended
 named-requires-in-Ended c = record {
-      at_in_bounds = (omega arith, (last-field c.args.line.now c.loop-next.at c.loop-next.invariant.0 _ (sym c.some_fields-stand.ensures ∙ c.in-Ended.is)).1);
-      name_value = c.requires;
-    }
+  at_in_bounds = (omega arith, (last-field c.args.line.now c.loop-next.at c.loop-next.invariant.0 _ (sym c.some_fields-stand.ensures ∙ c.in-Ended.is)).1);
+  name_value = c.requires;
+}
 
 pub returns-then-named-2 : goal.returns-then-named-2
 returns-then-named-2 c = sym (column-here _ _ _ _ _ (last-field c.args.line.now c.loop-next.at c.loop-next.invariant.0 _ (sym c.some_fields-stand.ensures ∙ c.in-Ended.is)).0 (sym c.named-in-Ended.ensures ∙ c.if-named-2.true)) ∙ c.loop-next.invariant.2

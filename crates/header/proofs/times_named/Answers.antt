@@ -13,9 +13,9 @@ loop-next-init c = (omega arith, omega arith, times-whole _ _)
 
 pub named-requires : goal.named-requires
 named-requires c = record {
-      at_in_bounds = (omega arith, (goes-field c.args.line.now c.loop-next.at c.loop-next.invariant.0 _ (sym c.some_fields-stand.ensures ∙ c.in-Begins.is)).2);
-      name_value = c.requires;
-    }
+  at_in_bounds = (omega arith, (goes-field c.args.line.now c.loop-next.at c.loop-next.invariant.0 _ (sym c.some_fields-stand.ensures ∙ c.in-Begins.is)).2);
+  name_value = c.requires;
+}
 
 pub loop-next-smaller-then-named : goal.loop-next-smaller-then-named
 loop-next-smaller-then-named c = let g = goes-field c.args.line.now c.loop-next.at c.loop-next.invariant.0 _ (sym c.some_fields-stand.ensures ∙ c.in-Begins.is) in omega arith
@@ -31,9 +31,9 @@ loop-next-preserved c = let g = goes-field c.args.line.now c.loop-next.at c.loop
 
 pub named-requires-in-Ended : goal.named-requires-in-Ended
 named-requires-in-Ended c = record {
-      at_in_bounds = (omega arith, (last-field c.args.line.now c.loop-next.at c.loop-next.invariant.0 _ (sym c.some_fields-stand.ensures ∙ c.in-Ended.is)).1);
-      name_value = c.requires;
-    }
+  at_in_bounds = (omega arith, (last-field c.args.line.now c.loop-next.at c.loop-next.invariant.0 _ (sym c.some_fields-stand.ensures ∙ c.in-Ended.is)).1);
+  name_value = c.requires;
+}
 
 pub returns-then-named-2 : goal.returns-then-named-2
 returns-then-named-2 c = let g = last-field c.args.line.now c.loop-next.at c.loop-next.invariant.0 _ (sym c.some_fields-stand.ensures ∙ c.in-Ended.is) in omega (arith, times-one c.args.name.now _ _ _ g.0 (sym c.named-in-Ended.ensures ∙ c.if-named-2.true), times_none c.args.name.now _ refl)

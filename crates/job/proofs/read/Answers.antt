@@ -54,6 +54,6 @@ returns-in-Faulty c =
 pub returns : goal.returns
 unfolding job_of
 returns c = record {
-      result_value = at-end c.loop-i.invariant.0 c.loop-i-test.false c.loop-i.invariant.1;
-      laid_out = tt;
-    }
+  result_value = at-end c.loop-i.invariant.0 c.loop-i-test.false c.loop-i.invariant.1;
+  laid_out = tt;
+}

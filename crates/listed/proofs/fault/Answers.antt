@@ -61,9 +61,9 @@ overflow_cast-v c = record { fits = omega (arith, few (goal.at.overflow_cast-v c
 
 pub wrong_in-at-requires : goal.wrong_in-at-requires
 wrong_in-at-requires c = record {
-      le_hop_size = (c.requires.le_hop_size.0, (good (goal.at.wrong_in-at-requires c).Start).few, long (goal.at.wrong_in-at-requires c).Start, end_low (goal.at.wrong_in-at-requires c).After-departing_of);
-      first_value = (c.loop-v.invariant.0, ends (goal.at.wrong_in-at-requires c).After-departing_of);
-    }
+  le_hop_size = (c.requires.le_hop_size.0, (good (goal.at.wrong_in-at-requires c).Start).few, long (goal.at.wrong_in-at-requires c).Start, end_low (goal.at.wrong_in-at-requires c).After-departing_of);
+  first_value = (c.loop-v.invariant.0, ends (goal.at.wrong_in-at-requires c).After-departing_of);
+}
 
 pub overflow_cast-at : goal.overflow_cast-at
 overflow_cast-at c =

@@ -16,13 +16,12 @@ use Rattle.lists.proofs.Entries.{start_fits, judged-by-marks, marks-more, none_n
 use Rattle.lists.proofs.scan.Goals as goal
 
 pub loop-i-init : goal.loop-i-init
-loop-i-init c =
-    (
-      omega arith,
-      refl,
-      λ k h. absurd (omega arith),
-      λ b h. zero_bit c.args.marks.now c.requires.marks_value b h ∙ none_named c.args.size c.args.list.now (32768 * c.args.half + b),
-    )
+loop-i-init c = (
+  omega arith,
+  refl,
+  λ k h. absurd (omega arith),
+  λ b h. zero_bit c.args.marks.now c.requires.marks_value b h ∙ none_named c.args.size c.args.list.now (32768 * c.args.half + b),
+)
 
 pub returns-then-not-entry_ok : goal.returns-then-not-entry_ok
 unfolding half_ok

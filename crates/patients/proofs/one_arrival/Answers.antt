@@ -40,12 +40,12 @@ returns c =
     let list = take (8 * r.result.settled) r.new.settled in record {
       allowed = r.ensures.allowed;
       parts_value = (
-          r.ensures.parts_value,
-          λ _.
-              c.put_word.ensures
-              ∙ ap₂ (λ (x : List ℕ) (y : ℕ). written x c.args.at (word y))
-              (t.ensures.report_after ∙ ap (tallied c.args.report.now list) e)
-              (t.ensures.value ∙ ap (listed_patients c.args.patients.now list) e),
-        );
+        r.ensures.parts_value,
+        λ _.
+            c.put_word.ensures
+            ∙ ap₂ (λ (x : List ℕ) (y : ℕ). written x c.args.at (word y))
+            (t.ensures.report_after ∙ ap (tallied c.args.report.now list) e)
+            (t.ensures.value ∙ ap (listed_patients c.args.patients.now list) e),
+      );
       scratch_after = r.ensures.scratch_after;
     }

@@ -7,9 +7,9 @@ use Rattle.quick.proofs.lay_group.Goals as goal
 
 pub returns-then-not-claims : goal.returns-then-not-claims
 returns-then-not-claims c = record {
-      claimed_2 = λ _. claimed-kept c.claims.ensures.same c.requires.claimed;
-      claimed_3 = λ n. absurd (n refl);
-    }
+  claimed_2 = λ _. claimed-kept c.claims.ensures.same c.requires.claimed;
+  claimed_3 = λ n. absurd (n refl);
+}
 
 pub returns : goal.returns
 returns c =

@@ -43,9 +43,9 @@ add_one-requires c =
       in_order = (i.holds.order, y.sound, y.near, l, c.requires.1, omega (arith, l, c.requires.2));
       arriving_bound = (λ h. new-few R n m y.enough (R.from L.j) (new h));
       nonzero = λ h t. (
-          nx.added-left R n (map_of a.t a.held.now) L.j l refl (comes_to R n m) news i.holds.map (and-true (new h) t),
-          nx.added-entry R n (map_of a.t a.held.now) L.j l refl (comes_to R n m) news i.holds.map refl (and-true (new h) t),
-        );
+        nx.added-left R n (map_of a.t a.held.now) L.j l refl (comes_to R n m) news i.holds.map (and-true (new h) t),
+        nx.added-entry R n (map_of a.t a.held.now) L.j l refl (comes_to R n m) news i.holds.map refl (and-true (new h) t),
+      );
     }
 
 pub returns-in_default : goal.returns-in_default

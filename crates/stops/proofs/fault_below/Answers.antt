@@ -26,9 +26,9 @@ column_of-sequence-requires c = refl
 
 pub lines_fault-requires : goal.lines_fault-requires
 lines_fault-requires c = record {
-      from_in_bounds = c.requires;
-      arrival_lt_count = columns-below _ _ _ _ _ (sym c.columns_once.ensures ∙ not-false _ c.if-not-columns_once.false-raw) c.count_fields-fields.ensures.many c.column_of-arrival.ensures c.column_of-departure.ensures c.column_of-sequence.ensures (omega (arith, c.count_fields-fields.ensures.few, c.well_formed.0.1));
-    }
+  from_in_bounds = c.requires;
+  arrival_lt_count = columns-below _ _ _ _ _ (sym c.columns_once.ensures ∙ not-false _ c.if-not-columns_once.false-raw) c.count_fields-fields.ensures.many c.column_of-arrival.ensures c.column_of-departure.ensures c.column_of-sequence.ensures (omega (arith, c.count_fields-fields.ensures.few, c.well_formed.0.1));
+}
 
 pub returns : goal.returns
 returns c = c.lines_fault.ensures ∙ sound-header _ _ (sym c.columns_once.ensures ∙ not-false _ c.if-not-columns_once.false-raw) _ _ _ _ (sym c.count_fields-fields.ensures.sound ∙ not-false _ c.if-not-sound.false-raw) c.count_fields-fields.ensures.many c.column_of-arrival.ensures c.column_of-departure.ensures c.column_of-sequence.ensures

@@ -12,9 +12,9 @@ use Rattle.stops.proofs.lines_fault.Goals as goal
 
 pub line_good-requires : goal.line_good-requires
 line_good-requires c = record {
-      at_le_stop = stop-within c.args.text.now c.loop-at.at c.line_stop-stop.result 0 c.loop-at.invariant.0 c.line_stop-stop.ensures;
-      arrival_lt_count = c.requires.arrival_lt_count;
-    }
+  at_le_stop = stop-within c.args.text.now c.loop-at.at c.line_stop-stop.result 0 c.loop-at.invariant.0 c.line_stop-stop.ensures;
+  arrival_lt_count = c.requires.arrival_lt_count;
+}
 
 pub returns-then-not-line_good : goal.returns-then-not-line_good
 returns-then-not-line_good c = c.refused.ensures ∙ ap (λ n. record { number = 13; place = n }) (sym (place_is _ c.loop-at.invariant.1)) ∙ sym (pass-bad 13 (line_good c.args.count c.args.arrival c.args.departure c.args.sequence) c.args.text.now c.loop-at.line c.loop-at.at c.line_stop-stop.result _ (omega arith) c.line_stop-stop.ensures refl refl (sym c.line_good.ensures ∙ not-true _ c.if-not-line_good.true-raw)) ∙ c.loop-at.invariant.2

@@ -8,24 +8,22 @@ use Rattle.table_tree.proofs.LinkLaws.{link-alone, link-first, link-above, link-
 use Rattle.table_tree.proofs.link.Goals as goal
 
 pub push-requires : goal.push-requires
-push-requires c =
-    (
-      c.requires.0.len,
-      omega (arith, c.bucket-k.ensures.1, c.requires.1.mask, (sized c.args.r c.args.b.now).h),
-      omega (arith, c.requires.2, c.requires.0.fits),
-      omega (arith, c.requires.2, c.requires.0.small),
-      omega (arith, c.requires.2, c.requires.0.small),
-    )
+push-requires c = (
+  c.requires.0.len,
+  omega (arith, c.bucket-k.ensures.1, c.requires.1.mask, (sized c.args.r c.args.b.now).h),
+  omega (arith, c.requires.2, c.requires.0.fits),
+  omega (arith, c.requires.2, c.requires.0.small),
+  omega (arith, c.requires.2, c.requires.0.small),
+)
 
 pub push-requires-then-h-s : goal.push-requires-then-h-s
-push-requires-then-h-s c =
-    (
-      c.requires.0.len,
-      omega (arith, c.bucket-k.ensures.1, c.requires.1.mask, (sized c.args.r c.args.b.now).h),
-      omega (arith, c.requires.2, c.requires.0.fits),
-      omega (arith, c.requires.2, c.requires.0.small),
-      omega (arith, c.if-h-s.true, c.requires.2, c.requires.0.small),
-    )
+push-requires-then-h-s c = (
+  c.requires.0.len,
+  omega (arith, c.bucket-k.ensures.1, c.requires.1.mask, (sized c.args.r c.args.b.now).h),
+  omega (arith, c.requires.2, c.requires.0.fits),
+  omega (arith, c.requires.2, c.requires.0.small),
+  omega (arith, c.if-h-s.true, c.requires.2, c.requires.0.small),
+)
 
 pub returns-then-h-cap : goal.returns-then-h-cap
 returns-then-h-cap c =

@@ -22,9 +22,9 @@ size_is c = c.width-size.ensures.0 ∙ ap width c.greatest.ensures
 
 pub pack-requires : goal.pack-requires
 pack-requires c = record {
-      width = (c.width-size.ensures.1, omega arith, omega arith);
-      by_index = small (goal.at.pack-requires c).After-width-size;
-    }
+  width = (c.width-size.ensures.1, omega arith, omega arith);
+  by_index = small (goal.at.pack-requires c).After-width-size;
+}
 
 pub returns : goal.returns
 returns c =

@@ -12,14 +12,13 @@ use Rattle.worktable.proofs.FinishLaws.{lists, finish-count, finish-filled}
 use Rattle.worktable.proofs.finish.Goals as goal
 
 pub sort-requires : goal.sort-requires
-sort-requires c =
-    (
-      c.pack-k.auto.b ∙ c.requires.slotted.len,
-      omega arith,
-      omega (arith, c.pack-k.ensures.le, c.requires.slotted.fits),
-      omega arith,
-      λ i a l. (omega arith, vertex-low (at (cols c.args.t.slots c.pack-k.new.b).w i)),
-    )
+sort-requires c = (
+  c.pack-k.auto.b ∙ c.requires.slotted.len,
+  omega arith,
+  omega (arith, c.pack-k.ensures.le, c.requires.slotted.fits),
+  omega arith,
+  λ i a l. (omega arith, vertex-low (at (cols c.args.t.slots c.pack-k.new.b).w i)),
+)
 
 pub returns : goal.returns
 returns c =

@@ -7,6 +7,6 @@ use Rattle.siltbrow.proofs.dispatch.siltbrow_courier_list.Goals as goal
 pub returns : goal.returns
 unfolding packed
 returns c = record {
-      value = ap packed c.courier_list-refusal.ensures.result_value;
-      list_after = c.courier_list-refusal.ensures.list_after;
-    }
+  value = ap packed c.courier_list-refusal.ensures.result_value;
+  list_after = c.courier_list-refusal.ensures.list_after;
+}

@@ -7,6 +7,6 @@ use Rattle.siltbrow.proofs.moving.siltbrow_hops_forward.Goals as goal
 pub returns : goal.returns
 unfolding packed
 returns c = let move = c.forward-refusal in record {
-      value = ap packed move.ensures.result_value;
-      target_after = move.ensures.target_after;
-    }
+  value = ap packed move.ensures.result_value;
+  target_after = move.ensures.target_after;
+}
