@@ -46,8 +46,8 @@ largest_finite = 0x7f7f_ffff
 abbrev infinity : ℕ
 infinity = 0x7f80_0000
 
-abbrev not_anumber : ℕ
-not_anumber = 0x7fc0_0000
+abbrev not_a_number : ℕ
+not_a_number = 0x7fc0_0000
 
 unfoldable pub rows : List Row
 rows =
@@ -60,7 +60,7 @@ rows =
     ∷ row 2 (1 ∷ []) (0 ∷ 0 ∷ minus_one ∷ one ∷ []) (0 ∷ 0 ∷ minus_one ∷ minus_one ∷ one ∷ one ∷ [])
     -- 23 looks at the whole table
     ∷ row 2 (0 ∷ []) (0 ∷ 0 ∷ 0 ∷ infinity ∷ []) (23 ∷ 1 ∷ 0 ∷ 0 ∷ 0 ∷ 0 ∷ [])
-    ∷ row 2 (1 ∷ []) (not_anumber ∷ 0 ∷ 0 ∷ 0 ∷ []) (23 ∷ 0 ∷ 0 ∷ 0 ∷ 0 ∷ 0 ∷ [])
+    ∷ row 2 (1 ∷ []) (not_a_number ∷ 0 ∷ 0 ∷ 0 ∷ []) (23 ∷ 0 ∷ 0 ∷ 0 ∷ 0 ∷ 0 ∷ [])
     -- 24 comes after 23, and 21 before both; of equal vertices the later
     ∷ row 2 [] (0 ∷ 0 ∷ 0 ∷ infinity ∷ []) (23 ∷ 1 ∷ 0 ∷ 0 ∷ 0 ∷ 0 ∷ [])
     ∷ row 2 [] (0 ∷ 0 ∷ 0 ∷ 0 ∷ []) (24 ∷ 0 ∷ 0 ∷ 0 ∷ 0 ∷ 0 ∷ [])
