@@ -3,7 +3,7 @@ use mathlib.Core.Path.{◌≡◌, refl, sym, ap, subst, ◌∙◌}
 use mathlib.Core.Logic.{⊎_elim, ◌↔◌, ◌≢◌}
 use mathlib.Core.Bool.{true, false, cond}
 use mathlib.Core.List.{List, flat_map}
-use Prim.Native.Nat.{ℕ, ◌≤◌, ◌<◌, min}
+use Prim.Native.Nat.{ℕ, ◌≤◌, ◌<◌}
 use native.Mathlib.Omega.{arith}
 use lib.Dec.{eqb, leb}
 use lib.ListN.{length}
@@ -22,7 +22,7 @@ use Rattle.journeys.proofs.Told as theory
 use Rattle.journeys.proofs.Told.{Told}
 use Rattle.calls.specs.CallBytes.{answer_bytes}
 use Rattle.answered.proofs.SixNumbers.{six-0, six-4, six-8, six-12, six-16, six-20}
-use Rattle.answered.specs.Search.{Search, refused_as, Orders, Ruled, refusal, place, settled_count, part_count, held_count, finished, steps, S}
+use Rattle.answered.specs.Search.{Search, Orders, Ruled, refusal, place, settled_count, part_count, held_count, finished, steps, S}
 
 -- the six numbers as they stand in the answer slice
 pub refusal-read : (a : Answer) → be32 (answer_bytes a) 0 ≡ a.refusal

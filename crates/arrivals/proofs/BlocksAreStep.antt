@@ -1,7 +1,7 @@
 -- The step block by block ends as passing all records does, and it has room on the way exactly if that has. Assumes nothing.
 use mathlib.Core.Path.{◌≡◌, refl, sym, ap, fun_ext, ◌∙◌, subst}
-use mathlib.Core.Logic.{◌≢◌, ◌⊎◌, inl, inr, ⊎_elim}
-use mathlib.Core.Bool.{Bool, true, false, cond, ◌&&◌}
+use mathlib.Core.Logic.{◌⊎◌, inl, inr, ⊎_elim}
+use mathlib.Core.Bool.{cond}
 use mathlib.Core.List.{List}
 use Prim.Native.Nat.{ℕ, suc, ◌+◌, ◌*◌, ◌/◌, ◌≤◌, ◌<◌}
 use native.Mathlib.Decide.{ℕ_discrete}
@@ -15,8 +15,7 @@ use Rattle.worktable.specs.Map.{Entry, absent, known, Map, swept, touched, one, 
 use Rattle.worktable.specs.declared.Table.{Table}
 use Rattle.meeting.specs.Passing.{missing, goes, along, meets, passed, left, leaving, Enough, Few}
 use Rattle.meeting.specs.Answer.{Leads, ArrivedIs}
-use Rattle.meeting.specs.declared.Arrived.{Arrived}
-use Rattle.meeting.specs.declared.Arrived.TheVariants.{Fits, NoRoom}
+use Rattle.std.specs.Prelude.{Option, Some, None}
 use Rattle.meeting.proofs.Entries.{missing-absent, absent-missing, left-absent}
 use Rattle.meeting.proofs.Along.{goes-along, along-id, along-none}
 use Rattle.meeting.proofs.Leading.{leads-room}
@@ -166,20 +165,24 @@ module _ (R : Row) (n : ℕ) (m : Map) (enough : Enough R n m) (low : (j : ℕ) 
   fresh-lower few {k} e u l z = fresh-touched few refl u (sym (lower u l) ∙ ap (λ (x : Map). x u) (sym e) ∙ z)
 
 -- ---- answers
-pub range-fits : (R : Row) (n lo hi : ℕ) (t : Table) (c : List ℕ) (m : Map) {r : Table} {x : Arrived} → RangeIs R n lo hi t c m x → x ≡ Fits r → Leads t r c (over_to R n lo hi m)
+pub range-fits : (R : Row) (n lo hi : ℕ) (t : Table) (c : List ℕ) (m : Map) {r : Table} {x : Option Table} → RangeIs R n lo hi t c m x → x ≡ Some r → Leads t r c (over_to R n lo hi m)
 unfolding RangeIs
 range-fits R n lo hi t c m h e = subst (RangeIs R n lo hi t c m) e h
 
-pub range-full : (R : Row) (n lo hi : ℕ) (t : Table) (c : List ℕ) (m : Map) {x : Arrived} → RangeIs R n lo hi t c m x → x ≡ NoRoom → (i : ℕ) × (lo ≤ i) × (i ≤ hi) × (t.room < size (over_to R n lo i m))
+pub range-full : (R : Row) (n lo hi : ℕ) (t : Table) (c : List ℕ) (m : Map) {x : Option Table} → RangeIs R n lo hi t c m x → x ≡ None → (i : ℕ) × (lo ≤ i) × (i ≤ hi) × (t.room < size (over_to R n lo i m))
 unfolding RangeIs
 range-full R n lo hi t c m h e = subst (RangeIs R n lo hi t c m) e h
 
+pub range-lacks : (R : Row) (n lo hi : ℕ) (t : Table) (c : List ℕ) (m : Map) {x : Option Table} → (i : ℕ) × (lo ≤ i) × (i ≤ hi) × (t.room < size (over_to R n lo i m)) → x ≡ None → RangeIs R n lo hi t c m x
+unfolding RangeIs
+range-lacks R n lo hi t c m h e = rw e h
+
 -- the second range ends the step
-pub step-over : (R : Row) (n hi : ℕ) (t r : Table) (c : List ℕ) (x : Arrived) {k U F : Map} → r.room ≡ t.room → k ≡ U → over_to R n 0 hi U ≡ F → ((i : ℕ) → i ≤ hi → size (over_to R n 0 i U) ≤ size F)
+pub step-over : (R : Row) (n hi : ℕ) (t r : Table) (c : List ℕ) (x : Option Table) {k U F : Map} → r.room ≡ t.room → k ≡ U → over_to R n 0 hi U ≡ F → ((i : ℕ) → i ≤ hi → size (over_to R n 0 i U) ≤ size F)
     → RangeIs R n 0 hi r c k x → ArrivedIs t c F x
 unfolding RangeIs ArrivedIs
-step-over R n hi t r c (Fits z) {k} {U} {F} q e f room h =
+step-over R n hi t r c (Some z) {k} {U} {F} q e f room h =
     let l : Leads t z c F = subst (Leads t z c) (ap (over_to R n 0 hi) e ∙ f) (record { holds = h.holds; room = h.room ∙ q }) in
     (l, leads-room l)
-step-over R n hi t r c NoRoom {k} {U} {F} q e f room h =
+step-over R n hi t r c None {k} {U} {F} q e f room h =
     omega (arith, q, room h.0 h.2, h.3, ap (λ (M : Map). size (over_to R n 0 h.0 M)) e)

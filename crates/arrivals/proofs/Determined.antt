@@ -1,30 +1,29 @@
 -- Any two answers that the contract of `arrive` allows say the same: whether the step has room, the map afterwards, and the marks. Assumes nothing.
-use mathlib.Core.Path.{◌≡◌, refl, sym, ap, ◌∙◌}
+use mathlib.Core.Path.{◌≡◌, refl, sym, ◌∙◌}
 use mathlib.Core.Bool.{Bool, true, false}
 use mathlib.Core.List.{List}
-use Prim.Native.Nat.{ℕ, ◌≤◌, ◌<◌}
+use Prim.Native.Nat.{ℕ}
 use native.Mathlib.Omega.{arith}
-use Rattle.worktable.specs.Map.{Map, size}
+use Rattle.worktable.specs.Map.{Map}
 use Rattle.worktable.specs.Table.{map_of}
 use Rattle.worktable.specs.declared.Table.{Table}
 use Rattle.meeting.specs.Answer.{ArrivedIs}
-use Rattle.meeting.specs.declared.Arrived.{Arrived}
-use Rattle.meeting.specs.declared.Arrived.TheVariants.{Fits, NoRoom}
+use Rattle.std.specs.Prelude.{Option, Some, None}
 use Rattle.arrivals.proofs.arrive.Reads as arrive
 
-unfoldable pub fits : Arrived → Bool
-fits (Fits r) = true
-fits NoRoom = false
+unfoldable pub fits : Option Table → Bool
+fits (Some r) = true
+fits None = false
 
-room-one : (t : Table) (c d : List ℕ) (m : Map) (x y : Arrived) → ArrivedIs t c m x → ArrivedIs t d m y → fits x ≡ fits y
+room-one : (t : Table) (c d : List ℕ) (m : Map) (x y : Option Table) → ArrivedIs t c m x → ArrivedIs t d m y → fits x ≡ fits y
 unfolding ArrivedIs fits
-room-one t c d m (Fits r) (Fits q) h k = refl
-room-one t c d m (Fits r) NoRoom h k = absurd (omega (arith, h.1, k))
-room-one t c d m NoRoom (Fits q) h k = absurd (omega (arith, k.1, h))
-room-one t c d m NoRoom NoRoom h k = refl
+room-one t c d m (Some r) (Some q) h k = refl
+room-one t c d m (Some r) None h k = absurd (omega (arith, h.1, k))
+room-one t c d m None (Some q) h k = absurd (omega (arith, k.1, h))
+room-one t c d m None None h k = refl
 
 -- the table as far as callers see it
-pub map-one : (t r q : Table) (c d : List ℕ) (m : Map) → ArrivedIs t c m (Fits r) → ArrivedIs t d m (Fits q) → (map_of r c ≡ map_of q d) × (r.room ≡ q.room)
+pub map-one : (t r q : Table) (c d : List ℕ) (m : Map) → ArrivedIs t c m (Some r) → ArrivedIs t d m (Some q) → (map_of r c ≡ map_of q d) × (r.room ≡ q.room)
 unfolding ArrivedIs
 map-one t r q c d m h k = (h.0.holds.map ∙ sym k.0.holds.map, h.0.room ∙ sym k.0.room)
 

@@ -13,7 +13,7 @@ ghost use Rattle.arrivals.specs.Range.{RangeTouched, RangeOver};
 
 use blocks::end_block;
 use directed::Directed;
-use meeting::{Arrived, meet_all, most_comers};
+use meeting::{meet_all, most_comers};
 use short::pass_row;
 use surveys::{next_block, survey_all};
 use worktable::{Table, free, room};
@@ -33,22 +33,20 @@ fn end_range(
     first: usize,
     end: usize,
     counters: &mut [u16],
-) -> Arrived
+) -> Option<Table>
     requires { RangeTouched vertices.now walks.now hops.now list.now row first «end» t held.old × (counters.old ≡ replicate 2048 0) × (first ≤ «end») × («end» ≤ 32) }
     ensures { RangeOver vertices.now walks.now hops.now list.now row first «end» t held.old held.new result × (counters.new ≡ replicate 2048 0) }
 {
     let mut table = t;
     let mut block = next_block(walks, hops, list, row, first, end);
+    // A while: it goes on to the next block that has a record, and leaves out the others.
     while block < end {
-        let Arrived::Fits(next) = end_block(
+        table = end_block(
             held, table, vertices, walks, hops, list, row, block, counters,
-        ) else {
-            return Arrived::NoRoom;
-        };
-        table = next;
+        )?;
         block = next_block(walks, hops, list, row, block + 1, end);
     }
-    Arrived::Fits(table)
+    Some(table)
 }
 
 // Where room is scarce, drops come before additions, block by block. From the block that the survey tells, round to it again, the entries are never more than before the step
@@ -62,16 +60,14 @@ fn scarce(
     list: &[u8],
     row: Directed,
     counters: &mut [u16],
-) -> Arrived
+) -> Option<Table>
     requires { Ready vertices.now walks.now hops.now list.now row t held.old × (counters.old ≡ replicate 2048 0) }
     ensures { Passed vertices.now walks.now hops.now list.now row t held.old held.new result × (counters.new ≡ replicate 2048 0) }
 {
     let start = survey_all(held, t, vertices, walks, hops, list, row, counters);
-    let Arrived::Fits(table) = end_range(
+    let table = end_range(
         held, t, vertices, walks, hops, list, row, start, 32, counters,
-    ) else {
-        return Arrived::NoRoom;
-    };
+    )?;
     end_range(
         held, table, vertices, walks, hops, list, row, 0, start, counters,
     )
@@ -111,12 +107,12 @@ pub fn arrive(
     list: &[u8],
     row: Directed,
     counters: &mut [u16],
-) -> Arrived
+) -> Option<Table>
     requires { Ready vertices.now walks.now hops.now list.now row t held.old × (counters.old ≡ replicate 2048 0) }
     ensures { Passed vertices.now walks.now hops.now list.now row t held.old held.new result × (counters.new ≡ replicate 2048 0) }
 {
     if suffices(held, t, vertices, walks, hops, list, row) {
-        return Arrived::Fits(meet_all(held, t, vertices, walks, hops, list, row));
+        return Some(meet_all(held, t, vertices, walks, hops, list, row));
     }
     if row.arriving.walks + row.arriving.hops <= SHORT {
         return pass_row(held, t, vertices, walks, hops, list, row, counters);

@@ -7,10 +7,10 @@ use native.Mathlib.Omega.{arith}
 use lib.Dec.{eqb, leb}
 use lib.ListN.{length}
 use Rattle.journeys.specs.Tables.{walk_at, hop_at, tables_of, vertex_count, walk_count, hop_count}
-use Rattle.journeys.specs.Refusals.{Refusal, unless, or_else, first_from, first_bad, whole_of, hop_size_ok, table_of, table_lengths, ends_ok, walk_ok, hop_ok, walk_ascends, hop_ascends, vertex_ok, contents}
+use Rattle.journeys.specs.Refusals.{Refusal, unless, or_else, first_from, first_bad, hop_size_ok, table_of, table_lengths, ends_ok, walk_ok, hop_ok, walk_ascends, hop_ascends, vertex_ok, contents}
 use Rattle.journeys.proofs.Tests.{and_both}
 use Rattle.journeys.proofs.Decoding.{vertex-count, walk-count, hop-count}
-use Rattle.records.specs.Columns.{records_in, from_at, ascends_at}
+use Rattle.records.specs.Columns.{records_in, ascends_at}
 use Rattle.records.specs.declared.Kind.TheVariants.{Walks, Hops}
 use Rattle.records.proofs.Columns.{walk-to, hop-to}
 use Rattle.records.proofs.Judged.{walk-ok, hop-ok}

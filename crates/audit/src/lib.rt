@@ -3,13 +3,13 @@
 // Rests on: the readers of `records`, the quick judge of `quick`, the counts of `departing` and the definitions of `journeys`. It has no array of its own.
 #![tactic(auto)]
 
-ghost use Rattle.std.specs.Prelude.{◌≡◌, true, ◌&&◌, ℕ, ◌+◌, ◌-◌, ◌*◌, ◌/◌, ◌<◌, ◌≤◌, min, eqb, length, get_or, replicate};
+ghost use Rattle.std.specs.Prelude.{◌≡◌, true, ◌&&◌, ℕ, ◌+◌, ◌-◌, ◌*◌, ◌/◌, ◌<◌, ◌≤◌, min, eqb, length, get_or, replicate, IfOk};
 ghost use Rattle.journeys.specs.Counting.{none, count};
 ghost use Rattle.journeys.specs.Tables.{tables_of};
 ghost use Rattle.journeys.specs.Records.{departing};
 ghost use Rattle.journeys.specs.Refusals as refusals;
 ghost use Rattle.journeys.specs.Refusals.{hop_size_ok, table_of, table_lengths, unless, or_else, first_from, first_bad, vertex_ok};
-ghost use Rattle.words.specs.Told.{told};
+ghost use Rattle.words.specs.Told.{number_of, told};
 ghost use Rattle.records.specs.Columns.{records_in, ascends_at, Ascending};
 ghost use Rattle.quick.specs.Claims.{twin_at, alone_in};
 ghost use Rattle.records.specs.Arriving.{size_of};
@@ -17,15 +17,14 @@ ghost use Rattle.departing.specs.Scratch.{Outside, Noted};
 ghost use Rattle.audit.specs.Judging.{Sizes, Passed, Counts, record_fault, vertex_refusals};
 
 use departing::{BLOCK, clear, count_departing, note_ranges};
-use records::{HopRead, Kind, VertexRead, WALK_SIZE, WalkRead, to_at};
-use words::{Refusal, fine, half_at, lesser, refused};
+use records::{Kind, WALK_SIZE, to_at};
+use words::{Reason, Refusal, half_at, refused};
 
-// What a pass over a table finds: its first bad record, and, where none is bad, the first one out of order and how many have no twin.
+// What a pass over a table finds where no record is bad: the first one out of order, and how many have no twin.
 // Hops have no twin: of them that number says nothing.
 #[derive(Clone, Copy)]
-struct Faults {
-    bad: Refusal,
-    order: Refusal,
+struct Scanned {
+    order: Result<(), Refusal>,
     alone: usize,
 }
 
@@ -47,23 +46,29 @@ fn hops_ok(hops: &[u8], size: usize) -> bool
     false
 }
 
-pub fn lengths(vertices: &[u8], walks: &[u8], hops: &[u8], hop_size: usize) -> Refusal
+pub fn lengths(vertices: &[u8], walks: &[u8], hops: &[u8], hop_size: usize) -> Result<(), Refusal>
     ensures { told result ≡ table_lengths hop_size vertices.now walks.now hops.now }
 {
     if !table_ok(vertices, 12, 1, 65536) {
-        return refused(1, 0);
+        return refused(Reason::Length, 0);
     }
     if !table_ok(walks, 16, 0, 262144) {
-        return refused(1, 1);
+        return refused(Reason::Length, 1);
     }
     if !hops_ok(hops, hop_size) {
-        return refused(1, 2);
+        return refused(Reason::Length, 2);
     }
-    fine()
+    Ok(())
 }
 
 // Refusals 2 and 3: the record i of the table of a kind, where those before it are good.
-fn record_fault(vertices: &[u8], table: &[u8], size: usize, kind: Kind, i: u32) -> Refusal
+fn record_fault(
+    vertices: &[u8],
+    table: &[u8],
+    size: usize,
+    kind: Kind,
+    i: u32,
+) -> Result<(), Refusal>
     requires i_bound { (i < records_in size table.now) × (records_in size table.now ≤ 262144) }
     requires by_index { (k : ℕ) → k < i → (record_fault kind size vertices.now table.now k).number ≡ 0 }
     requires le_size { (16 ≤ size) × (size ≡ size_of kind size) }
@@ -71,68 +76,64 @@ fn record_fault(vertices: &[u8], table: &[u8], size: usize, kind: Kind, i: u32) 
 {
     match kind {
         Kind::Walks => {
-            let WalkRead::Good(_) = records::read_walk(vertices, table, i) else {
-                return refused(2, i);
+            let Ok(_) = records::read_walk(vertices, table, i) else {
+                return refused(Reason::Walk, i);
             };
-            fine()
+            Ok(())
         }
         Kind::Hops => {
-            let HopRead::Good(_) = records::read_hop(vertices, table, size, i) else {
-                return refused(3, i);
+            let Ok(_) = records::read_hop(vertices, table, size, i) else {
+                return refused(Reason::Hop, i);
             };
-            fine()
+            Ok(())
         }
     }
 }
 
 // Refusals 4 and 5: the first record out of order, after the record i.
-fn order_fault(first: Refusal, ascends: bool, number: u32, i: u32) -> Refusal
-    ensures { told result ≡ or_else (told first) (unless ascends number i) }
+fn order_fault(
+    first: Result<(), Refusal>,
+    ascends: bool,
+    reason: Reason,
+    i: u32,
+) -> Result<(), Refusal>
+    ensures { told result ≡ or_else (told first) (unless ascends (number_of reason) i) }
 {
-    if first.number != 0 {
-        return first;
-    }
+    first?;
     if ascends {
-        return fine();
+        return Ok(());
     }
-    refused(number, i)
+    refused(reason, i)
 }
 
-// All in one pass over the table of a kind; `number` is that of its order. `before` is "to" of the record before, or 0.
+// All in one pass over the table of a kind; `reason` is that of its order. `before` is "to" of the record before, or 0.
 // `alone` is counted here because the quick judge would have to read every walk again for it. It is added in place: by a function the loop gets slower.
-fn table_faults(vertices: &[u8], table: &[u8], size: usize, kind: Kind, number: u32) -> Faults
-    requires table_bound { (records_in size table.now ≤ 262144) × (0 < number) }
+fn table_faults(
+    vertices: &[u8],
+    table: &[u8],
+    size: usize,
+    kind: Kind,
+    reason: Reason,
+) -> Result<Scanned, Refusal>
+    requires table_bound { records_in size table.now ≤ 262144 }
     requires le_size { (16 ≤ size) × (size ≡ size_of kind size) }
-    ensures bad_value { told result.bad ≡ first_from (record_fault kind size vertices.now table.now) (records_in size table.now) 0 }
-    ensures order_value { result.bad.number ≡ 0 → told result.order ≡ first_bad number (ascends_at size table.now) (records_in size table.now) }
-    ensures alone_value { result.bad.number ≡ 0 → result.alone ≡ count (λ k. eqb (twin_at table.now k) none) (records_in size table.now) }
+    ensures bad_value { told result ≡ first_from (record_fault kind size vertices.now table.now) (records_in size table.now) 0 }
+    ensures order_value { IfOk result (λ s. told s.order ≡ first_bad (number_of reason) (ascends_at size table.now) (records_in size table.now)) }
+    ensures alone_value { IfOk result (λ s. s.alone ≡ count (λ k. eqb (twin_at table.now k) none) (records_in size table.now)) }
 {
     let n = (table.len() / size) as u32;
-    let mut order = fine();
+    let mut order = Ok(());
     let mut alone = 0;
     let mut before: u32 = 0;
-    let mut i: u32 = 0;
-    while i < n {
-        let bad = record_fault(vertices, table, size, kind, i);
-        if bad.number != 0 {
-            return Faults {
-                bad: bad,
-                order: order,
-                alone: alone,
-            };
-        }
+    for i in 0..n {
+        record_fault(vertices, table, size, kind, i)?;
         let to = to_at(table, size, i as usize);
-        order = order_fault(order, before <= to, number, i);
+        order = order_fault(order, before <= to, reason, i);
         let no_twin = quick::alone(table, i as usize);
         alone += if no_twin { 1 } else { 0 };
         before = to;
-        i += 1;
     }
-    Faults {
-        bad: fine(),
-        order: order,
-        alone: alone,
-    }
+    Ok(Scanned { order, alone })
 }
 
 // The first bad one of the vertices from `base` on, up to `low`, whose departing records are counted.
@@ -144,7 +145,7 @@ fn judge(
     base: usize,
     low: usize,
     scratch: &[u16],
-) -> Refusal
+) -> Result<(), Refusal>
     requires sizes { Sizes hop_size vertices.now walks.now hops.now }
     requires low_in_bounds { (base + low ≤ length vertices.now / 12) × (low ≤ length scratch.now) }
     requires ascending { Ascending 16 walks.now }
@@ -152,22 +153,14 @@ fn judge(
     requires by_index { (k : ℕ) → k < low → get_or scratch.now k 0 ≡ departing (tables_of hop_size vertices.now walks.now hops.now) (base + k) }
     ensures { told result ≡ vertex_refusals (tables_of hop_size vertices.now walks.now hops.now) low base }
 {
-    let mut k = 0;
-    while k < low {
+    for k in 0..low {
         let v = (base + k) as u32;
-        let VertexRead::Good(_) = records::read_vertex(
-            vertices,
-            walks,
-            hops,
-            hop_size,
-            v,
-            scratch[k] as u32,
-        ) else {
-            return refused(6, v);
+        let Ok(_) = records::read_vertex(vertices, walks, hops, hop_size, v, scratch[k] as u32)
+        else {
+            return refused(Reason::Vertex, v);
         };
-        k += 1;
     }
-    fine()
+    Ok(())
 }
 
 // The first bad vertex of the block g.
@@ -178,7 +171,7 @@ fn block(
     hop_size: usize,
     g: usize,
     scratch: &mut [u16],
-) -> Refusal
+) -> Result<(), Refusal>
     requires sizes { Sizes hop_size vertices.now walks.now hops.now }
     requires g_in_bounds { (1904 * g < length vertices.now / 12) × (length scratch.old ≡ 2048) }
     requires ascending { Ascending 16 walks.now × Ascending hop_size hops.now }
@@ -188,16 +181,13 @@ fn block(
     ensures outside { Outside 0 1904 scratch.old scratch.new }
 {
     let base = BLOCK * g;
-    let len = lesser(BLOCK, vertices.len() / 12 - base);
+    let len = BLOCK.min(vertices.len() / 12 - base);
     let low = count_departing(walks, hops, hop_size, g, len, scratch);
-    let found = judge(vertices, walks, hops, hop_size, base, low, scratch);
-    if found.number != 0 {
-        return found;
-    }
+    judge(vertices, walks, hops, hop_size, base, low, scratch)?;
     if low < len {
-        return refused(6, (base + low) as u32);
+        return refused(Reason::Vertex, (base + low) as u32);
     }
-    found
+    Ok(())
 }
 
 // The first bad vertex, judged from the block `start` on: those before it are good.
@@ -208,7 +198,7 @@ fn blocks(
     hop_size: usize,
     start: usize,
     scratch: &mut [u16],
-) -> Refusal
+) -> Result<(), Refusal>
     requires sizes { Sizes hop_size vertices.now walks.now hops.now }
     requires start_in_bounds { (1904 * start ≤ length vertices.now / 12) × (length scratch.old ≡ 2048) }
     requires by_index { (v : ℕ) → v < 1904 * start → vertex_ok (tables_of hop_size vertices.now walks.now hops.now) v ≡ true }
@@ -217,36 +207,28 @@ fn blocks(
     requires noted_2 { Noted hop_size hops.now 1974 (records_in hop_size hops.now) scratch.old }
     ensures { told result ≡ vertex_refusals (tables_of hop_size vertices.now walks.now hops.now) (length vertices.now / 12) 0 }
 {
-    let n = vertices.len() / 12;
-    let mut g = start;
-    while BLOCK * g < n {
-        let found = block(vertices, walks, hops, hop_size, g, scratch);
-        if found.number != 0 {
-            return found;
-        }
-        g += 1;
+    let n = (vertices.len() / 12).div_ceil(BLOCK);
+    for g in start..n {
+        block(vertices, walks, hops, hop_size, g, scratch)?;
     }
-    fine()
+    Ok(())
 }
 
 // The first bad vertex, where the vertex records say rightly how many records leave.
-fn judge_counted(vertices: &[u8], walks: &[u8], hops: &[u8], hop_size: usize) -> Refusal
+fn judge_counted(vertices: &[u8], walks: &[u8], hops: &[u8], hop_size: usize) -> Result<(), Refusal>
     requires sizes { Sizes hop_size vertices.now walks.now hops.now }
     requires ascending { Ascending 16 walks.now × Ascending hop_size hops.now }
     requires counts { Counts hop_size vertices.now walks.now hops.now }
     ensures { told result ≡ vertex_refusals (tables_of hop_size vertices.now walks.now hops.now) (length vertices.now / 12) 0 }
 {
     let n = (vertices.len() / 12) as u32;
-    let mut v: u32 = 0;
-    while v < n {
+    for v in 0..n {
         let departs = half_at(vertices, 12 * (v as usize) + 8);
-        let VertexRead::Good(_) = records::read_vertex(vertices, walks, hops, hop_size, v, departs)
-        else {
-            return refused(6, v);
+        let Ok(_) = records::read_vertex(vertices, walks, hops, hop_size, v, departs) else {
+            return refused(Reason::Vertex, v);
         };
-        v += 1;
     }
-    fine()
+    Ok(())
 }
 
 // Refusal 6: the vertices. Where their counts are known to be right, only the rest of their records is looked at. Else the quick judge goes before; where it stops, the exact check begins with that block. `alone` walks have no twin.
@@ -258,7 +240,7 @@ fn vertex_records(
     alone: usize,
     counted: bool,
     scratch: &mut [u16],
-) -> Refusal
+) -> Result<(), Refusal>
     requires sizes { Sizes hop_size vertices.now walks.now hops.now }
     requires scratch_len { (length scratch.old ≡ 2048) × (alone ≡ alone_in walks.now) × (counted ≡ true → Counts hop_size vertices.now walks.now hops.now) }
     requires passed { Passed hop_size vertices.now walks.now hops.now }
@@ -269,7 +251,7 @@ fn vertex_records(
     }
     let sure = quick::sure(vertices, walks, hops, hop_size, alone, scratch);
     if sure == vertices.len() / 12 {
-        return fine();
+        return Ok(());
     }
     note_ranges(walks, hops, hop_size, scratch);
     blocks(vertices, walks, hops, hop_size, sure / BLOCK, scratch)
@@ -283,25 +265,15 @@ fn first_fault(
     hop_size: usize,
     counted: bool,
     scratch: &mut [u16],
-) -> Refusal
+) -> Result<(), Refusal>
     requires sizes { Sizes hop_size vertices.now walks.now hops.now }
     requires scratch_len { (length scratch.old ≡ 2048) × (counted ≡ true → Counts hop_size vertices.now walks.now hops.now) }
     ensures { told result ≡ refusals.contents (tables_of hop_size vertices.now walks.now hops.now) }
 {
-    let of_walks = table_faults(vertices, walks, WALK_SIZE, Kind::Walks, 4);
-    if of_walks.bad.number != 0 {
-        return of_walks.bad;
-    }
-    let of_hops = table_faults(vertices, hops, hop_size, Kind::Hops, 5);
-    if of_hops.bad.number != 0 {
-        return of_hops.bad;
-    }
-    if of_walks.order.number != 0 {
-        return of_walks.order;
-    }
-    if of_hops.order.number != 0 {
-        return of_hops.order;
-    }
+    let of_walks = table_faults(vertices, walks, WALK_SIZE, Kind::Walks, Reason::WalkOrder)?;
+    let of_hops = table_faults(vertices, hops, hop_size, Kind::Hops, Reason::HopOrder)?;
+    of_walks.order?;
+    of_hops.order?;
     vertex_records(
         vertices,
         walks,
@@ -320,7 +292,7 @@ pub fn contents(
     hops: &[u8],
     hop_size: usize,
     scratch: &mut [u16; 2048],
-) -> Refusal
+) -> Result<(), Refusal>
     requires { Sizes hop_size vertices.now walks.now hops.now }
     ensures result_value { told result ≡ refusals.contents (tables_of hop_size vertices.now walks.now hops.now) }
     ensures scratch_after { scratch.new ≡ replicate 2048 0 }
@@ -330,14 +302,14 @@ pub fn contents(
     refusal
 }
 
-// The same where the departing counts are known to be right, so that they need not be counted.
+// The same where the departing counts are known to be right, so that they need not be counted. Two functions and no flag: only this one asks for that.
 pub fn contents_counted(
     vertices: &[u8],
     walks: &[u8],
     hops: &[u8],
     hop_size: usize,
     scratch: &mut [u16; 2048],
-) -> Refusal
+) -> Result<(), Refusal>
     requires sizes { Sizes hop_size vertices.now walks.now hops.now }
     requires counts { Counts hop_size vertices.now walks.now hops.now }
     ensures result_value { told result ≡ refusals.contents (tables_of hop_size vertices.now walks.now hops.now) }
@@ -348,6 +320,21 @@ pub fn contents_counted(
     refusal
 }
 
+// Refusals 1 to 6.
+fn whole_fault(
+    vertices: &[u8],
+    walks: &[u8],
+    hops: &[u8],
+    hop_size: usize,
+    scratch: &mut [u16],
+) -> Result<(), Refusal>
+    requires { length scratch.old ≡ 2048 }
+    ensures { told result ≡ refusals.check hop_size vertices.now walks.now hops.now }
+{
+    lengths(vertices, walks, hops, hop_size)?;
+    first_fault(vertices, walks, hops, hop_size, false, scratch)
+}
+
 // The check alone. The scratch may hold anything at the call.
 pub fn check(
     vertices: &[u8],
@@ -355,14 +342,11 @@ pub fn check(
     hops: &[u8],
     hop_size: usize,
     scratch: &mut [u16; 2048],
-) -> Refusal
+) -> Result<(), Refusal>
     ensures result_value { told result ≡ refusals.check hop_size vertices.now walks.now hops.now }
     ensures scratch_after { scratch.new ≡ replicate 2048 0 }
 {
-    let one = lengths(vertices, walks, hops, hop_size);
-    if one.number != 0 {
-        clear(scratch);
-        return one;
-    }
-    contents(vertices, walks, hops, hop_size, scratch)
+    let refusal = whole_fault(vertices, walks, hops, hop_size, scratch);
+    clear(scratch);
+    refusal
 }

@@ -4,11 +4,10 @@ use mathlib.Core.Bool.{Bool, true, false, cond, ◌||◌}
 use mathlib.Core.List.{List}
 use Prim.Native.Nat.{ℕ, ◌/◌, ◌%◌, ◌<◌}
 use native.Mathlib.Nat.{zero-div}
-use native.Mathlib.Omega.{arith}
 use lib.Dec.{eqb}
-use lib.ListN.{get_or, replicate, get_or-replicate}
+use lib.ListN.{replicate, get_or-replicate}
 use borrow.Author.Tests.{eq-eqb, ne_eqb}
-use Rattle.journeys.proofs.Tests.{Test, same, other, test, le-or-lt}
+use Rattle.journeys.proofs.Tests.{Test, same, other, test}
 use Rattle.marks.specs.Marks.{power, bit}
 use Rattle.bitset.specs.Joined.{joined}
 

@@ -1,20 +1,13 @@
 // An array of 16-bit words as a set of numbers, as many as it has bits.
 // Promises: to put a number sets its bit and no other; member tells whether a number was put.
-// Rests on: the laws of bits of `marks`, whose own functions are for one half of the vertices.
+// Rests on: the weight of a bit and the laws of bits of `marks`, whose other functions are for one half of the vertices.
 #![tactic(auto)]
 
 ghost use Rattle.std.specs.Prelude.{◌≡◌, ◌/◌, ◌<◌, length};
-ghost use Rattle.marks.specs.Marks as Marks;
 ghost use Rattle.marks.specs.Marks.{bit};
 ghost use Rattle.bitset.specs.Joined.{joined};
 
-// 2 to the k: the weight of a bit in its word.
-fn power(k: usize) -> u16
-    requires { k < 16 }
-    ensures { result ≡ Marks.power k }
-{
-    1 << k
-}
+use marks::power;
 
 pub fn member(set: &[u16], k: usize) -> bool
     requires { k / 16 < length set.now }

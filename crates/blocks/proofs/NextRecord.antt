@@ -20,8 +20,7 @@ use Rattle.worktable.proofs.MapLaws.{put_id, touched-absent, absent-touched, spe
 use Rattle.worktable.proofs.PassLaws.{passed-absent}
 use Rattle.meeting.specs.Passing.{missing, met, goes, meets, left, leaving}
 use Rattle.meeting.specs.Answer.{Leads, ArrivedIs}
-use Rattle.meeting.specs.declared.Arrived.{Arrived}
-use Rattle.meeting.specs.declared.Arrived.TheVariants.{Fits, NoRoom}
+use Rattle.std.specs.Prelude.{Option, Some, None}
 use Rattle.meeting.proofs.Entries.{met-left, left-absent, one-absent}
 use Rattle.meeting.proofs.Sizes.{put-size}
 use Rattle.meeting.proofs.Along.{goes-along, some_left, one_more}
@@ -96,11 +95,11 @@ pub news-at : (R : Row) (n block : ℕ) (s : List ℕ) {k m : Map} → k ≡ m �
 news-at R n block s e h = subst (News R n block s) (sym e) h
 
 -- the same answer, of a table with as many slots and of an equal map
-pub ends_at : (t r : Table) (c : List ℕ) → r.room ≡ t.room → (x : Arrived) {m k : Map} → m ≡ k → ArrivedIs r c m x → ArrivedIs t c k x
+pub ends_at : (t r : Table) (c : List ℕ) → r.room ≡ t.room → (x : Option Table) {m k : Map} → m ≡ k → ArrivedIs r c m x → ArrivedIs t c k x
 unfolding ArrivedIs
-ends_at t r c q (Fits z) {m} {k} e h =
+ends_at t r c q (Some z) {m} {k} e h =
     (subst (Leads t z c) e (record { holds = h.0.holds; room = h.0.room ∙ q }), omega (arith, ap size e, h.1))
-ends_at t r c q NoRoom {m} {k} e h = omega (arith, ap size e, h)
+ends_at t r c q None {m} {k} e h = omega (arith, ap size e, h)
 
 pub zero-counter : (s : List ℕ) → s ≡ replicate 2048 0 → (k : ℕ) → k < 2048 → get_or s k 0 ≡ 0
 zero-counter s e k h = ap (λ (l : List ℕ). get_or l k 0) e ∙ get_or-replicate 2048 k 0 0 h

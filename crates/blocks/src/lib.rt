@@ -10,25 +10,22 @@ ghost use Rattle.worktable.specs.Map.{absent, swept, distance_limit, Figure, put
 ghost use Rattle.worktable.specs.Table.{map_of, InOrder};
 ghost use Rattle.passing.specs.Row.{passes};
 ghost use Rattle.directed.specs.Directed.{brings_of, due_of, Numbered, Passable};
-ghost use Rattle.meeting.specs.Passing.{missing, met, left};
+ghost use Rattle.meeting.specs.Passing.{missing, met, left, Offered};
 ghost use Rattle.meeting.specs.Answer.{Leads, ArrivedIs};
 ghost use Rattle.blocks.specs.Block.{in_block, stays_in, chance, Noted, swept_block, added_block, block_over, Touched, Swept};
 ghost use Rattle.blocks.specs.Lack.{is_new};
 
 use directed::{Directed, brings_at, due_at, near_at};
 use marks::clear;
-use meeting::{Arrived, enter_or_drop};
-use words::{Ticks, lesser};
-use worktable::{Found, Passed, Table, drop, find, free, look, pass};
+use meeting::enter_or_drop;
+use words::Ticks;
+use worktable::{Passed, Table, drop, find, free, look, pass};
 
 // 1 if an offer is above D.
 pub fn above(offer: Ticks, allowed: Ticks) -> u32
     ensures { result ≡ one (ltb allowed.0 offer.0) }
 {
-    if allowed.0 < offer.0 {
-        return 1;
-    }
-    0
+    u32::from(allowed.0 < offer.0)
 }
 
 // What record j of the row brings, if the vertex u at its other end is of the block. Most records of a long row are of other blocks, and reckoning what they bring would take most of the time.
@@ -68,7 +65,7 @@ pub fn note(vertices: &[u8], row: Directed, u: usize, offer: Ticks, counters: &m
     let less = above(offer, row.arriving.allowed);
     if counters[k] == 0 {
         let due = due_at(vertices, row, u) - less;
-        counters[k] = lesser(due as usize, 65535) as u16;
+        counters[k] = due.min(65535) as u16;
         return;
     }
     counters[k] = ((counters[k] as u32) - less) as u16;
@@ -87,11 +84,11 @@ fn note_one(
     requires { InOrder t held.now × (u < length vertices.now / 12) × (length counters.old ≡ 2048) × (u / 2048 ≡ block → map_of t held.now u ≡ absent → 0 < due_of vertices.now row u) }
     ensures { (k : ℕ) → k < 2048 → get_or counters.new k 0 ≡ cond (in_block block u && (missing (map_of t held.now u) && eqb (u % 2048) k)) (chance row.arriving.allowed.0 offer.0 (due_of vertices.now row u) (get_or counters.old k 0)) (get_or counters.old k 0) }
 {
-    if u / 2048 == block {
-        let Found::At(_) = find(held, t, u) else {
-            note(vertices, row, u, offer, counters);
-            return;
-        };
+    if u / 2048 != block {
+        return;
+    }
+    if find(held, t, u).is_none() {
+        note(vertices, row, u, offer, counters);
     }
 }
 
@@ -111,12 +108,10 @@ fn note_new(
     ensures { Noted vertices.now walks.now hops.now list.now row block (map_of t held.now) counters.new }
 {
     let n = row.arriving.walks + row.arriving.hops;
-    let mut j = 0;
-    while j < n {
+    for j in 0..n {
         let u = near_at(walks, hops, list, row, j);
         let offer = offer_in(walks, hops, list, row, j, u, block);
         note_one(held, t, vertices, row, u, offer, block, counters);
-        j += 1;
     }
 }
 
@@ -149,11 +144,9 @@ fn sweep(
 {
     let n = row.arriving.walks + row.arriving.hops;
     let mut table = t;
-    let mut j = 0;
-    while j < n {
+    for j in 0..n {
         let u = near_at(walks, hops, list, row, j);
         table = sweep_one(held, table, u, row.arriving.allowed, block);
-        j += 1;
     }
     table
 }
@@ -178,16 +171,16 @@ pub fn meet_in_room(
     row: Directed,
     u: usize,
     offer: Ticks,
-) -> Arrived
-    requires in_order { InOrder t held.old × (u < length vertices.now / 12) × (length vertices.now / 12 ≤ 65536) × Figure offer.0 × (row.arriving.allowed.0 < distance_limit) }
+) -> Option<Table>
+    requires in_order { Offered t held.old vertices.now u offer.0 × (row.arriving.allowed.0 < distance_limit) }
     requires nonzero { (0 < left (due_of vertices.now row u) (map_of t held.old u)) × (map.one (met row.arriving.allowed.0 offer.0 (due_of vertices.now row u) (map_of t held.old u)) ≡ 1) }
     ensures { ArrivedIs t held.new (put (map_of t held.old) u (met row.arriving.allowed.0 offer.0 (due_of vertices.now row u) (map_of t held.old u))) result }
 {
     let told = pass(held, t, u, offer.0, row.arriving.allowed.0);
     if lacks_slot(held, t, told) {
-        return Arrived::NoRoom;
+        return None;
     }
-    Arrived::Fits(enter_or_drop(held, t, vertices, row, u, offer, told))
+    Some(enter_or_drop(held, t, vertices, row, u, offer, told))
 }
 
 // One record of a vertex of the block.
@@ -199,15 +192,15 @@ fn add_one(
     u: usize,
     offer: Ticks,
     counters: &[u16],
-) -> Arrived
-    requires in_order { InOrder t held.old × (u < length vertices.now / 12) × (length vertices.now / 12 ≤ 65536) × Figure offer.0 × (length counters.now ≡ 2048) × (row.arriving.allowed.0 < distance_limit) }
+) -> Option<Table>
+    requires in_order { Offered t held.old vertices.now u offer.0 × (length counters.now ≡ 2048) × (row.arriving.allowed.0 < distance_limit) }
     requires nonzero { stays_in counters.now (u % 2048) ≡ true → (0 < left (due_of vertices.now row u) (map_of t held.old u)) × (map.one (met row.arriving.allowed.0 offer.0 (due_of vertices.now row u) (map_of t held.old u)) ≡ 1) }
     ensures { ArrivedIs t held.new (put (map_of t held.old) u (cond (stays_in counters.now (u % 2048)) (met row.arriving.allowed.0 offer.0 (due_of vertices.now row u) (map_of t held.old u)) (map_of t held.old u))) result }
 {
     if stays(counters, u) {
         return meet_in_room(held, t, vertices, row, u, offer);
     }
-    Arrived::Fits(t)
+    Some(t)
 }
 
 // The new vertices of a block that stay are met. There is no room where one finds no free slot. Most records of a long row are of other blocks: they are passed by before the table is handed on.
@@ -221,27 +214,21 @@ fn add(
     row: Directed,
     block: usize,
     counters: &[u16],
-) -> Arrived
+) -> Option<Table>
     requires { Swept vertices.now walks.now hops.now list.now row block counters.now t held.old × (length counters.now ≡ 2048) }
     ensures { ArrivedIs t held.new (added_block vertices.now walks.now hops.now list.now row block counters.now (map_of t held.old)) result }
 {
     let n = row.arriving.walks + row.arriving.hops;
     let mut table = t;
-    let mut j = 0;
-    while j < n {
+    for j in 0..n {
         let u = near_at(walks, hops, list, row, j);
-        if u / 2048 == block {
-            let offer = brings_at(walks, hops, list, row, j);
-            let Arrived::Fits(next) = add_one(held, table, vertices, row, u, offer, counters) else {
-                return Arrived::NoRoom;
-            };
-            table = next;
-            j += 1;
-        } else {
-            j += 1;
+        if u / 2048 != block {
+            continue;
         }
+        let offer = brings_at(walks, hops, list, row, j);
+        table = add_one(held, table, vertices, row, u, offer, counters)?;
     }
-    Arrived::Fits(table)
+    Some(table)
 }
 
 // What was absent is noted before the drops make room, so that no dropped vertex is met anew.
@@ -255,7 +242,7 @@ pub fn end_block(
     row: Directed,
     block: usize,
     counters: &mut [u16],
-) -> Arrived
+) -> Option<Table>
     requires { Touched vertices.now walks.now hops.now list.now row block t held.old × (counters.old ≡ replicate 2048 0) }
     ensures { ArrivedIs t held.new (block_over vertices.now walks.now hops.now list.now row block (map_of t held.old)) result × (counters.new ≡ replicate 2048 0) }
 {

@@ -9,9 +9,14 @@ use lib.ListN.{length, set, take, drop, length-append}
 use lib.Seq.{set-append_seam, drop-cons, get_or-append-add, get_or-drop, take_at}
 use Rattle.journeys.proofs.Tests.{cond-true, cond-false}
 use Rattle.table_bytes.specs.Columns.{at}
+use Rattle.sorting.proofs.Digits.{fields}
 use Rattle.carry.specs.declared.Item.{Item}
 use Rattle.carry.specs.declared.Carry.{Carry}
-use Rattle.carry.specs.Carried.{item_of, seen, follow, followed, joins, hop_number, hop_after, all_followed, all_hops}
+use Rattle.carry.specs.Carried.{item_of, weight, seen, follow, followed, joins, hop_number, hop_after, all_followed, all_hops}
+
+-- a record's fields make it up
+pub weighed : {x : Item} {y : ℕ} → x ≡ item_of y → weight x ≡ y
+weighed {x} {y} e = ap weight e ∙ fields y
 
 pub followed-append : (c : Carry) (l m : List ℕ) → all_followed c (l ++ m) ≡ all_followed (all_followed c l) m
 unfolding all_followed

@@ -8,6 +8,10 @@ use Rattle.carry.specs.declared.Carry.{Carry}
 abbrev pub item_of : ℕ → Item
 item_of x = record { high = x / 2 ^ 64 / 2 ^ 64; middle = x / 2 ^ 64 % 2 ^ 64; low = x % 2 ^ 64 }
 
+-- a record as one number
+abbrev pub weight : Item → ℕ
+weight x = x.low + 2 ^ 64 * (x.middle + 2 ^ 64 * x.high)
+
 -- the stop of a record
 abbrev pub seen : Item → Stop
 seen x =

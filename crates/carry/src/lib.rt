@@ -12,17 +12,16 @@ ghost use Rattle.carry.specs.Carried.{item_of, seen, hop_number, followed, all_f
 
 use sorting::{high, low, middle, put};
 
-const NONE: u32 = 0xFFFF_FFFF;
-
-// A record in its three fields.
-#[derive(Clone, Copy)]
+// A record in its three fields, in the order of their weight.
+#[derive(Clone, Copy, PartialEq, Eq, PartialOrd, Ord)]
 pub struct Item {
     pub high: u32,
     pub middle: u64,
     pub low: u64,
 }
 
-// The stop before, the last timed one, and the lowest lines that 15 and 16 are told for so far.
+// The stop before, the last timed one, and the lowest lines that 15 and 16 are told for so far. Where none is told stands the greatest number, as in the
+// definitions: so the lower of two lines is their minimum, and an Option would be no plainer.
 #[derive(Clone, Copy)]
 pub struct Carry {
     pub prev: Item,
@@ -84,17 +83,11 @@ fn departure(x: Item) -> u64
     x.low % 262144
 }
 
-fn lesser(x: u32, y: u32) -> u32
-    ensures { result ≡ min x y }
-{
-    if x < y { x } else { y }
-}
-
 fn lowered(least: u32, bad: bool, line: u32) -> u32
     ensures { result ≡ min least (cond bad line none) }
 {
     if bad {
-        return lesser(least, line);
+        return least.min(line);
     }
     least
 }
@@ -182,18 +175,13 @@ pub fn pass(b: &mut [u8], n: usize, m: usize, from: Carry) -> Piece
 {
     let mut c = from;
     let mut k = 0;
-    let mut i = 0;
-    while i < m {
+    for i in 0..m {
         let x = item_at(b, n, i);
         if joins(c, x) {
             put_hop(b, n, k, c.last, x);
             k += 1;
-            c = follow(c, x);
-            i += 1;
-        } else {
-            c = follow(c, x);
-            i += 1;
         }
+        c = follow(c, x);
     }
     Piece { carry: c, hops: k }
 }

@@ -26,31 +26,42 @@ pub fn contents_fault(
     list: &[u8],
     q: Query,
     scratch: &mut [u16; 2048],
-) -> Refusal
+) -> Result<(), Refusal>
     requires hops_value { (table_lengths hop_size vertices.now walks.now hops.now).number ≡ 0 }
     requires list_len { length list.now ≡ 4 * record_count (tables_of hop_size vertices.now walks.now hops.now) }
     ensures result_value { told result ≡ chain (contents (tables_of hop_size vertices.now walks.now hops.now) ∷ list_refusal (tables_of hop_size vertices.now walks.now hops.now) list.now ∷ query_refusal (tables_of hop_size vertices.now walks.now hops.now) (query_of q) ∷ []) }
     ensures scratch_after { scratch.new ≡ replicate 2048 0 }
 {
     if listed::sure(vertices, walks, hops, hop_size, list, &mut scratch[..]) {
-        let bad = audit::contents_counted(vertices, walks, hops, hop_size, scratch);
-        if bad.number != 0 {
-            return bad;
-        }
+        audit::contents_counted(vertices, walks, hops, hop_size, scratch)?;
         return intake::query_fault(walks, q);
     }
-    let bad = audit::contents(vertices, walks, hops, hop_size, scratch);
-    if bad.number != 0 {
-        return bad;
-    }
-    let other = listed::fault(vertices, walks, hops, hop_size, list);
-    if other.number != 0 {
-        return other;
-    }
+    audit::contents(vertices, walks, hops, hop_size, scratch)?;
+    listed::fault(vertices, walks, hops, hop_size, list)?;
     intake::query_fault(walks, q)
 }
 
-// The whole chain of the run. The scratch may hold anything at the call.
+// The whole chain of the run.
+fn first_fault(
+    vertices: &[u8],
+    walks: &[u8],
+    hops: &[u8],
+    hop_size: usize,
+    list: &[u8],
+    held: &[u8],
+    settled: &[u8],
+    q: Query,
+    scratch: &mut [u16; 2048],
+) -> Result<(), Refusal>
+    ensures { told result ≡ courier_early (courier_lent vertices.now walks.now hops.now hop_size list.now held.now settled.now) (query_of q) }
+{
+    audit::lengths(vertices, walks, hops, hop_size)?;
+    intake::buffer_fault(held, settled)?;
+    making::list_length(vertices, walks, hops, hop_size, list)?;
+    contents_fault(vertices, walks, hops, hop_size, list, q, scratch)
+}
+
+// The same, and the scratch is cleared behind it. It may hold anything at the call.
 pub fn courier_fault(
     vertices: &[u8],
     walks: &[u8],
@@ -61,24 +72,13 @@ pub fn courier_fault(
     settled: &[u8],
     q: Query,
     scratch: &mut [u16; 2048],
-) -> Refusal
+) -> Result<(), Refusal>
     ensures result_value { told result ≡ courier_early (courier_lent vertices.now walks.now hops.now hop_size list.now held.now settled.now) (query_of q) }
     ensures scratch_after { scratch.new ≡ replicate 2048 0 }
 {
-    let uneven = audit::lengths(vertices, walks, hops, hop_size);
-    if uneven.number != 0 {
-        departing::clear(scratch);
-        return uneven;
-    }
-    let cut = intake::buffer_fault(held, settled);
-    if cut.number != 0 {
-        departing::clear(scratch);
-        return cut;
-    }
-    let short = making::list_length(vertices, walks, hops, hop_size, list);
-    if short.number != 0 {
-        departing::clear(scratch);
-        return short;
-    }
-    contents_fault(vertices, walks, hops, hop_size, list, q, scratch)
+    let fault = first_fault(
+        vertices, walks, hops, hop_size, list, held, settled, q, scratch,
+    );
+    departing::clear(scratch);
+    fault
 }

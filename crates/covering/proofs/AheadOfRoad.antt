@@ -1,6 +1,6 @@
 -- The courier's parts that the code lists by the numbers of the query's road, and by the list of records, are those of the definitions. Assumes nothing.
-use mathlib.Core.Path.{◌≡◌, refl, sym, ap, ap₂, subst, ◌∙◌}
-use mathlib.Core.Logic.{◌⊎◌, inl, inr, ⊎_elim, ◌≢◌}
+use mathlib.Core.Path.{◌≡◌, sym, ap, ap₂, subst, ◌∙◌}
+use mathlib.Core.Logic.{◌⊎◌, inl, inr, ◌≢◌}
 use mathlib.Core.Bool.{Bool, true, false, cond, ◌||◌}
 use mathlib.Core.List.{List, [], ◌++◌, append-nil}
 use Prim.Native.Nat.{ℕ, zero, suc, ◌+◌, ◌-◌, ◌*◌, ◌/◌, ◌≤◌, ◌<◌, min}
@@ -10,7 +10,7 @@ use lib.ListN.{length}
 use borrow.Author.Tests.{eq-eqb, ne_eqb, eqb-false}
 use Rattle.journeys.specs.Counting.{none, joined}
 use Rattle.journeys.specs.Bytes.{be32}
-use Rattle.journeys.specs.Tables.{Tables, Walk, walk, walk_count, tables_of, walk_at}
+use Rattle.journeys.specs.Tables.{Tables, Walk, walk, tables_of, walk_at}
 use Rattle.journeys.specs.Query.{Query, allowed, asked}
 use Rattle.journeys.specs.Order.{settled}
 use Rattle.journeys.specs.Parts.{Part, part, near}
@@ -22,7 +22,7 @@ use Rattle.journeys.proofs.Decoding.{walk_at_lem, walk-count}
 use Rattle.journeys.proofs.Valid.{paired}
 use Rattle.records.specs.Columns.{records_in}
 use Rattle.records.proofs.Columns.{walk_from}
-use Rattle.listing.specs.Places.{total, from_of, below, same, place, rank}
+use Rattle.listing.specs.Places.{total, from_of, below, same, place}
 use Rattle.listing.proofs.PlaceLaws.{same_start, same_here, same-other}
 use Rattle.listing.proofs.Froms.{of-walk}
 use Rattle.stretches.specs.Stretch.{Right}

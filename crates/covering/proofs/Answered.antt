@@ -1,10 +1,10 @@
 -- The three ways in which the parts operation ends, in either direction, are the answer of the definitions. Assumes nothing.
-use mathlib.Core.Path.{◌≡◌, refl, sym, ap, subst, ◌∙◌}
+use mathlib.Core.Path.{◌≡◌, refl, sym, ap, ap₂, subst, ◌∙◌}
+use mathlib.Core.Logic.{◌≢◌}
 use mathlib.Core.Bool.{Bool, true, false}
 use mathlib.Core.List.{List, ◌++◌, flat_map}
 use Prim.Native.Nat.{ℕ, ◌+◌, ◌-◌, ◌*◌, ◌/◌, ◌≤◌, ◌<◌}
 use native.Mathlib.Omega.{arith}
-use lib.Dec.{eqb}
 use lib.ListN.{length, take, drop, replicate}
 use lib.Seq.{take_all, take-append_seam}
 use borrow.Author.Tests.{eq-eqb}
@@ -14,14 +14,13 @@ use Rattle.journeys.specs.Query.{Query, allowed}
 use Rattle.journeys.specs.Order.{Settled}
 use Rattle.journeys.specs.Parts.{Part, part_bytes}
 use Rattle.journeys.specs.Refusals.{Refusal, fine}
-use Rattle.journeys.specs.Valid.{Valid}
 use Rattle.journeys.specs.Lists.{settled_in}
 use Rattle.journeys.specs.ListAnswers.{parts_refused_for, parts_accepted_for, parts_answer_for}
 use Rattle.journeys.specs.PartAnswers as answers
 use Rattle.journeys.proofs.Tests.{cond-true}
 use Rattle.journeys.proofs.Counting.{flat-length}
 use Rattle.journeys.proofs.CourierCoverage as courier
-use Rattle.journeys.proofs.Decoding.{walk_at_lem, walk-count, vertex-count}
+use Rattle.journeys.proofs.Decoding.{walk_at_lem, walk-count}
 use Rattle.journeys.proofs.Fits as ordinary
 use Rattle.journeys.proofs.Fits.{Distinct}
 use Rattle.journeys.proofs.Valid.{allowed-high}
@@ -34,21 +33,18 @@ use Rattle.records.proofs.RecordBytes.{length_part}
 use Rattle.lists.proofs.Entries.{good-few}
 use Rattle.parts.specs.Listing.{road_of, Behind}
 use Rattle.parts.specs.declared.Road.{Road}
-use Rattle.covering.specs.Covering.{Ready, Accepted, first_in, entry_in, listed_in, part_list_in, FullAt, CoveredIs}
-use Rattle.covering.specs.Lending.{parts_answer_of, counted, refusing}
-use Rattle.covering.specs.declared.PartsAnswer.{PartsAnswer}
-use Rattle.covering.specs.declared.Covered.{Covered}
-use Rattle.covering.specs.declared.Covered.TheVariants.{All, Full}
+use Rattle.covering.specs.Covering.{Ready, Accepted, first_in, entry_in, listed_in, part_list_in, CoveredIs}
+use Rattle.covering.specs.Lending.{count_in, parts_answer_of}
+use Rattle.std.specs.Prelude.{Result, Ok, Err, MatchResult}
 use Rattle.covering.proofs.ListIsParts.{entry-good, ready, parts_are}
 use Rattle.covering.proofs.ListDistinct.{list-distinct}
 
 -- Refusals before the parts: the part buffer is as it was.
-pub refused_as_lem : (parts_of : List Settled → List Part) (list parts : List ℕ) (early : Refusal) (r : words.Refusal) → told r ≡ early → (r.number ≡ 0 → ⊥)
-    → parts_answer_of (refusing r.number r.place) parts ≡ parts_answer_for parts_of list parts early
+pub refused_as_lem : (parts_of : List Settled → List Part) (list parts : List ℕ) (early : Refusal) (r : Result ℕ words.Refusal) → told r ≡ early → count_in r ≡ 0 → early.number ≢ 0
+    → parts_answer_of r parts ≡ parts_answer_for parts_of list parts early
 unfolding parts_refused_for
-refused_as_lem parts_of list parts early r e n =
-    ap (λ (x : Refusal). record { refusal = x.number; place = x.place; part_count = 0; parts = parts }) e
-    ∙ sym (refused-before parts_of list parts early (λ z. n (ap (λ (x : Refusal). x.number) e ∙ z)))
+refused_as_lem parts_of list parts early r e z n =
+    ap₂ (λ (x : Refusal) (k : ℕ). record { refusal = x.number; place = x.place; part_count = k; parts = parts }) e z ∙ sym (refused-before parts_of list parts early n)
 
 -- which reason is not there does not matter
 pub accepted-as : (parts_of : List Settled → List Part) (list parts : List ℕ) (early : Refusal) → early.number ≡ 0 → parts_answer_for parts_of list parts fine ≡ parts_answer_for parts_of list parts early
@@ -90,13 +86,13 @@ module _ (c : Bool) (size : ℕ) (v w h r list parts : List ℕ) (Q : Query) (a 
   same_parts = parts_are c size v w h r list Q a
 
   -- Refusal 10: the part buffer is zero.
-  pub full-low : (b' : List ℕ) (k : ℕ) → CoveredIs f n parts b' (Full k) → k < 4294967296
+  pub full-low : (b' : List ℕ) (k : ℕ) → CoveredIs f n parts b' (Err k) → k < 4294967296
   unfolding CoveredIs
   full-low b' k x =
       let few = good-few 8 (vertex_count N) (allowed Q) list a.valid.tables.vertices_few n a.good in
       omega (arith, x.made, few, a.valid.tables.vertices_few)
 
-  pub full-as : (b' : List ℕ) (k : ℕ) → CoveredIs f n parts b' (Full k) → parts_answer_of (refusing 10 k) (cleared b') ≡ parts_answer_for parts_of list parts fine
+  pub full-as : (b' : List ℕ) (k : ℕ) → CoveredIs f n parts b' (Err k) → record { refusal = 10; place = k; part_count = 0; parts = cleared b' } ≡ parts_answer_for parts_of list parts fine
   unfolding CoveredIs parts_refused_for cleared
   full-as b' k x =
       ap (λ (m : ℕ). record { refusal = 10; place = k; part_count = 0; parts = replicate m 0 }) x.same
@@ -112,7 +108,7 @@ module _ (c : Bool) (size : ℕ) (v w h r list parts : List ℕ) (Q : Query) (a 
   unfolding settled_in
   distinct = list-distinct 8 (vertex_count N) (allowed Q) list n a.good (λ i l. omega (arith, (entry-good c size v w h r list Q a i l).1, allowed-high a.valid.query))
 
-  module _ (b' : List ℕ) (k : ℕ) (C : CoveredIs f n parts b' (All k)) where
+  module _ (b' : List ℕ) (k : ℕ) (C : CoveredIs f n parts b' (Ok k)) where
     listed : Behind 0 (f n) parts b' k
     unfolding CoveredIs
     listed = C.0
@@ -145,7 +141,7 @@ module _ (c : Bool) (size : ℕ) (v w h r list parts : List ℕ) (Q : Query) (a 
         ∙ ap (λ (j : ℕ). take j (bytes ++ drop (length bytes) parts)) (sym long)
         ∙ take-append_seam bytes (drop (length bytes) parts)
 
-    pub all-as : parts_answer_of (counted k) (filled b' (take (12 * k) b')) ≡ parts_answer_for parts_of list parts fine
+    pub all-as : parts_answer_of (Ok k) (filled b' (take (12 * k) b')) ≡ parts_answer_for parts_of list parts fine
     unfolding parts_accepted_for filled
     all-as =
         ap (λ (z : List ℕ). record { refusal = 0; place = 0; part_count = k; parts = z }) (ap (λ (z : List ℕ). z ++ replicate (length b' - length z) 0) front-is ∙ ap (λ (j : ℕ). bytes ++ replicate (j - length bytes) 0) same)
@@ -153,17 +149,24 @@ module _ (c : Bool) (size : ℕ) (v w h r list parts : List ℕ) (Q : Query) (a 
         ∙ ap (λ (ps : List Part). record { refusal = 0; place = 0; part_count = length ps; parts = flat_map part_bytes ps ++ replicate (length parts - length (flat_map part_bytes ps)) 0 }) (sym whole)
         ∙ sym (all-fits parts_of list parts fine refl (λ j l. omega (arith, roomy j (omega (arith, l, settled-count list)), ap length (same_parts j (omega (arith, l, settled-count list))))))
 
--- ---- in the code's terms: y is what `cover` answered
-module _ (c : Bool) (size : ℕ) (v w h r list parts : List ℕ) (Q : Query) (e : Road) (q : e ≡ road_of w Q) (D : ℕ) (d : D ≡ allowed Q) (b' : List ℕ) (y x : Covered) (same : y ≡ x) where
+  -- x is what listing the entries answered
+  pub end-ready : (b' : List ℕ) (x : Result ℕ ℕ) → CoveredIs f n parts b' x → MatchResult x (λ k. (12 * k ≤ length b') × (k < 4294967296)) (λ k. k < 4294967296)
+  end-ready b' (Ok k) C = all-low b' k C
+  end-ready b' (Err k) C = full-low b' k C
+
+  pub end-as : (b' : List ℕ) (x : Result ℕ ℕ) → CoveredIs f n parts b' x → (A : answers.PartsAnswer)
+      → MatchResult x (λ k. A ≡ parts_answer_of (Ok k) (filled b' (take (12 * k) b'))) (λ k. A ≡ record { refusal = 10; place = k; part_count = 0; parts = cleared b' })
+      → A ≡ parts_answer_for parts_of list parts fine
+  end-as b' (Ok k) C A m = m ∙ all-as b' k C
+  end-as b' (Err k) C A m = m ∙ full-as b' k C
+
+-- ---- by the road and the D that the code has
+module _ (c : Bool) (size : ℕ) (v w h r list parts : List ℕ) (Q : Query) (e : Road) (q : e ≡ road_of w Q) (D : ℕ) (d : D ≡ allowed Q) (b' : List ℕ) (x : Result ℕ ℕ) where
   abbrev listing : Road → ℕ → ℕ → List Part
   listing z E = listed_in (first_in c z E) (entry_in c size v w h r list z E)
 
-  pub covered-told : CoveredIs (listed_in (first_in c e D) (entry_in c size v w h r list e D)) (length list / 8) parts b' y
+  pub covered-told : CoveredIs (listed_in (first_in c e D) (entry_in c size v w h r list e D)) (length list / 8) parts b' x
       → CoveredIs (listed_in (first_in c (road_of w Q) (allowed Q)) (entry_in c size v w h r list (road_of w Q) (allowed Q))) (length list / 8) parts b' x
   covered-told t =
       subst (λ (z : Road). CoveredIs (listing z (allowed Q)) (length list / 8) parts b' x) q
-      (subst (λ (E : ℕ). CoveredIs (listing e E) (length list / 8) parts b' x) d (subst (CoveredIs (listing e D) (length list / 8) parts b') same t))
-
--- the numbers and the bytes together
-pub answered : {A : answers.PartsAnswer} (r x : PartsAnswer) (z y : List ℕ) → r ≡ x → z ≡ y → parts_answer_of x y ≡ A → parts_answer_of r z ≡ A
-answered r x z y p q h = ap (λ (u : PartsAnswer). parts_answer_of u z) p ∙ ap (parts_answer_of x) q ∙ h
+      (subst (λ (E : ℕ). CoveredIs (listing e E) (length list / 8) parts b' x) d t)

@@ -11,9 +11,8 @@ use Rattle.journeys.specs.Tables.{vertex_at}
 use Rattle.journeys.specs.Parts.{Part}
 use Rattle.records.specs.Arriving.{first_of, end_of}
 use Rattle.records.specs.declared.Kind.TheVariants.{Walks}
-use Rattle.parts.specs.Listing.{parts_on, run_on, aheads_on, Behind, Overfull, ListedIs}
-use Rattle.parts.specs.declared.Listed.{Listed}
-use Rattle.parts.specs.declared.Listed.TheVariants.{Fits, NoRoom}
+use Rattle.parts.specs.Listing.{parts_on, aheads_on, Behind, Overfull, ListedIs}
+use Rattle.std.specs.Prelude.{Option, Some, None, IfSome, Ok, Err}
 use Rattle.parts.specs.declared.Road.{Road}
 use Rattle.journeys.proofs.Tests.{le-or-lt}
 use Rattle.records.specs.Columns.{records_in}
@@ -22,9 +21,8 @@ use Rattle.listing.proofs.PlaceLaws.{below_next, below-most, same_grows}
 use Rattle.stretches.specs.Stretch.{walks_of}
 use Rattle.stretches.specs.declared.Stretch.{Stretch}
 use Rattle.stretches.proofs.Numbers.{stretch-walks}
-use Rattle.parts.proofs.Laws.{behind-none, behind_more, over-more, listed-as, listed-length}
-use Rattle.covering.specs.Covering.{Sound, Leaving, first_at, end_at, entry_on, entry_ahead, listed_in, FullAt, CoveredIs}
-use Rattle.covering.specs.declared.Covered.TheVariants.{All, Full}
+use Rattle.parts.proofs.Laws.{behind-none, behind_more, over-more, listed-as, listed-length, listed-room}
+use Rattle.covering.specs.Covering.{Sound, Leaving, first_at, end_at, entry_on, entry_ahead, listed_in, CoveredIs}
 
 -- ---- one entry, in the code's terms
 module _ (v w list : List ℕ) (allowed i x : ℕ) (s : Sound v w list allowed i) (e : x ≡ be32 list (8 * i)) where
@@ -41,7 +39,7 @@ module _ (v w list : List ℕ) (allowed i x : ℕ) (s : Sound v w list allowed i
   run_fits first end f g = (omega (arith, first-is first f, end_is end g, s.order), omega (arith, end_is end g, s.fit))
 
   -- What is listed at the vertex are the parts of the entry.
-  pub entry_listed : (road : Road) (first end d count : ℕ) (b b' : List ℕ) (r : Listed) → d ≡ be32 list (8 * i + 4) → first ≡ first_of Walks (vertex_at v x) → end ≡ end_of Walks v (length w / 16) x
+  pub entry_listed : (road : Road) (first end d count : ℕ) (b b' : List ℕ) (r : Option ℕ) → d ≡ be32 list (8 * i + 4) → first ≡ first_of Walks (vertex_at v x) → end ≡ end_of Walks v (length w / 16) x
       → ListedIs count (parts_on w road (allowed - d) first (end - first)) b b' r → ListedIs count (entry_on v w list road allowed i) b b' r
   unfolding entry_on
   entry_listed road first end d count b b' r q f g l = rw (q, first-is first f, end_is end g) at l
@@ -72,7 +70,7 @@ module _ (size : ℕ) (v w h r list : List ℕ) (ok : Leaving size v w h r) (i u
         subst (λ (z : ℕ). be32 r (4 * z) < length w / 16) k (stretch-walks ok.right u (records_in 16 w) (j - s.first) (omega arith) (omega (arith, many))),
   )
 
-  pub ahead-listed : (road : Road) (allowed d count : ℕ) (b b' : List ℕ) (x : Listed) → u ≡ be32 list (8 * i) → d ≡ be32 list (8 * i + 4)
+  pub ahead-listed : (road : Road) (allowed d count : ℕ) (b b' : List ℕ) (x : Option ℕ) → u ≡ be32 list (8 * i) → d ≡ be32 list (8 * i + 4)
       → ListedIs count (aheads_on w road (allowed - d) r s.first (s.first + s.many - s.first)) b b' x → ListedIs count (entry_ahead size w h r list road allowed i) b b' x
   unfolding entry_ahead
   ahead-listed road allowed d count b b' x p q l =
@@ -82,7 +80,7 @@ module _ (size : ℕ) (v w h r list : List ℕ) (ok : Leaving size v w h r) (i u
       ∙ ap (λ (y : ℕ). aheads_on w road (allowed - y) r s.first s.many) q
       ∙ ap (λ (y : Stretch). aheads_on w road (allowed - be32 list (8 * i + 4)) r y.first y.many) (e ∙ ap (walks_of size w h) p)) l
 
-pub over-same : (count : ℕ) (ps : List Part) (b b' : List ℕ) → ListedIs count ps b b' NoRoom → length b' ≡ length b
+pub over-same : (count : ℕ) (ps : List Part) (b b' : List ℕ) → ListedIs count ps b b' None → length b' ≡ length b
 unfolding ListedIs
 over-same count ps b b' x = x.same
 
@@ -99,12 +97,12 @@ module _ (step₀ : List Part) (entry : ℕ → List Part) where
   more = joined entry
 
   -- Step 0 alone has no room.
-  pub no-first : (n : ℕ) (b b₁ : List ℕ) → ListedIs 0 step₀ b b₁ NoRoom → CoveredIs f n b b₁ (Full 0)
+  pub no-first : (n : ℕ) (b b₁ : List ℕ) → ListedIs 0 step₀ b b₁ None → CoveredIs f n b b₁ (Err 0)
   unfolding ListedIs CoveredIs listed_in joined
   no-first n b b₁ x =
       record { made = omega arith; over = omega (arith, x.over, ap length (append-nil step₀)); before = λ j l. absurd (omega arith); same = x.same }
 
-  module _ (b b₁ : List ℕ) (first : ℕ) (F : ListedIs 0 step₀ b b₁ (Fits first)) where
+  module _ (b b₁ : List ℕ) (first : ℕ) (F : ListedIs 0 step₀ b b₁ (Some first)) where
     opened : Behind 0 step₀ b b₁ first
     unfolding ListedIs
     opened = F
@@ -137,7 +135,7 @@ module _ (step₀ : List Part) (entry : ℕ → List Part) where
       pub go-room : count ≤ length b₂ / 12
       go-room = omega (arith, G.behind.room, ap (λ (k : ℕ). k / 12) kept)
 
-      pub go-next : (count' : ℕ) (b₃ : List ℕ) → ListedIs count (entry i) b₂ b₃ (Fits count') → Going entry b₁ first b₃ count' (i + 1)
+      pub go-next : (count' : ℕ) (b₃ : List ℕ) → ListedIs count (entry i) b₂ b₃ (Some count') → Going entry b₁ first b₃ count' (i + 1)
       unfolding ListedIs joined
       go-next count' b₃ x =
           let q : i + 1 ≡ suc i = omega arith in
@@ -147,7 +145,7 @@ module _ (step₀ : List Part) (entry : ℕ → List Part) where
             room = λ j h. ⊎_elim (λ (z : j ≤ i). G.room j z) (λ (z : i < j). let s : j ≡ suc i = omega arith in rw s (omega (arith, y.counted, y.room))) (le-or-lt j i);
           })
 
-      pub go-full : (n : ℕ) (b₃ : List ℕ) → i < n → ListedIs count (entry i) b₂ b₃ NoRoom → CoveredIs f n b b₃ (Full (i + 1))
+      pub go-full : (n : ℕ) (b₃ : List ℕ) → i < n → ListedIs count (entry i) b₂ b₃ None → CoveredIs f n b b₃ (Err (i + 1))
       unfolding ListedIs CoveredIs joined
       go-full n b₃ l x =
           let y : Overfull first (more (suc i)) b₁ b₃ = over-more low G.behind x in
@@ -160,10 +158,19 @@ module _ (step₀ : List Part) (entry : ℕ → List Part) where
             same = y.same ∙ same₁;
           }
 
-      pub go-done : (n : ℕ) → i ≡ n → CoveredIs f n b b₂ (All count)
+      pub go-done : (n : ℕ) → i ≡ n → CoveredIs f n b b₂ (Ok count)
       unfolding CoveredIs listed_in
       go-done n q =
           let y : Behind 0 (f i) b b₂ count = behind_more (omega arith) opened G.behind in (
             subst (λ (k : ℕ). Behind 0 (f k) b b₂ count) q y,
             λ j h. omega (arith, long j, G.room j (omega arith), ap (λ (k : ℕ). k / 12) same₁),
           )
+
+-- what is known of the number in a Some
+pub at-some : (P : ℕ → Type 0) {r : Option ℕ} {x : ℕ} → r ≡ Some x → IfSome r P → P x
+at-some P e p = subst (λ (o : Option ℕ). IfSome o P) e p
+
+-- what is listed, if it fits, leaves its number within the room
+pub room-kept : (count : ℕ) (ps : List Part) (b b' : List ℕ) (r : Option ℕ) → count ≤ length b / 12 → ListedIs count ps b b' r → IfSome r (λ k. k ≤ length b' / 12)
+room-kept count ps b b' (Some k) h x = listed-room count ps b b' h k x
+room-kept count ps b b' None h x = tt

@@ -13,8 +13,7 @@ use Rattle.journeys.specs.PartAnswers.{list_lengths}
 use Rattle.journeys.proofs.Refusals.{or-first, or-next}
 use Rattle.journeys.proofs.Decoding.{vertex-count}
 use Rattle.lists.specs.Lists.{told}
-use Rattle.lists.specs.declared.Judged.{Judged}
-use Rattle.lists.specs.declared.Judged.TheVariants.{Good, Bad}
+use Rattle.std.specs.Prelude.{⊤, Result, Ok, Err}
 use Rattle.intake.proofs.FirstFault.{failed, passed, last, last-failed}
 
 module _ (list parts : List ℕ) where
@@ -31,12 +30,12 @@ module _ (list parts : List ℕ) where
   none-cut e f = sym (passed _ 1 4 _ (eq-eqb (length list % 8) 0 e) ∙ last _ 1 5 (eq-eqb (length parts % 12) 0 f))
 
 -- ---- what the judge of lists says
-module _ (r : Judged) {x : Refusal} (e : told 21 r ≡ x) where
-  pub all-good : r ≡ Good → fine ≡ x
+module _ (r : Result ⊤ ℕ) {x : Refusal} (e : told 21 r ≡ x) where
+  pub all-good : {u : ⊤} → r ≡ Ok u → fine ≡ x
   unfolding told
   all-good q = sym (ap (told 21) q) ∙ e
 
-  pub one-bad : (i : ℕ) → r ≡ Bad i → record { number = 21; place = i } ≡ x
+  pub one-bad : (i : ℕ) → r ≡ Err i → record { number = 21; place = i } ≡ x
   unfolding told
   one-bad i q = sym (ap (told 21) q) ∙ e
 

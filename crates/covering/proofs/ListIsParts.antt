@@ -2,21 +2,20 @@
 use mathlib.Core.Path.{◌≡◌, refl, sym, ap, ap₂, ◌∙◌}
 use mathlib.Core.Logic.{⊎_elim}
 use mathlib.Core.Bool.{Bool, true, false}
-use mathlib.Core.List.{List, [], ◌∷◌, ◌++◌, flat_map, append-nil, append_assoc}
+use mathlib.Core.List.{List, [], ◌++◌, flat_map, append_assoc}
 use Prim.Native.Nat.{ℕ, zero, suc, ◌+◌, ◌-◌, ◌*◌, ◌/◌, ◌≤◌, ◌<◌}
 use native.Mathlib.Omega.{arith}
 use lib.Dec.{eqb, leb}
 use lib.ListN.{length, take}
 use borrow.Author.Tests.{eqb-true, leb-true}
 use Rattle.journeys.specs.Counting.{none, joined}
-use Rattle.journeys.specs.Tables.{Tables, Walk, vertex_count, walk_at, walk_count, tables_of}
+use Rattle.journeys.specs.Tables.{Tables, Walk, vertex_count, walk_at, tables_of}
 use Rattle.journeys.specs.Query.{Query, allowed}
 use Rattle.journeys.specs.Order.{Settled, settled}
 use Rattle.journeys.specs.Parts as ordinary
 use Rattle.journeys.specs.Parts.{Part}
 use Rattle.journeys.specs.CourierParts as courier
 use Rattle.journeys.specs.Lists.{allows, vertex_in, distance_at, settled_in}
-use Rattle.journeys.specs.Valid.{Valid}
 use Rattle.journeys.proofs.Tests.{or_cases}
 use Rattle.journeys.proofs.Counting.{flat-snoc}
 use Rattle.journeys.proofs.Decoding.{vertex-count, walk-count, walk_at_lem}
@@ -26,7 +25,7 @@ use Rattle.lists.proofs.Meaning.{entry-means}
 use Rattle.heldmap.proofs.ArrivingRun.{walk-run}
 use Rattle.listing.proofs.Froms.{sound, total-is}
 use Rattle.stretches.proofs.Numbers.{right-list}
-use Rattle.parts.specs.Listing.{road_of, first_on, first_ahead}
+use Rattle.parts.specs.Listing.{road_of}
 use Rattle.parts.specs.declared.Road.{Road}
 use Rattle.covering.specs.Covering.{Sound, Leaving, Ready, Accepted, entry_on, entry_ahead, first_in, entry_in, listed_in, part_list_in}
 use Rattle.covering.proofs.PartsOfRoad.{parts-here, parts_first}

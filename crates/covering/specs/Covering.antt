@@ -1,5 +1,5 @@
 -- The parts of a list, entry by entry, by the numbers of the query's road. Assumes nothing.
-use Rattle.std.specs.Prelude.{◌≡◌, Bool, true, false, cond, List, ◌++◌, ℕ, ◌+◌, ◌-◌, ◌*◌, ◌/◌, ◌<◌, ◌≤◌, length}
+use Rattle.std.specs.Prelude.{◌≡◌, Bool, true, false, cond, List, ◌++◌, ℕ, ◌+◌, ◌-◌, ◌*◌, ◌/◌, ◌<◌, ◌≤◌, length, Option, Result, Ok, Err, IfSome}
 use Rattle.journeys.specs.Counting.{joined}
 use Rattle.journeys.specs.Tables.{Tables, vertex_at, vertex_count, tables_of}
 use Rattle.journeys.specs.Query.{Query, allowed}
@@ -16,10 +16,9 @@ use Rattle.records.specs.declared.Kind.TheVariants.{Walks}
 use Rattle.listing.specs.Places as listing
 use Rattle.listing.specs.Places.{total, from_of}
 use Rattle.stretches.specs.Stretch.{Right, walks_of}
-use Rattle.parts.specs.Listing.{first_on, parts_on, first_ahead, aheads_on, Behind}
+use denote.Ref.{MutBor}
+use Rattle.parts.specs.Listing.{first_on, parts_on, first_ahead, aheads_on, Behind, ListedIs}
 use Rattle.parts.specs.declared.Road.{Road}
-use Rattle.covering.specs.declared.Covered.{Covered}
-use Rattle.covering.specs.declared.Covered.TheVariants.{All, Full}
 
 module _ (v w list : List ℕ) where
   -- where the walks begin and end that arrive at the vertex of entry i
@@ -90,6 +89,18 @@ pub record FullAt (f : ℕ → List Part) (n : ℕ) (b b' : List ℕ) (k : ℕ) 
   pub before : (j : ℕ) → j < k → length (f j) ≤ length b / 12
   pub same : length b' ≡ length b
 
-unfoldable pub CoveredIs : (ℕ → List Part) → ℕ → List ℕ → List ℕ → Covered → Type 0
-CoveredIs f n b b' (All c) = Behind 0 (f n) b b' c × ((j : ℕ) → j ≤ n → length (f j) ≤ length b / 12)
-CoveredIs f n b b' (Full k) = FullAt f n b b' k
+unfoldable pub CoveredIs : (ℕ → List Part) → ℕ → List ℕ → List ℕ → Result ℕ ℕ → Type 0
+CoveredIs f n b b' (Ok c) = Behind 0 (f n) b b' c × ((j : ℕ) → j ≤ n → length (f j) ≤ length b / 12)
+CoveredIs f n b b' (Err k) = FullAt f n b b' k
+
+-- What listing an entry is asked for, and what it does: `call` speaks of the buffer before and after, the number of parts before, the entry, and the answer.
+module _ (n : ℕ) where
+  abbrev pub MayList : (MutBor (List ℕ) → ℕ → ℕ → Type 0) → Type 0
+  MayList call = (b : MutBor (List ℕ)) (count i : ℕ) → count ≤ length b.now / 12 → i < n → call b count i
+
+  abbrev pub KeepsRoom : (MutBor (List ℕ) → ℕ → ℕ → Option ℕ → MutBor (List ℕ) → Type 0) → Type 0
+  KeepsRoom call = (b b' : MutBor (List ℕ)) (count i : ℕ) (r : Option ℕ) → count ≤ length b.now / 12 → i < n → call b count i r b' → IfSome r (λ c. c ≤ length b'.now / 12)
+
+-- each call lists the parts f i of its entry
+abbrev pub Lists : (ℕ → List Part) → ℕ → (MutBor (List ℕ) → ℕ → ℕ → Option ℕ → MutBor (List ℕ) → Type 0) → Type 0
+Lists f n call = (b b' : MutBor (List ℕ)) (count i : ℕ) (r : Option ℕ) → i < n → call b count i r b' → ListedIs count (f i) b.now b'.now r

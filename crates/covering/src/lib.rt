@@ -3,39 +3,21 @@
 // Rests on: the check (`audit`), the query's test (`intake`), the courier's (`courier_intake`), the judge of lists (`lists`), the parts of one vertex (`parts`), where its records stand in the list by "from" (`stretches`).
 #![tactic(auto)]
 
-ghost use Rattle.std.specs.Prelude.{◌≡◌, true, false, ◌+◌, ◌*◌, ◌/◌, ◌<◌, ◌≤◌, length, take, replicate};
+ghost use Rattle.std.specs.Prelude.{◌≡◌, List, ℕ, Option, Ok, IfSome, MatchResult, ◌+◌, ◌*◌, ◌/◌, ◌<◌, ◌≤◌, length, take, replicate};
 ghost use Rattle.journeys.specs.Bytes.{filled, cleared};
-ghost use Rattle.journeys.specs.Tables.{tables_of};
 ghost use Rattle.journeys.specs.Lists.{distance_at, list_refusal};
-ghost use Rattle.journeys.specs.Refusals.{fine};
-ghost use Rattle.journeys.specs.ListAnswers.{parts_answer_for};
+ghost use Rattle.journeys.specs.Parts.{Part};
 ghost use Rattle.journeys.specs.PartAnswers.{list_lengths, parts_early, parts_answer};
 ghost use Rattle.journeys.specs.CourierPartAnswers.{courier_parts_early, courier_parts_answer};
 ghost use Rattle.words.specs.Told.{told};
 ghost use Rattle.records.specs.Asked.{query_of};
 ghost use Rattle.parts.specs.Listing.{ListedIs};
-ghost use Rattle.covering.specs.Covering.{entry_on, entry_ahead, first_in, entry_in, listed_in, part_list_in, Sound, Leaving, Ready, Accepted, CoveredIs};
-ghost use Rattle.covering.specs.Lending.{parts_lent, courier_parts_lent, parts_answer_of, counted, refusing};
+ghost use Rattle.covering.specs.Covering.{entry_on, entry_ahead, listed_in, Sound, Leaving, CoveredIs, MayList, KeepsRoom, Lists};
+ghost use Rattle.covering.specs.Lending.{parts_lent, courier_parts_lent, count_in, parts_answer_of};
 
-use lists::Judged;
-use parts::{Listed, Road};
+use parts::Road;
 use records::{Kind, Query};
-use words::{Refusal, Ticks, refused, word_at};
-
-// The three numbers of an answer.
-#[derive(Clone, Copy)]
-pub struct PartsAnswer {
-    pub refusal: u32,
-    pub place: u32,
-    pub parts: u32,
-}
-
-// How many parts there are, or which entry, counted from 1, has no room for its parts: 0 for those of step 0.
-#[derive(Clone, Copy)]
-enum Covered {
-    All(usize),
-    Full(usize),
-}
+use words::{Reason, Refusal, Ticks, refused, word_at};
 
 // The parts at the vertex of entry i, behind `count` others.
 fn list_entry(
@@ -47,7 +29,7 @@ fn list_entry(
     i: usize,
     road: Road,
     allowed: Ticks,
-) -> Listed
+) -> Option<usize>
     requires { (count ≤ length parts.old / 12) × (i < length list.now / 8) × (length walks.now / 16 ≤ 262144) × Sound vertices.now walks.now list.now allowed.0 i × (road.speed ≤ 100) }
     ensures { ListedIs count (entry_on vertices.now walks.now list.now road allowed.0 i) parts.old parts.new result }
 {
@@ -71,7 +53,7 @@ fn list_entry_ahead(
     i: usize,
     road: Road,
     allowed: Ticks,
-) -> Listed
+) -> Option<usize>
     requires { (count ≤ length parts.old / 12) × (i < length list.now / 8) × (distance_at 8 list.now i ≤ allowed.0) × Leaving hop_size vertices.now walks.now hops.now records.now }
     ensures { ListedIs count (entry_ahead hop_size walks.now hops.now records.now list.now road allowed.0 i) parts.old parts.new result }
 {
@@ -83,97 +65,58 @@ fn list_entry_ahead(
     parts::list_departing(parts, count, walks, records, first, end, road, left)
 }
 
-// The same in either direction.
-fn list_at(
+// The parts of each of n entries, as `entry` lists them, behind those of step 0, of which there are `first`: how many there are then, or which entry, counted from 1,
+// has no room for its parts, 0 where those of step 0 have none.
+fn cover<F: Fn(&mut [u8], usize, usize) -> Option<usize>>(
     parts: &mut [u8],
-    count: usize,
-    vertices: &[u8],
-    walks: &[u8],
-    hops: &[u8],
-    hop_size: usize,
-    records: &[u8],
-    list: &[u8],
-    i: usize,
-    road: Road,
-    allowed: Ticks,
-    courier: bool,
-) -> Listed
-    requires { (count ≤ length parts.old / 12) × (i < length list.now / 8) × Ready courier hop_size vertices.now walks.now hops.now records.now list.now road allowed.0 }
-    ensures { ListedIs count (entry_in courier hop_size vertices.now walks.now hops.now records.now list.now road allowed.0 i) parts.old parts.new result }
+    first: Option<usize>,
+    n: usize,
+    entry: F,
+) -> Result<usize, usize>
+    requires room { IfSome first (λ c. c ≤ length parts.old / 12) }
+    requires callable { MayList n (F.pre entry) }
+    requires keeps { KeepsRoom n (F.post entry) }
+    ensures { (b : List ℕ) (step : List Part) (f : ℕ → List Part) → ListedIs 0 step b parts.old first → Lists f n (F.post entry) → CoveredIs (listed_in step f) n b parts.new result }
 {
-    if courier {
-        return list_entry_ahead(
-            parts, count, vertices, walks, hops, hop_size, records, list, i, road, allowed,
-        );
-    }
-    list_entry(parts, count, vertices, walks, list, i, road, allowed)
-}
-
-// Step 0 in either direction.
-fn list_begin(parts: &mut [u8], road: Road, allowed: Ticks, courier: bool) -> Listed
-    requires { road.near.0 + road.back.0 < 4294967296 }
-    ensures { ListedIs 0 (first_in courier road allowed.0) parts.old parts.new result }
-{
-    if courier {
-        return parts::list_ahead(parts, road, allowed);
-    }
-    parts::list_first(parts, road, allowed)
-}
-
-// The parts of step 0, then those of each entry of the list.
-fn cover(
-    parts: &mut [u8],
-    vertices: &[u8],
-    walks: &[u8],
-    hops: &[u8],
-    hop_size: usize,
-    records: &[u8],
-    list: &[u8],
-    road: Road,
-    allowed: Ticks,
-    courier: bool,
-) -> Covered
-    requires { Ready courier hop_size vertices.now walks.now hops.now records.now list.now road allowed.0 }
-    ensures { CoveredIs (listed_in (first_in courier road allowed.0) (entry_in courier hop_size vertices.now walks.now hops.now records.now list.now road allowed.0)) (length list.now / 8) parts.old parts.new result }
-{
-    let Listed::Fits(first) = list_begin(parts, road, allowed, courier) else {
-        return Covered::Full(0);
+    let Some(known) = first else {
+        return Err(0);
     };
-    let mut count = first;
-    let mut i = 0;
-    while i < list.len() / 8 {
-        let Listed::Fits(more) = list_at(
-            parts, count, vertices, walks, hops, hop_size, records, list, i, road, allowed, courier,
-        ) else {
-            return Covered::Full(i + 1);
+    let mut count = known;
+    for i in 0..n {
+        let Some(more) = entry(parts, count, i) else {
+            return Err(i + 1);
         };
         count = more;
-        i += 1;
     }
-    Covered::All(count)
+    Ok(count)
 }
 
 // Refusal 1, places 4 and 5: the list and the part buffer are whole numbers of records.
-fn lengths(list: &[u8], parts: &[u8]) -> Refusal
+fn lengths(list: &[u8], parts: &[u8]) -> Result<(), Refusal>
     ensures { told result ≡ list_lengths list.now parts.now }
 {
     if list.len() % 8 != 0 {
-        return refused(1, 4);
+        return refused(Reason::Length, 4);
     }
     if parts.len() % 12 != 0 {
-        return refused(1, 5);
+        return refused(Reason::Length, 5);
     }
-    words::fine()
+    Ok(())
 }
 
 // Refusal 21: the first entry of the list that is bad.
-fn list_fault(list: &[u8], vertices: usize, allowed: Ticks, scratch: &mut [u16]) -> Refusal
+fn list_fault(
+    list: &[u8],
+    vertices: usize,
+    allowed: Ticks,
+    scratch: &mut [u16],
+) -> Result<(), Refusal>
     requires { (vertices ≤ 65536) × (scratch.old ≡ replicate 2048 0) }
     ensures { told result ≡ list_refusal 8 vertices allowed.0 list.now }
 {
     match lists::judge(list, 8, vertices as u32, allowed.0, scratch) {
-        Judged::Good => words::fine(),
-        Judged::Bad(i) => refused(21, i),
+        Ok(()) => Ok(()),
+        Err(i) => refused(Reason::Entry, i),
     }
 }
 
@@ -187,25 +130,13 @@ fn fault(
     parts: &[u8],
     q: Query,
     scratch: &mut [u16; 2048],
-) -> Refusal
+) -> Result<(), Refusal>
     ensures { told result ≡ parts_early (parts_lent vertices.now walks.now hops.now hop_size list.now parts.now) (query_of q) }
 {
-    let uneven = audit::lengths(vertices, walks, hops, hop_size);
-    if uneven.number != 0 {
-        return uneven;
-    }
-    let cut = lengths(list, parts);
-    if cut.number != 0 {
-        return cut;
-    }
-    let bad = audit::contents(vertices, walks, hops, hop_size, scratch);
-    if bad.number != 0 {
-        return bad;
-    }
-    let wrong = intake::query_fault(walks, q);
-    if wrong.number != 0 {
-        return wrong;
-    }
+    audit::lengths(vertices, walks, hops, hop_size)?;
+    lengths(list, parts)?;
+    audit::contents(vertices, walks, hops, hop_size, scratch)?;
+    intake::query_fault(walks, q)?;
     list_fault(
         list,
         vertices.len() / 12,
@@ -215,68 +146,35 @@ fn fault(
 }
 
 // All parts are listed: what is not filled of the buffer becomes zero.
-fn fill(parts: &mut [u8], count: usize) -> PartsAnswer
+fn fill(parts: &mut [u8], count: usize) -> u32
     requires { (12 * count ≤ length parts.old) × (count < 4294967296) }
-    ensures { (result ≡ counted count) × (parts.new ≡ filled parts.old (take (12 * count) parts.old)) }
+    ensures { (result ≡ count) × (parts.new ≡ filled parts.old (take (12 * count) parts.old)) }
 {
     let end = 12 * count;
     words::zero(&mut parts[end..]);
-    PartsAnswer {
-        refusal: 0,
-        place: 0,
-        parts: count as u32,
-    }
+    count as u32
 }
 
 // Refusal 10: the part buffer becomes zero.
-fn give_up(parts: &mut [u8], entry: usize) -> PartsAnswer
+fn give_up(parts: &mut [u8], entry: usize) -> Result<u32, Refusal>
     requires { entry < 4294967296 }
-    ensures { (result ≡ refusing 10 entry) × (parts.new ≡ cleared parts.old) }
+    ensures { (told result ≡ record { number = 10; place = entry }) × (count_in result ≡ 0) × (parts.new ≡ cleared parts.old) }
 {
     words::zero(parts);
-    refusal(10, entry as u32)
+    Err(Refusal {
+        reason: Reason::PartRoom,
+        place: entry as u32,
+    })
 }
 
-fn refusal(number: u32, place: u32) -> PartsAnswer
-    ensures { result ≡ refusing number place }
+// The answer where so many parts are listed, or an entry has no room for its own.
+fn finish(parts: &mut [u8], covered: Result<usize, usize>) -> Result<u32, Refusal>
+    requires { MatchResult covered (λ c. (12 * c ≤ length parts.old) × (c < 4294967296)) (λ k. k < 4294967296) }
+    ensures { MatchResult covered (λ c. parts_answer_of result parts.new ≡ parts_answer_of (Ok c) (filled parts.old (take (12 * c) parts.old))) (λ k. parts_answer_of result parts.new ≡ record { refusal = 10; place = k; part_count = 0; parts = cleared parts.old }) }
 {
-    PartsAnswer {
-        refusal: number,
-        place: place,
-        parts: 0,
-    }
-}
-
-// What is not refused: the parts are listed, and the buffer is filled or becomes zero. `records` is read for the courier alone.
-fn answer(
-    vertices: &[u8],
-    walks: &[u8],
-    hops: &[u8],
-    hop_size: usize,
-    records: &[u8],
-    list: &[u8],
-    parts: &mut [u8],
-    q: Query,
-    courier: bool,
-) -> PartsAnswer
-    requires { Accepted courier hop_size vertices.now walks.now hops.now records.now list.now (query_of q) }
-    ensures { parts_answer_of result parts.new ≡ parts_answer_for (part_list_in courier (tables_of hop_size vertices.now walks.now hops.now) (query_of q)) list.now parts.old fine }
-{
-    let road = parts::read_road(walks, q);
-    match cover(
-        parts,
-        vertices,
-        walks,
-        hops,
-        hop_size,
-        records,
-        list,
-        road,
-        intake::allowed(q),
-        courier,
-    ) {
-        Covered::All(count) => fill(parts, count),
-        Covered::Full(entry) => give_up(parts, entry),
+    match covered {
+        Ok(count) => Ok(fill(parts, count)),
+        Err(entry) => give_up(parts, entry),
     }
 }
 
@@ -289,11 +187,11 @@ pub fn parts(
     list: &[u8],
     parts: &mut [u8],
     q: Query,
-) -> PartsAnswer
+) -> Result<u32, Refusal>
     ensures { parts_answer_of result parts.new ≡ parts_answer (parts_lent vertices.now walks.now hops.now hop_size list.now parts.old) (query_of q) }
 {
     let mut scratch = [0u16; 2048];
-    let found = fault(
+    fault(
         vertices,
         walks,
         hops,
@@ -302,11 +200,14 @@ pub fn parts(
         parts,
         q,
         &mut scratch,
-    );
-    if found.number != 0 {
-        return refusal(found.number, found.place);
-    }
-    answer(vertices, walks, hops, hop_size, list, list, parts, q, false)
+    )?;
+    let road = parts::read_road(walks, q);
+    let allowed = intake::allowed(q);
+    let first = parts::list_first(parts, road, allowed);
+    let covered = cover(parts, first, list.len() / 8, |buffer, count, i| {
+        list_entry(buffer, count, vertices, walks, list, i, road, allowed)
+    });
+    finish(parts, covered)
 }
 
 // Refusals 1, with the list by "from" at place 6, 2 to 6, 22, 7 and 21 in their order.
@@ -320,25 +221,13 @@ fn courier_fault(
     parts: &[u8],
     q: Query,
     scratch: &mut [u16; 2048],
-) -> Refusal
+) -> Result<(), Refusal>
     ensures { told result ≡ courier_parts_early (courier_parts_lent vertices.now walks.now hops.now hop_size records.now list.now parts.now) (query_of q) }
 {
-    let uneven = audit::lengths(vertices, walks, hops, hop_size);
-    if uneven.number != 0 {
-        return uneven;
-    }
-    let cut = lengths(list, parts);
-    if cut.number != 0 {
-        return cut;
-    }
-    let short = making::list_length(vertices, walks, hops, hop_size, records);
-    if short.number != 0 {
-        return short;
-    }
-    let bad = courier_intake::contents_fault(vertices, walks, hops, hop_size, records, q, scratch);
-    if bad.number != 0 {
-        return bad;
-    }
+    audit::lengths(vertices, walks, hops, hop_size)?;
+    lengths(list, parts)?;
+    making::list_length(vertices, walks, hops, hop_size, records)?;
+    courier_intake::contents_fault(vertices, walks, hops, hop_size, records, q, scratch)?;
     list_fault(
         list,
         vertices.len() / 12,
@@ -357,11 +246,11 @@ pub fn courier_parts(
     list: &[u8],
     parts: &mut [u8],
     q: Query,
-) -> PartsAnswer
+) -> Result<u32, Refusal>
     ensures { parts_answer_of result parts.new ≡ courier_parts_answer (courier_parts_lent vertices.now walks.now hops.now hop_size records.now list.now parts.old) (query_of q) }
 {
     let mut scratch = [0u16; 2048];
-    let found = courier_fault(
+    courier_fault(
         vertices,
         walks,
         hops,
@@ -371,11 +260,14 @@ pub fn courier_parts(
         parts,
         q,
         &mut scratch,
-    );
-    if found.number != 0 {
-        return refusal(found.number, found.place);
-    }
-    answer(
-        vertices, walks, hops, hop_size, records, list, parts, q, true,
-    )
+    )?;
+    let road = parts::read_road(walks, q);
+    let allowed = intake::allowed(q);
+    let first = parts::list_ahead(parts, road, allowed);
+    let covered = cover(parts, first, list.len() / 8, |buffer, count, i| {
+        list_entry_ahead(
+            buffer, count, vertices, walks, hops, hop_size, records, list, i, road, allowed,
+        )
+    });
+    finish(parts, covered)
 }

@@ -1,6 +1,6 @@
 // The departing records of the vertices, counted block by block in the lent scratch: what refusal 6 asks of the tables.
 // Promises: the counters of a block are the numbers of records that leave its vertices, and none wraps.
-// Rests on: the columns of `records` and the numbers of `words`. It has no array of its own.
+// Rests on: the columns of `records`. It has no array of its own.
 #![tactic(auto)]
 
 ghost use Rattle.std.specs.Prelude.{◌≡◌, cond, ◌++◌, ℕ, ◌+◌, ◌*◌, ◌<◌, ◌≤◌, min, max, eqb, ltb, length, get_or, set, drop, replicate};
@@ -9,7 +9,6 @@ ghost use Rattle.records.specs.Columns.{records_in, from_at, leaving};
 ghost use Rattle.departing.specs.Scratch.{Outside, Counted, Noted, Near, Low, Inside, range_start, range_end};
 
 use records::{WALK_SIZE, from_at};
-use words::lesser;
 
 // The scratch has a counter for each vertex of a block. Behind them stand, for each block that 65,536 vertices need, the first and the last
 // record that leaves it, for walks and then for hops. Those numbers are divided by four, so that they fit 16 bits.
@@ -26,11 +25,7 @@ fn zero(scratch: &mut [u16], count: usize)
     requires { count ≤ length scratch.old }
     ensures { scratch.new ≡ replicate count 0 ++ drop count scratch.old }
 {
-    let mut k = 0;
-    while k < count {
-        scratch[k] = 0;
-        k += 1;
-    }
+    scratch[..count].fill(0);
 }
 
 // The whole scratch.
@@ -40,27 +35,14 @@ pub fn clear(scratch: &mut [u16; 2048])
     zero(scratch, 2048);
 }
 
-fn lower(a: u16, b: u16) -> u16
-    ensures { result ≡ min a b }
-{
-    if a < b { a } else { b }
-}
-
-fn higher(a: u16, b: u16) -> u16
-    ensures { result ≡ max a b }
-{
-    if a < b { b } else { a }
-}
-
 // Every range is empty. A range may be too wide, which costs time alone, so nothing is promised here.
 fn empty_ranges(scratch: &mut [u16])
     requires { length scratch.old ≡ 2048 }
 {
-    let mut k = WALK_RANGES;
-    while k < WALK_RANGES + 4 * BLOCKS {
-        scratch[k] = 65535;
-        scratch[k + 1] = 0;
-        k += 2;
+    for g in 0..2 * BLOCKS {
+        let range = WALK_RANGES + 2 * g;
+        scratch[range] = 65535;
+        scratch[range + 1] = 0;
     }
 }
 
@@ -71,8 +53,8 @@ fn widen(scratch: &mut [u16], at: usize, q: u16)
 {
     let low = scratch[at];
     let high = scratch[at + 1];
-    scratch[at] = lower(low, q);
-    scratch[at + 1] = higher(high, q);
+    scratch[at] = low.min(q);
+    scratch[at + 1] = high.max(q);
 }
 
 // The ranges from `at` on are widened to reach every record of a table: each in the range of the block that it leaves.
@@ -84,11 +66,9 @@ fn note(table: &[u8], size: usize, at: usize, scratch: &mut [u16])
     ensures outside { Outside at (at + 70) scratch.old scratch.new }
 {
     let n = table.len() / size;
-    let mut i = 0;
-    while i < n {
+    for i in 0..n {
         let from = from_at(table, size, i) as usize;
         widen(scratch, at + 2 * (from / BLOCK), (i / 4) as u16);
-        i += 1;
     }
 }
 
@@ -115,10 +95,7 @@ fn count_one(scratch: &mut [u16], k: usize, low: usize) -> usize
         scratch[k] = counted + 1;
         return low;
     }
-    if k < low {
-        return k;
-    }
-    low
+    low.min(k)
 }
 
 // The record i of a table is counted if it leaves one of `len` vertices from `base` on.
@@ -165,10 +142,8 @@ fn count_table(
     ensures outside { Outside 0 1904 scratch.old scratch.new }
 {
     let mut low = first;
-    let mut i = start;
-    while i < end {
+    for i in start..end {
         low = count_record(table, size, i, base, len, scratch, low);
-        i += 1;
     }
     low
 }
@@ -178,17 +153,14 @@ fn range_end(scratch: &[u16], range: usize, records: usize) -> usize
     requires { (range + 2 ≤ length scratch.now) × (records ≤ 262144) }
     ensures { result ≡ range_end scratch.now range records }
 {
-    lesser(4 * (scratch[range + 1] as usize) + 4, records)
+    (4 * (scratch[range + 1] as usize) + 4).min(records)
 }
 
 fn range_start(scratch: &[u16], range: usize, records: usize) -> usize
     requires { (range + 2 ≤ length scratch.now) × (records ≤ 262144) }
     ensures { result ≡ range_start scratch.now range records }
 {
-    lesser(
-        4 * (scratch[range] as usize),
-        range_end(scratch, range, records),
-    )
+    (4 * (scratch[range] as usize)).min(range_end(scratch, range, records))
 }
 
 // The records of a table that leave `len` vertices of the block g are counted by the block's range.

@@ -1,14 +1,23 @@
 -- The contracts of `finish` and `refuse` settle the answer and every lent byte. Assumes nothing.
 use mathlib.Core.Path.{◌≡◌, refl, sym, ap, ap₂, ◌∙◌}
-use Prim.Native.Nat.{ℕ}
-use Rattle.journeys.specs.Refusals.{Refusal}
-use Rattle.departures.specs.Answered.{told}
-use Rattle.departures.specs.declared.Answer.{Answer}
+use Rattle.std.specs.Prelude.{ℕ, Result, Ok, Err}
+use Rattle.journeys.specs.Refusals as refusals
+use Rattle.words.specs.declared.Reason.{Reason}
+use Rattle.words.specs.declared.Refusal.{Refusal}
+use Rattle.words.specs.Told.{told}
+use Rattle.words.proofs.Told.{named, number-injective}
+use Rattle.departures.specs.Answered.{hops_told}
 use Rattle.departures.proofs.finish.Reads as finish
 use Rattle.departures.proofs.refuse.Reads as refuse
 
-one_answer : (x y : Answer) → told x ≡ told y → x.hops ≡ y.hops → x ≡ y
-one_answer x y p q = ap₂ (λ (r : Refusal) (n : ℕ). record { number = r.number; place = r.place; hops = n }) p q
+pub one_answer : (x y : Result ℕ Refusal) → told x ≡ told y → hops_told x ≡ hops_told y → x ≡ y
+one_answer (Ok k) (Ok n) p q = ap (λ (m : ℕ). Ok m) q
+one_answer (Ok k) (Err s) p q = absurd (named s.reason (sym (ap (λ (x : refusals.Refusal). x.number) p)))
+one_answer (Err r) (Ok n) p q = absurd (named r.reason (ap (λ (x : refusals.Refusal). x.number) p))
+one_answer (Err r) (Err s) p q =
+    ap₂ (λ (x : Reason) (y : ℕ). Err (record { reason = x; place = y }))
+    (number-injective r.reason s.reason (ap (λ (x : refusals.Refusal). x.number) p))
+    (ap (λ (x : refusals.Refusal). x.place) p)
 
 pub one-finish : (κs : _) (a : _) (z z' : _) (e e' : _) → finish.Post κs a z e → finish.Post κs a z' e' → e.0.now ≡ e'.0.now
 one-finish κs a z z' e e' p q = p ∙ sym q

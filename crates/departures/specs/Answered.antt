@@ -1,14 +1,16 @@
 -- The answer for the stops of all trips: refusals 15 and 16, the number of hops, and the bytes of the slice. Assumes nothing.
-use Rattle.std.specs.Prelude.{cond, ℕ, eqb, length}
+use Rattle.std.specs.Prelude.{cond, ℕ, eqb, length, Result, Ok, Err}
 use mathlib.Core.List.{List, flat_map}
 use Rattle.journeys.specs.Bytes.{filled, cleared}
 use Rattle.journeys.specs.Refusals.{Refusal, or_else}
 use Rattle.feed.specs.Stops.{Stop}
 use Rattle.feed.specs.Trips.{once, in_time, first_bad_stop, hops_of}
-use Rattle.departures.specs.declared.Answer.{Answer}
+use Rattle.words.specs.declared.Refusal.{Refusal as Told}
 
-abbrev pub told : Answer → Refusal
-told r = record { number = r.number; place = r.place }
+-- the number of hops that an answer tells: none where it is a refusal
+abbrev pub hops_told : Result ℕ Told → ℕ
+hops_told (Ok hops) = hops
+hops_told (Err _) = 0
 
 module _ (S : List Stop) where
   unfoldable pub trips_refusal : Refusal

@@ -1,6 +1,6 @@
 // The end of a timetable's answer: the hops of all trips in the slice where their records stand, or a refusal and zeros.
 // Promises: every byte of the slice, as the definitions of `feed` say; and, as laws, that stops judged by their records are judged as the definitions judge them.
-// Rests on: the records sorted (`sorting`), their laws (`succession`, `connections`), the hops in order (`hoporder`) and written out (`hopbytes`).
+// Rests on: the records sorted (`sorting`), their laws (`succession`, `connections`), the hops in order (`hoporder`) and written out (`hopbytes`), refusals (`words`).
 #![tactic(auto)]
 
 ghost use Rattle.std.specs.Prelude.{◌≡◌, ◌*◌, ◌≤◌, length};
@@ -10,17 +10,11 @@ ghost use Rattle.table_bytes.specs.Columns.{at};
 ghost use Rattle.sorting.specs.Sorted.{recs, sorted};
 ghost use Rattle.hoporder.specs.Hops.{hop_out};
 ghost use Rattle.hopbytes.specs.Listing.{trip_at, OnTrips};
-ghost use Rattle.departures.specs.Answered.{told};
+ghost use Rattle.words.specs.Told.{number_of, told};
+ghost use Rattle.departures.specs.Answered.{hops_told};
 
 use sorting::sort;
-
-// A refusal, both numbers 0 where there is none; and the number of hops.
-#[derive(Clone, Copy)]
-pub struct Answer {
-    pub number: u32,
-    pub place: u32,
-    pub hops: usize,
-}
+use words::{Reason, Refusal};
 
 // A slice that is nothing but the records of hops.
 fn in_order(b: &mut [u8], k: usize, trips: &[u8])
@@ -38,17 +32,13 @@ pub fn finish(b: &mut [u8], k: usize, trips: &[u8])
 {
     let end = 20 * k;
     in_order(&mut b[..end], k, trips);
-    words::zero(&mut b[end..]);
+    b[end..].fill(0);
 }
 
 // A refusal, and zeros.
-pub fn refuse(b: &mut [u8], number: u32, place: u32) -> Answer
-    ensures { (told result ≡ record { number = number; place = place }) × (result.hops ≡ 0) × (b.new ≡ cleared b.old) }
+pub fn refuse(b: &mut [u8], reason: Reason, place: u32) -> Result<usize, Refusal>
+    ensures { (told result ≡ record { number = number_of reason; place = place }) × (hops_told result ≡ 0) × (b.new ≡ cleared b.old) }
 {
-    words::zero(b);
-    Answer {
-        number,
-        place,
-        hops: 0,
-    }
+    b.fill(0);
+    Err(Refusal { reason, place })
 }

@@ -1,14 +1,14 @@
 -- What holds of a row whichever its direction is. Assumes nothing.
-use mathlib.Core.Path.{◌≡◌, refl, ap, subst}
-use mathlib.Core.Bool.{Bool, true, false, cond}
+use mathlib.Core.Path.{◌≡◌, refl}
+use mathlib.Core.Bool.{Bool, true, false}
 use mathlib.Core.List.{List}
-use Prim.Native.Nat.{ℕ, ◌+◌, ◌/◌, ◌≤◌, ◌<◌}
+use Prim.Native.Nat.{ℕ, ◌+◌, ◌/◌, ◌≤◌}
 use native.Mathlib.Omega.{arith}
 use lib.ListN.{length}
 use Rattle.journeys.proofs.Tests.{never}
-use Rattle.passing.specs.Row.{passes, Counted, Sound, Leaves}
+use Rattle.passing.specs.Row.{passes, Sound, Leaves}
 use Rattle.passing.proofs.Few.{hops_few}
-use Rattle.directed.specs.Directed.{Listed, ListedSound, Numbered, Passable, near_of, listed_to, Near}
+use Rattle.directed.specs.Directed.{Numbered, Passable, Near}
 use Rattle.directed.specs.declared.Directed.{Directed}
 
 module _ {w h l : List ℕ} {a : Directed} where

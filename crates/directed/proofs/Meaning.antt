@@ -16,7 +16,7 @@ use Rattle.journeys.specs.CourierRecords as courier
 use Rattle.journeys.proofs.Tests.{cond-true, cond-false, le-or-lt}
 use Rattle.journeys.proofs.Decoding.{walk-count, walk_at_lem, hop-at}
 use Rattle.journeys.proofs.Document.{walk-record, hop-record}
-use Rattle.passing.specs.Row.{Row, asking, passes, from_of, offer_of, row_of}
+use Rattle.passing.specs.Row.{asking, passes, from_of, offer_of, row_of}
 use Rattle.directed.specs.Directed.{number_of, listed_of, listed_to, listed_offer, near_of, brings_of, arrive_at, row_in, Listed}
 use Rattle.directed.specs.declared.Directed.{Directed}
 

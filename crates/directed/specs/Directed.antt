@@ -7,7 +7,6 @@ use Rattle.journeys.specs.Records.{Record, walked, ridden}
 use Rattle.journeys.specs.CourierRecords as courier
 use Rattle.words.specs.Quantities.{DayTime}
 use Rattle.records.specs.Arriving.{first_of, end_of}
-use Rattle.records.specs.declared.Kind.{Kind}
 use Rattle.records.specs.declared.Kind.TheVariants.{Walks, Hops}
 use Rattle.passing.specs.Row.{Row, asking, passes, from_of, offer_of, Rides, Counted, Sound}
 use Rattle.directed.specs.declared.Directed.{Directed}

@@ -15,19 +15,20 @@ ghost use Rattle.directed.specs.Directed.{listed_to, listed_offer, near_of, brin
 
 use passing::{Arriving, from_at, offer_at};
 use records::{Kind, end_arriving, first_arriving, hop_at, walk_ticks};
-use words::{NONE, Seconds, Ticks, half_at, lesser, not_after, ticks_before, word_at};
+use words::{NONE, Seconds, Ticks, half_at, not_after, ticks_before, word_at};
 
 // A row with its direction. The courier's has the walks and hops that leave the vertex, its arrival is the departure, and its records are those of the whole tables that a stretch of the list numbers, 4 bytes each:
 // there are `ways` walks, whose numbers come before those of the hops, and `rides` hops. No other row asks for these two. A number tells by itself which of both it is, so the courier's row counts its records together, as `arriving.walks`, and its `arriving.hops` is 0.
 #[derive(Clone, Copy)]
 pub struct Directed {
     pub arriving: Arriving,
+    // A bool: the definitions choose between the two directions by a truth value, and an enum would only be turned into one.
     pub courier: bool,
     pub ways: usize,
     pub rides: usize,
 }
 
-// The offer of a hop to the vertex where the courier alights, if it departs in time.
+// The offer of a hop to the vertex where the courier alights, if it departs in time. It mirrors `hop_offer` of `passing` in time: earlier and later change places, so that one function for both would hold each comparison twice.
 fn ride_offer(
     hops: &[u8],
     size: usize,
@@ -121,10 +122,7 @@ pub fn brings_at(walks: &[u8], hops: &[u8], list: &[u8], row: Directed, j: usize
 fn between(first: usize, end: usize) -> usize
     ensures { result ≡ min («end» - first) 524287 }
 {
-    if end < first {
-        return 0;
-    }
-    lesser(end - first, 524287)
+    end.saturating_sub(first).min(524287)
 }
 
 // How many records arrive at u, by the vertex table.

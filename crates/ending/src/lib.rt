@@ -7,7 +7,7 @@ ghost use Rattle.std.specs.Prelude.{◌*◌, ◌<◌, ◌≤◌, length};
 ghost use Rattle.worktable.specs.Table.{InOrder};
 ghost use Rattle.ending.specs.Left.{Concluded, GivenUp};
 
-use records::{Answer, refusal};
+use records::Answer;
 use stepping::Progress;
 
 // The table becomes its records, and what is not filled of the list becomes zero.
@@ -15,8 +15,7 @@ pub fn conclude(held: &mut [u8], settled: &mut [u8], p: Progress, finished: u32)
     requires { InOrder p.table held.old × (8 * p.settled ≤ length settled.old) × (p.settled < 4294967296) }
     ensures { Concluded p finished held.old settled.old held.new settled.new result }
 {
-    let table = p.table;
-    let entries = worktable::finish(held, table);
+    let entries = worktable::finish(held, p.table);
     let listed = 8 * p.settled;
     words::zero(&mut settled[listed..]);
     Answer {
@@ -35,5 +34,12 @@ pub fn give_up(held: &mut [u8], settled: &mut [u8], number: u32, step: u32) -> A
 {
     words::zero(held);
     words::zero(settled);
-    refusal(number, step)
+    Answer {
+        refusal: number,
+        place: step,
+        settled: 0,
+        parts: 0,
+        held: 0,
+        finished: 0,
+    }
 }

@@ -11,7 +11,7 @@ ghost use Rattle.words.specs.Told.{told};
 ghost use Rattle.lists.specs.Passes.{First};
 ghost use Rattle.entries.specs.Noted.{heard, Noted, Before, entry_refusal};
 
-use words::{NONE, Refusal, refused, word_at};
+use words::{NONE, Reason, Refusal, refused, word_at};
 
 // Whether a vertex exists, and `far` does not list it yet.
 pub fn is_new(far: &[u32], vertices: usize, v: u32) -> bool
@@ -31,16 +31,15 @@ fn first_old(list: &[u8], vertices: usize, start: usize, far: &mut [u32]) -> usi
     requires before { Before (entry_ok 12 vertices none list.now) start }
     ensures { First (entry_ok 12 vertices none list.now) (size list.now) result }
 {
-    let mut i = start;
-    while i < list.len() / 12 {
+    let n = list.len() / 12;
+    for i in start..n {
         let v = word_at(list, 12 * i);
         if !is_new(far, vertices, v) {
             return i;
         }
         far[v as usize] = 0;
-        i += 1;
     }
-    i
+    n
 }
 
 // 26: the first entry whose distance is above D, or the number of entries. Those before `start` are in time.
@@ -48,29 +47,34 @@ fn first_late(list: &[u8], most: u32, start: usize) -> usize
     requires { (start ≤ size list.now) × Before (in_time most list.now) start }
     ensures { First (in_time most list.now) (size list.now) result }
 {
-    let mut i = start;
-    while i < list.len() / 12 {
+    let n = list.len() / 12;
+    for i in start..n {
         if most < word_at(list, 12 * i + 4) {
             return i;
         }
-        i += 1;
     }
-    i
+    n
 }
 
 // 25, 26 or 27, where entry i is the first with which anything is wrong.
-pub fn entry_fault(list: &[u8], vertices: usize, most: u32, i: usize, far: &mut [u32]) -> Refusal
+pub fn entry_fault(
+    list: &[u8],
+    vertices: usize,
+    most: u32,
+    i: usize,
+    far: &mut [u32],
+) -> Result<(), Refusal>
     requires vertices_bound { (vertices ≤ 65536) × (i < size list.now) × Noted list.now far.old i }
     requires before { Before (entry_ok 12 vertices none list.now) i × Before (in_time most list.now) i }
     ensures { told result ≡ entry_refusal vertices most list.now i }
 {
     let old = first_old(list, vertices, i, far);
     if old < list.len() / 12 {
-        return refused(25, old as u32);
+        return refused(Reason::BoughtVertex, old as u32);
     }
     let late = first_late(list, most, i);
     if late < list.len() / 12 {
-        return refused(26, late as u32);
+        return refused(Reason::BoughtDistance, late as u32);
     }
-    refused(27, i as u32)
+    refused(Reason::BoughtRecord, i as u32)
 }

@@ -1,6 +1,6 @@
 -- What an evening has that is not refused: lengths, counts, and a good query at every arrival. Assumes nothing.
-use mathlib.Core.Path.{◌≡◌, refl, sym, ap, ap₂, ◌∙◌}
-use mathlib.Core.Bool.{Bool, true, ◌&&◌}
+use mathlib.Core.Path.{◌≡◌, refl, ap, ap₂, ◌∙◌}
+use mathlib.Core.Bool.{true, ◌&&◌}
 use mathlib.Core.List.{List}
 use Prim.Native.Nat.{ℕ, ◌+◌, ◌-◌, ◌*◌, ◌/◌, ◌%◌, ◌≤◌, ◌<◌}
 use native.Mathlib.Omega.{arith}
@@ -21,7 +21,7 @@ use Rattle.intake.specs.Lending.{lent}
 use Rattle.intake.proofs.FirstFault.{passed, last}
 use Rattle.evening.specs.Patients.{patients_of}
 use Rattle.evening.specs.Asked.{arriving, patients_ok, report_lengths, evening_ok, evening_lengths, evening_refusal}
-use Rattle.evening.proofs.AskedEvening.{gap_ok, many_ok, last_ok, within-hour, some-arrivals}
+use Rattle.evening.proofs.AskedEvening.{gap_ok, many_ok, last_ok, some-arrivals}
 
 abbrev number_of : Refusal → ℕ
 number_of r = r.number

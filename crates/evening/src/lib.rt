@@ -15,7 +15,7 @@ ghost use Rattle.evening.specs.Asked.{patients_ok, report_lengths, evening_ok, e
 ghost use Rattle.evening.specs.Tallied.{tallied, listed_patients};
 
 use records::Query;
-use words::{Refusal, Seconds, put_word, word_at};
+use words::{Reason, Refusal, Seconds, put_word, refused, word_at};
 
 // The count of a vertex.
 fn patients_of(patients: &[u8], v: usize) -> u32
@@ -26,32 +26,35 @@ fn patients_of(patients: &[u8], v: usize) -> u32
 }
 
 // Refusal 1, places 6 and 7. The numbers are 64 bits wide, so that no number of arrivals wraps.
-fn report_fault(vertices: &[u8], patients: &[u8], arrivals: u32, report: &[u8]) -> Refusal
+fn report_fault(
+    vertices: &[u8],
+    patients: &[u8],
+    arrivals: u32,
+    report: &[u8],
+) -> Result<(), Refusal>
     ensures { told result ≡ report_lengths vertices.now patients.now arrivals report.now }
 {
     let n = vertices.len() / 12;
     if patients.len() != 4 * n {
-        return words::refused(1, 6);
+        return refused(Reason::Length, 6);
     }
     if report.len() != 4 * (n + (arrivals as usize) + 1) {
-        return words::refused(1, 7);
+        return refused(Reason::Length, 7);
     }
-    words::fine()
+    Ok(())
 }
 
 // Refusal 19: the first of n vertices with too many patients.
-fn patients_fault(patients: &[u8], n: usize) -> Refusal
+fn patients_fault(patients: &[u8], n: usize) -> Result<(), Refusal>
     requires { (4 * n ≤ length patients.now) × (n ≤ 65536) }
     ensures { told result ≡ first_bad 19 (patients_ok patients.now) n }
 {
-    let mut v = 0;
-    while v < n {
+    for v in 0..n {
         if 65535 < patients_of(patients, v) {
-            return words::refused(19, v as u32);
+            return refused(Reason::Patients, v as u32);
         }
-        v += 1;
     }
-    words::fine()
+    Ok(())
 }
 
 // A moment that lies so many seconds behind a good arrival.
@@ -63,21 +66,21 @@ pub fn later(t: Seconds, seconds: u32) -> Seconds
 }
 
 // Refusal 20: the gap, the number of arrivals, the last arrival.
-fn evening_fault(q: Query, gap: u32, arrivals: u32) -> Refusal
+fn evening_fault(q: Query, gap: u32, arrivals: u32) -> Result<(), Refusal>
     requires { (midnight ≤ (query_of q).arrival) × ((query_of q).arrival ≤ midnight + 172800) }
     ensures { told result ≡ evening_ok (query_of q) gap arrivals }
 {
     if !((1 <= gap) & (gap <= 3600)) {
-        return words::refused(20, 0);
+        return refused(Reason::Evening, 0);
     }
     if !((1 <= arrivals) & (arrivals <= 96)) {
-        return words::refused(20, 1);
+        return refused(Reason::Evening, 1);
     }
     let last = later(q.arrival, gap * (arrivals - 1));
     if !words::not_after(last, Seconds(172800)) {
-        return words::refused(20, 2);
+        return refused(Reason::Evening, 2);
     }
-    words::fine()
+    Ok(())
 }
 
 // One more at the vertex of each entry of a settled list; answers the patients of all of them.
@@ -89,13 +92,11 @@ pub fn tally(list: &[u8], patients: &[u8], report: &mut [u8]) -> u32
 {
     let n = list.len() / 8;
     let mut sum = 0;
-    let mut i = 0;
-    while i < n {
+    for i in 0..n {
         let v = word_at(list, 8 * i) as usize;
         let times = word_at(report, 4 * v);
         put_word(report, 4 * v, times + 1);
         sum += patients_of(patients, v);
-        i += 1;
     }
     sum
 }
@@ -106,10 +107,8 @@ pub fn all_patients(patients: &[u8], n: usize) -> u32
     ensures { result ≡ all_patients patients.now n }
 {
     let mut sum = 0;
-    let mut v = 0;
-    while v < n {
+    for v in 0..n {
         sum += patients_of(patients, v);
-        v += 1;
     }
     sum
 }
@@ -125,21 +124,41 @@ fn lengths_fault(
     patients: &[u8],
     arrivals: u32,
     report: &[u8],
-) -> Refusal
+) -> Result<(), Refusal>
     ensures { told result ≡ evening_lengths (lent vertices.now walks.now hops.now hop_size held.now settled.now) arrivals patients.now report.now }
 {
-    let uneven = audit::lengths(vertices, walks, hops, hop_size);
-    if uneven.number != 0 {
-        return uneven;
-    }
-    let cut = intake::buffer_fault(held, settled);
-    if cut.number != 0 {
-        return cut;
-    }
+    audit::lengths(vertices, walks, hops, hop_size)?;
+    intake::buffer_fault(held, settled)?;
     report_fault(vertices, patients, arrivals, report)
 }
 
-// The first reason of 1 to 7, 19 and 20. The scratch may hold anything at the call.
+// The first reason of 1 to 7, 19 and 20.
+fn whole_fault(
+    vertices: &[u8],
+    walks: &[u8],
+    hops: &[u8],
+    hop_size: usize,
+    held: &[u8],
+    settled: &[u8],
+    patients: &[u8],
+    report: &[u8],
+    q: Query,
+    gap: u32,
+    arrivals: u32,
+    scratch: &mut [u16; 2048],
+) -> Result<(), Refusal>
+    ensures { told result ≡ evening_refusal (lent vertices.now walks.now hops.now hop_size held.now settled.now) (query_of q) gap arrivals patients.now report.now }
+{
+    lengths_fault(
+        vertices, walks, hops, hop_size, held, settled, patients, arrivals, report,
+    )?;
+    audit::contents(vertices, walks, hops, hop_size, scratch)?;
+    intake::query_fault(walks, q)?;
+    patients_fault(patients, vertices.len() / 12)?;
+    evening_fault(q, gap, arrivals)
+}
+
+// The same, and the scratch is cleared behind it. It may hold anything at the call.
 pub fn first_fault(
     vertices: &[u8],
     walks: &[u8],
@@ -153,28 +172,13 @@ pub fn first_fault(
     gap: u32,
     arrivals: u32,
     scratch: &mut [u16; 2048],
-) -> Refusal
+) -> Result<(), Refusal>
     ensures result_value { told result ≡ evening_refusal (lent vertices.now walks.now hops.now hop_size held.now settled.now) (query_of q) gap arrivals patients.now report.now }
     ensures scratch_after { scratch.new ≡ replicate 2048 0 }
 {
-    let sizes = lengths_fault(
-        vertices, walks, hops, hop_size, held, settled, patients, arrivals, report,
+    let fault = whole_fault(
+        vertices, walks, hops, hop_size, held, settled, patients, report, q, gap, arrivals, scratch,
     );
-    if sizes.number != 0 {
-        departing::clear(scratch);
-        return sizes;
-    }
-    let bad = audit::contents(vertices, walks, hops, hop_size, scratch);
-    if bad.number != 0 {
-        return bad;
-    }
-    let asked = intake::query_fault(walks, q);
-    if asked.number != 0 {
-        return asked;
-    }
-    let many = patients_fault(patients, vertices.len() / 12);
-    if many.number != 0 {
-        return many;
-    }
-    evening_fault(q, gap, arrivals)
+    departing::clear(scratch);
+    fault
 }

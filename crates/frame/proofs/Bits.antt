@@ -105,7 +105,7 @@ module _ (b : Bounds) (k : AllKept b) where
       rw (same_bits b.least_x k.least_x.fits k.least_x.finite, same_bits b.greatest_x k.greatest_x.fits k.greatest_x.finite, same_bits b.least_y k.least_y.fits k.least_y.finite, same_bits b.greatest_y k.greatest_y.fits k.greatest_y.finite)
 
 -- ---- the answer of the code, its numbers and its bytes
-module _ (a : Framed) (r : Refusal) (b : Bounds) (e : a ≡ answer_from r b) (k : AllKept b) where
+module _ (a : Framed) (r : Refusal) (b : Bounds) (e : a ≡ answer_from r (frame_from b)) (k : AllKept b) where
   pub answer-numbers : Numbers a.frame
   answer-numbers = rw e (are-numbers b k)
 

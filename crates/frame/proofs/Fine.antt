@@ -1,5 +1,5 @@
 -- What an input has that is not refused: the lengths, the vertices of the list, the points. Assumes nothing.
-use mathlib.Core.Path.{◌≡◌, refl, sym, ap, ◌∙◌}
+use mathlib.Core.Path.{◌≡◌, refl, ◌∙◌}
 use mathlib.Core.Logic.{◌≢◌}
 use mathlib.Core.Bool.{Bool, true, false, ◌&&◌}
 use mathlib.Core.List.{List}
@@ -9,16 +9,13 @@ use lib.Dec.{eqb, leb, ltb}
 use lib.ListN.{length}
 use borrow.Author.Tests.{eqb-true, leb-true, ltb-true, eq-eqb, ne_eqb}
 use Rattle.journeys.specs.Counting.{none}
-use Rattle.journeys.specs.Refusals.{Refusal, fine, unless, or_else, first_bad, whole_of, table_of}
+use Rattle.journeys.specs.Refusals.{fine, unless, first_bad, whole_of, table_of}
 use Rattle.journeys.proofs.Tests.{and_both}
-use Rattle.journeys.proofs.Refusals.{or-fine, or-first, or-next}
+use Rattle.journeys.proofs.Refusals.{or-fine, or-next}
 use Rattle.journeys.proofs.Refusals.{bad-fine}
 use Rattle.journeys.specs.Lists.{vertex_in, list_refusal}
 use Rattle.lists.proofs.Meaning.{entry-means, list-good}
 use Rattle.frame.specs.Frames.{point_ok, no_bounds, bounds_to, frame_lengths, frame_refusal, frame_bounds, Listed}
-
-abbrev pub number_of : Refusal → ℕ
-number_of r = r.number
 
 unless-fine : (t : Bool) (number place : ℕ) → 0 < number → (unless t number place).number ≡ 0 → t ≡ true
 unfolding unless
@@ -83,27 +80,6 @@ module _ (vertices list coordinates : List ℕ) where
         ∙ or-next _ _ parts.1
         ∙ or-next _ _ parts.2
         ∙ good-is-fine (ltb 0 (length list / 8)) 24 0 (unless-fine (ltb 0 (length list / 8)) 24 0 (omega arith) parts.3)
-
--- ---- the first reason
-module _ (vertices list coordinates : List ℕ) (r : Refusal) where
-  abbrev bad-list : Refusal
-  bad-list = list_refusal 8 (length vertices / 12) none list
-
-  abbrev bad-point : Refusal
-  bad-point = first_bad 23 (point_ok coordinates) (length vertices / 12)
-
-  pub by_lengths : r ≡ frame_lengths vertices list coordinates → r.number ≢ 0 → r ≡ frame_refusal vertices list coordinates
-  unfolding frame_refusal
-  by_lengths e n = e ∙ sym (or-first (frame_lengths vertices list coordinates) _ (λ z. n (ap number_of e ∙ z)))
-
-  module _ (sized : (frame_lengths vertices list coordinates).number ≡ 0) where
-    pub by-list : r ≡ bad-list → r.number ≢ 0 → r ≡ frame_refusal vertices list coordinates
-    unfolding frame_refusal
-    by-list e n = e ∙ sym (or-next (frame_lengths vertices list coordinates) _ sized ∙ or-first bad-list _ (λ z. n (ap number_of e ∙ z)))
-
-    pub by-rest : bad-list.number ≡ 0 → r ≡ or_else bad-point (unless (ltb 0 (length list / 8)) 24 0) → r ≡ frame_refusal vertices list coordinates
-    unfolding frame_refusal
-    by-rest good e = e ∙ sym (or-next (frame_lengths vertices list coordinates) _ sized ∙ or-next bad-list _ good)
 
 -- ---- the frame of the answer
 module _ (vertices list coordinates : List ℕ) where

@@ -1,12 +1,13 @@
 -- The floats of points and frames, from stored bits. Assumes nothing.
-use Rattle.std.specs.Prelude.{cond, not, List, ℕ, T, Float}
+use Rattle.std.specs.Prelude.{cond, not, List, ℕ, T, Float, Result, Ok, Err}
 use Rattle.std.specs.Float.{binary32}
 use Rattle.std.specs.Float.Ieee.{lt, is_nan, to_bits}
-use Rattle.journeys.specs.Refusals.{Refusal}
 use Rattle.frame.specs.declared.Point.{Point}
 use Rattle.frame.specs.declared.Frame.{Frame}
 use Rattle.frame.specs.declared.Framed.{Framed}
-use Rattle.frame.specs.Frames.{x_bits, y_bits, value, Bounds}
+use Rattle.journeys.specs.Refusals as refusals
+use Rattle.words.specs.declared.Refusal.{Refusal}
+use Rattle.frame.specs.Frames.{x_bits, y_bits, value, Bounds, no_bounds}
 
 unfoldable pub lesser_of : Float → Float → Float
 lesser_of a b = cond (lt b a) b a
@@ -36,9 +37,14 @@ frame_from b =
       greatest_y = value b.greatest_y;
     }
 
--- the answer that stands for a refusal and four patterns of bits
-abbrev pub answer_from : Refusal → Bounds → Framed
-answer_from r b = record { number = r.number; place = r.place; frame = frame_from b }
+-- the frame that an answer has: a refusal comes with a frame of zeros
+abbrev pub frame_in : Result Frame Refusal → Frame
+frame_in (Ok f) = f
+frame_in (Err _) = frame_from no_bounds
+
+-- the six numbers of a refusal and a frame
+abbrev pub answer_from : refusals.Refusal → Frame → Framed
+answer_from r f = record { number = r.number; place = r.place; frame = f }
 
 -- none of the four is a NaN, which has no bits of its own; the bits of the four
 pub record Numbers (f : Frame) : Type 0 where

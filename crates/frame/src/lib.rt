@@ -9,10 +9,9 @@ ghost use Rattle.journeys.specs.Refusals.{unless, or_else, first_bad, table_of};
 ghost use Rattle.words.specs.Told.{told};
 ghost use Rattle.journeys.specs.Lists.{vertex_in, list_refusal};
 ghost use Rattle.frame.specs.Frames.{value, finite_bits, point_ok, no_bounds, bounds_to, frame_lengths, frame_refusal, frame_bounds, frame_bytes, Listed};
-ghost use Rattle.frame.specs.Floats.{lesser_of, greater_of, point_at, widened_by, frame_from, answer_from, Numbers, bits_of};
+ghost use Rattle.frame.specs.Floats.{lesser_of, greater_of, point_at, widened_by, frame_from, frame_in, answer_from, Numbers, bits_of};
 
-use lists::Judged;
-use words::{Refusal, fine};
+use words::{Reason, Refusal, put_word, refused};
 
 // A map point, and the frame of several.
 #[derive(Clone, Copy)]
@@ -29,7 +28,7 @@ pub struct Frame {
     pub greatest_y: f32,
 }
 
-// The refusal by number and place, both 0 where nothing is refused, and the frame.
+// The six numbers that a call writes (RULES 21.7): the refusal by number and place, both 0 where nothing is refused, and the frame.
 #[derive(Clone, Copy)]
 pub struct Framed {
     pub number: u32,
@@ -52,18 +51,16 @@ fn point_ok(coordinates: &[u8], v: usize) -> bool
 }
 
 // Refusal 23: the first of n vertices with a coordinate that is not finite.
-fn points(coordinates: &[u8], n: usize) -> Refusal
+fn points(coordinates: &[u8], n: usize) -> Result<(), Refusal>
     requires { (8 * n ≤ length coordinates.now) × (n ≤ 65536) }
     ensures { told result ≡ first_bad 23 (point_ok coordinates.now) n }
 {
-    let mut v = 0;
-    while v < n {
+    for v in 0..n {
         if !point_ok(coordinates, v) {
-            return words::refused(23, v as u32);
+            return refused(Reason::Coordinate, v as u32);
         }
-        v += 1;
     }
-    fine()
+    Ok(())
 }
 
 fn coordinate(bits: u32) -> f32
@@ -128,11 +125,9 @@ fn around(list: &[u8], coordinates: &[u8]) -> Frame
         least_y: first.y,
         greatest_y: first.y,
     };
-    let mut i = 1;
-    while i < n {
+    for i in 1..n {
         let p = listed(list, coordinates, i);
         f = widened(f, p);
-        i += 1;
     }
     f
 }
@@ -144,101 +139,98 @@ fn table_ok(vertices: &[u8]) -> bool
 }
 
 // Refusal 1: the lengths.
-fn lengths(vertices: &[u8], list: &[u8], coordinates: &[u8]) -> Refusal
+fn lengths(vertices: &[u8], list: &[u8], coordinates: &[u8]) -> Result<(), Refusal>
     ensures { told result ≡ frame_lengths vertices.now list.now coordinates.now }
 {
     if !table_ok(vertices) {
-        return words::refused(1, 0);
+        return refused(Reason::Length, 0);
     }
     if list.len() % 8 != 0 {
-        return words::refused(1, 4);
+        return refused(Reason::Length, 4);
     }
     if coordinates.len() != 8 * (vertices.len() / 12) {
-        return words::refused(1, 6);
+        return refused(Reason::Length, 6);
     }
-    fine()
+    Ok(())
 }
 
-fn refused(r: Refusal) -> Framed
-    ensures { result ≡ answer_from (told r) no_bounds }
+// The frame that goes with a refusal.
+fn nowhere() -> Frame
+    ensures { result ≡ frame_from no_bounds }
 {
-    Framed {
-        number: r.number,
-        place: r.place,
-        frame: Frame {
-            least_x: 0.0,
-            greatest_x: 0.0,
-            least_y: 0.0,
-            greatest_y: 0.0,
-        },
+    Frame {
+        least_x: 0.0,
+        greatest_x: 0.0,
+        least_y: 0.0,
+        greatest_y: 0.0,
     }
 }
 
 // Refusal 21: the list, whose distances are not looked at.
-fn entries(vertices: &[u8], list: &[u8], marks: &mut [u16]) -> Refusal
+fn entries(vertices: &[u8], list: &[u8], marks: &mut [u16]) -> Result<(), Refusal>
     requires vertices_len_bound { length vertices.now / 12 ≤ 65536 }
     requires marks_value { marks.old ≡ replicate 2048 0 }
     ensures result_value { told result ≡ list_refusal 8 (length vertices.now / 12) none list.now }
     ensures marks_after { marks.new ≡ replicate 2048 0 }
 {
     let n = (vertices.len() / 12) as u32;
-    let judged = lists::judge(list, 8, n, words::NONE, marks);
-    let Judged::Bad(i) = judged else {
-        return fine();
-    };
-    words::refused(21, i)
+    match lists::judge(list, 8, n, words::NONE, marks) {
+        Ok(()) => Ok(()),
+        Err(i) => refused(Reason::Entry, i),
+    }
 }
 
-fn nonempty(list: &[u8]) -> Refusal
+fn nonempty(list: &[u8]) -> Result<(), Refusal>
     ensures { told result ≡ unless (ltb 0 (length list.now / 8)) 24 0 }
 {
     if 0 < list.len() / 8 {
-        return fine();
+        return Ok(());
     }
-    words::refused(24, 0)
-}
-
-fn sooner(a: Refusal, b: Refusal) -> Refusal
-    ensures { told result ≡ or_else (told a) (told b) }
-{
-    if a.number != 0 {
-        return a;
-    }
-    b
+    refused(Reason::EmptyList, 0)
 }
 
 // The first reason in the fixed order.
-fn fault(vertices: &[u8], list: &[u8], coordinates: &[u8], marks: &mut [u16]) -> Refusal
+fn fault(vertices: &[u8], list: &[u8], coordinates: &[u8], marks: &mut [u16]) -> Result<(), Refusal>
     requires { marks.old ≡ replicate 2048 0 }
     ensures result_value { told result ≡ frame_refusal vertices.now list.now coordinates.now }
     ensures marks_after { marks.new ≡ replicate 2048 0 }
 {
-    let sizes = lengths(vertices, list, coordinates);
-    if sizes.number != 0 {
-        return sizes;
-    }
-    let entry = entries(vertices, list, marks);
-    if entry.number != 0 {
-        return entry;
-    }
-    let point = points(coordinates, vertices.len() / 12);
-    let empty = nonempty(list);
-    sooner(point, empty)
+    lengths(vertices, list, coordinates)?;
+    entries(vertices, list, marks)?;
+    points(coordinates, vertices.len() / 12)?;
+    nonempty(list)
 }
 
-pub fn frame_of(vertices: &[u8], list: &[u8], coordinates: &[u8], marks: &mut [u16]) -> Framed
+pub fn frame_of(
+    vertices: &[u8],
+    list: &[u8],
+    coordinates: &[u8],
+    marks: &mut [u16],
+) -> Result<Frame, Refusal>
     requires { marks.old ≡ replicate 2048 0 }
-    ensures value { result ≡ answer_from (frame_refusal vertices.now list.now coordinates.now) (frame_bounds vertices.now list.now coordinates.now) }
+    ensures value { told result ≡ frame_refusal vertices.now list.now coordinates.now }
+    ensures frame { frame_in result ≡ frame_from (frame_bounds vertices.now list.now coordinates.now) }
     ensures marks_after { marks.new ≡ replicate 2048 0 }
 {
-    let r = fault(vertices, list, coordinates, marks);
-    if r.number != 0 {
-        return refused(r);
-    }
-    Framed {
-        number: 0,
-        place: 0,
-        frame: around(list, coordinates),
+    fault(vertices, list, coordinates, marks)?;
+    Ok(around(list, coordinates))
+}
+
+// An answer as the six numbers that a call writes.
+pub fn in_numbers(r: Result<Frame, Refusal>) -> Framed
+    ensures { result ≡ answer_from (told r) (frame_in r) }
+{
+    match r {
+        Ok(frame) => Framed {
+            number: 0,
+            place: 0,
+            frame,
+        },
+        Err(e) => Framed {
+            number: u32::from(e.reason),
+            place: e.place,
+            frame: nowhere(),
+        },
     }
 }
 
@@ -249,10 +241,10 @@ pub fn put(out: &mut [u8], a: Framed)
     ensures { out.new ≡ frame_bytes (record { number = a.number; place = a.place }) (bits_of a.frame) }
 {
     let f = a.frame;
-    words::put_word(out, 0, a.number);
-    words::put_word(out, 4, a.place);
-    words::put_word(out, 8, f32::to_bits(f.least_x));
-    words::put_word(out, 12, f32::to_bits(f.greatest_x));
-    words::put_word(out, 16, f32::to_bits(f.least_y));
-    words::put_word(out, 20, f32::to_bits(f.greatest_y));
+    put_word(out, 0, a.number);
+    put_word(out, 4, a.place);
+    put_word(out, 8, f32::to_bits(f.least_x));
+    put_word(out, 12, f32::to_bits(f.greatest_x));
+    put_word(out, 16, f32::to_bits(f.least_y));
+    put_word(out, 20, f32::to_bits(f.greatest_y));
 }

@@ -1,5 +1,5 @@
 -- Names compared byte by byte, and a line read field by field. Assumes nothing.
-use Prim.Native.Nat.{ℕ, zero, suc, ◌+◌, ◌-◌, ◌≤◌, ◌<◌}
+use Prim.Native.Nat.{ℕ, suc, ◌+◌, ◌-◌, ◌≤◌, ◌<◌}
 use native.Mathlib.Omega.{arith}
 use native.Mathlib.Numerals.{add-one}
 use mathlib.Core.Path.{◌≡◌, refl, sym, ap, subst, ◌∙◌}
@@ -7,23 +7,30 @@ use mathlib.Core.Logic.{⊎_elim}
 use mathlib.Core.Bool.{Bool, true, false, cond, ◌&&◌}
 use mathlib.Core.List.{List, [], ◌∷◌}
 use lib.Dec.{eqb, ltb}
-use lib.ListN.{length, get_or, take, drop, length-drop, drop_of_length-le}
+use lib.ListN.{length, get_or, take, drop, drop_of_length-le}
+use lib.Pointwise.{pointwise}
 use lib.Seq.{drop-cons}
 use borrow.Author.Tests.{eqb-true, eq-eqb, ne_eqb, ltb-true, lt-ltb}
-use Rattle.journeys.specs.Counting.{one}
-use Rattle.journeys.proofs.Tests.{split, never, and_both, and_right}
-use Rattle.feed.specs.Fields.{Row, row_of, field, same}
+use Rattle.journeys.proofs.Tests.{split, and_right}
+use Rattle.feed.specs.Fields.{row_of, field, same}
 use Rattle.feed.specs.Stops.{times, column_from, column}
 use Rattle.lines.specs.declared.Stand.{Stand}
 use Rattle.lines.specs.declared.Stand.TheVariants.{Begins, Ended, Broken}
 use Rattle.lines.specs.declared.Span.{Span}
 use Rattle.lines.specs.Passing.{plain_width, quoted_width, plain_stop, quoted_stop, stand}
-use Rattle.lines.specs.Rows.{row_at, behind, Stood, undoubled}
-use Rattle.lines.specs.Spans.{span_at, bytes_in, quotes, paired}
+use Rattle.lines.specs.Rows.{row_at, Stood, undoubled}
+use Rattle.lines.specs.Spans.{span_at, bytes_in, quotes}
 use Rattle.lines.proofs.Reading.{stand-row}
-use Rattle.lines.proofs.Spans.{whole, quoteless, quoteless-paired, same_bytes, span_value, span-paired, span-within}
+use Rattle.lines.proofs.Spans.{whole, quoteless, quoteless-paired, same_bytes, span_value, span-paired}
 
--- ---- byte by byte
+-- ---- byte by byte, as the library compares slices
+pub same-bytes : (f g : List ℕ) → pointwise eqb f g ≡ same f g
+unfolding same
+same-bytes [] [] = refl
+same-bytes [] (b ∷ g) = refl
+same-bytes (a ∷ f) [] = refl
+same-bytes (a ∷ f) (b ∷ g) = ap (λ t. eqb a b && t) (same-bytes f g)
+
 pub same-long : (f g : List ℕ) → (length f ≡ length g → ⊥) → same f g ≡ false
 unfolding same
 same-long [] [] n = absurd (n refl)

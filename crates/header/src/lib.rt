@@ -15,24 +15,7 @@ use lines::Stand;
 pub fn same_bytes(a: &[u8], b: &[u8]) -> bool
     ensures { result ≡ same a.now b.now }
 {
-    if a.len() != b.len() {
-        return false;
-    }
-    let mut i = 0;
-    while i < a.len() {
-        if a[i] != b[i] {
-            return false;
-        }
-        i += 1;
-    }
-    true
-}
-
-fn same_between(name: &[u8], line: &[u8], start: usize, stop: usize) -> bool
-    requires { (start ≤ stop) × (stop ≤ length line.now) }
-    ensures { result ≡ same name.now (take (stop - start) (drop start line.now)) }
-{
-    same_bytes(name, &line[start..stop])
+    a == b
 }
 
 // The field that begins at a place has a name. The name itself has no quotes.
@@ -42,7 +25,7 @@ fn named(line: &[u8], at: usize, name: &[u8]) -> bool
     ensures { result ≡ same name.now (field (row_at line.now at) 0) }
 {
     let span = lines::span_at(line, at);
-    same_between(name, line, span.start, span.stop)
+    same_bytes(name, span.bytes(line))
 }
 
 // How many fields of a line have a name.
@@ -52,6 +35,7 @@ pub fn times_named(line: &[u8], name: &[u8]) -> usize
 {
     let mut at = 0;
     let mut found: usize = 0;
+    // A loop: each turn goes on where a field ends, and the last field ends it.
     loop {
         let stand = lines::some_fields(line, at, 1);
         match stand {
@@ -81,6 +65,7 @@ pub fn column_of(line: &[u8], name: &[u8]) -> usize
 {
     let mut at = 0;
     let mut k: usize = 0;
+    // A loop: each turn goes on where a field ends, and the last field ends it.
     loop {
         let stand = lines::some_fields(line, at, 1);
         match stand {
@@ -124,6 +109,7 @@ pub fn columns_once(line: &[u8]) -> bool
 }
 
 // How many fields a line has, up to a quote that breaks it, and whether none does.
+// No Option: the columns of line 1 take the number of fields of a broken line, too.
 #[derive(Clone, Copy)]
 pub struct Fields {
     pub count: usize,
@@ -135,6 +121,7 @@ pub fn count_fields(line: &[u8]) -> Fields
 {
     let mut at = 0;
     let mut k: usize = 0;
+    // A loop: each turn goes on where a field ends, and the last field ends it.
     loop {
         let stand = lines::some_fields(line, at, 1);
         match stand {

@@ -1,15 +1,15 @@
 -- Columns that stand in line 1 once are inside it. Assumes nothing.
-use mathlib.Core.Path.{◌≡◌, refl, sym, ap, ap₂, subst, ◌∙◌}
-use mathlib.Core.Bool.{Bool, true, ◌&&◌}
+use mathlib.Core.Path.{◌≡◌}
+use mathlib.Core.Bool.{true, ◌&&◌}
 use mathlib.Core.List.{List}
-use Prim.Native.Nat.{ℕ, ◌+◌, ◌<◌}
+use Prim.Native.Nat.{ℕ, ◌<◌}
 use native.Mathlib.Omega.{arith}
 use lib.Dec.{eqb}
 use lib.ListN.{length}
 use borrow.Author.Tests.{eqb-true}
 use Rattle.journeys.proofs.Tests.{and_both}
 use Rattle.feed.specs.Fields.{Row, row_of}
-use Rattle.feed.specs.Stops.{trip_name, arrival_name, departure_name, stop_name, sequence_name, times, column_from, column, columns_once}
+use Rattle.feed.specs.Stops.{trip_name, arrival_name, departure_name, stop_name, sequence_name, times, column, columns_once}
 use Rattle.header.proofs.Names.{column-inside}
 use Rattle.stoplist.specs.declared.Columns.{Columns}
 use Rattle.stoplist.specs.Made.{Inside}

@@ -1,2 +1,3 @@
 pub mod OutLaws
+pub mod Slots
 pub mod Determined

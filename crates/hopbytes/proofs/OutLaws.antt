@@ -20,8 +20,8 @@ use Rattle.feed.specs.Ids.{list_line}
 use Rattle.lines.specs.Ends.{width, end_width}
 use Rattle.lines.proofs.Lines.{line-at}
 use Rattle.lines.proofs.Passes.{next-within}
-use Rattle.values.specs.declared.Number.{Number}
-use Rattle.values.specs.declared.Number.TheVariants as variants
+use Rattle.std.specs.Prelude.{Option, Some, None, IsSome}
+use borrow.Author.Rules.{rules}
 use Rattle.values.specs.Readings.{number_read}
 use Rattle.values.proofs.Times.{read-value, read-bad}
 use Rattle.ids.proofs.ListLines.{second-there}
@@ -45,11 +45,15 @@ module _ (line : List ℕ) (g : list_line none line ≡ true) where
   pub second-field : 1 < length (row_of line).fields
   second-field = second-there line none listed-two
 
-  pub value_read : {v : ℕ} → number_read none (field (row_of line) 1) ≡ variants.Value v → v ≡ value_of (field (row_of line) 1)
+  pub value_read : {v : ℕ} → number_read none (field (row_of line) 1) ≡ Some v → v ≡ value_of (field (row_of line) 1)
   value_read {v} e = sym (read-value none v (field (row_of line) 1) e).1
 
-  pub never-bad : number_read none (field (row_of line) 1) ≡ variants.Bad → ⊥
+  pub never-bad : number_read none (field (row_of line) 1) ≡ None → ⊥
   never-bad e = never listed-number (read-bad none (field (row_of line) 1) e)
+
+  pub number-there : (o : Option ℕ) → number_read none (field (row_of line) 1) ≡ o → IsSome o
+  number-there (Some v) e = search rules
+  number-there None e = absurd (never-bad e)
 
 empty-line : (trips : List ℕ) (place : ℕ) → length trips ≤ place → line_from trips place ≡ []
 unfolding line_from lines_of

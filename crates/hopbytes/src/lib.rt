@@ -16,7 +16,6 @@ ghost use Rattle.hoporder.specs.Hops.{hop_out};
 ghost use Rattle.hopbytes.specs.Listing.{trip_at, OnTrip, OnTrips};
 
 use sorting::{high, low, middle};
-use values::Number;
 use words::put_word;
 
 // The number on a line of the list.
@@ -24,11 +23,7 @@ fn number_on(line: &[u8]) -> u32
     requires { list_line none line.now ≡ true }
     ensures { result ≡ value_of (field (row_of line.now) 1) }
 {
-    let read = rows::number_in(line, 1, 4294967295);
-    match read {
-        Number::Value(number) => number,
-        Number::Bad => 0,
-    }
+    rows::number_in(line, 1, 4294967295).unwrap()
 }
 
 // The number of the trip whose line begins at a place.
@@ -61,9 +56,7 @@ pub fn write_hops(b: &mut [u8], n: usize, trips: &[u8])
     requires { (length b.old ≡ 20 * n) × OnTrips trips.now (recs n b.old) }
     ensures { b.new ≡ joined (λ i. hop_out (trip_at trips.now) (at (recs n b.old) i)) n }
 {
-    let mut i = 0;
-    while i < n {
+    for i in 0..n {
         write_out(b, n, i, trips);
-        i += 1;
     }
 }

@@ -9,8 +9,7 @@ ghost use Rattle.feed.specs.Lines.{empty};
 ghost use Rattle.feed.specs.Ids.{list_line, ids_refusal};
 ghost use Rattle.words.specs.Told.{told};
 
-use values::Number;
-use words::Refusal;
+use words::{Reason, Refusal};
 
 // A line of a list: two fields, the second a number up to a greatest.
 fn list_line(line: &[u8], most: u32) -> bool
@@ -19,11 +18,7 @@ fn list_line(line: &[u8], most: u32) -> bool
     if !rows::has_fields(line, 2) {
         return false;
     }
-    let read = rows::number_in(line, 1, most);
-    match read {
-        Number::Value(_) => true,
-        Number::Bad => false,
-    }
+    rows::number_in(line, 1, most).is_some()
 }
 
 // The line between two places of a text. Empty lines are passed over.
@@ -41,22 +36,23 @@ fn line_good(text: &[u8], at: usize, stop: usize, most: u32) -> bool
 pub fn next_number(line: u32) -> u32
     ensures { result ≡ min (line + 1) none }
 {
-    if line < 4294967295 { line + 1 } else { line }
+    line.saturating_add(1)
 }
 
 // Refusal 29 of a list whose numbers go up to a greatest.
-pub fn list_fault(text: &[u8], most: u32) -> Refusal
+pub fn list_fault(text: &[u8], most: u32) -> Result<(), Refusal>
     ensures { told result ≡ ids_refusal most text.now }
 {
     let mut at = 0;
     let mut line: u32 = 1;
+    // A while: each turn goes on where the line ends, so there is no range to go over.
     while at < text.len() {
         let stop = lines::line_stop(text, at);
         if !line_good(text, at, stop, most) {
-            return words::refused(29, line);
+            return words::refused(Reason::IdLine, line);
         }
         at = lines::line_next(text, stop);
         line = next_number(line);
     }
-    words::fine()
+    Ok(())
 }

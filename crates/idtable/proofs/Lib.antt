@@ -1,4 +1,3 @@
 pub mod Mixing
-pub mod Slots
 pub mod TableLaws
 pub mod Determined

@@ -1,5 +1,5 @@
 -- The table holds the lines of a list that were read. Assumes nothing.
-use Prim.Native.Nat.{ℕ, zero, suc, ◌+◌, ◌-◌, ◌*◌, ◌≤◌, ◌<◌}
+use Prim.Native.Nat.{ℕ, zero, suc, ◌+◌, ◌-◌, ◌≤◌, ◌<◌}
 use native.Mathlib.Omega.{arith}
 use native.Mathlib.Numerals.{add-one}
 use native.Mathlib.Decide.{ℕ_discrete}
@@ -8,16 +8,17 @@ use mathlib.Core.Logic.{⊎_elim}
 use mathlib.Core.Bool.{Bool, true, false, cond}
 use mathlib.Core.List.{List, [], ◌∷◌}
 use lib.Dec.{eqb}
-use lib.ListN.{length, set}
+use lib.ListN.{length, set, replicate, get_or-replicate}
 use lib.Seq.{get_or-set_same, get_or-set_other}
 use borrow.Author.Tests.{eq-eqb, ne_eqb}
 use Rattle.journeys.proofs.Tests.{split, never, cond-true, cond-false}
-use Rattle.table_bytes.specs.Columns.{at}
 use Rattle.feed.specs.Lines.{empty}
 use Rattle.feed.specs.Fields.{same}
 use Rattle.naming.specs.Named.{line_at, next_at, first_bytes, names_at, found_from}
 use Rattle.naming.proofs.Places.{same-is, found-step, names-is, names-none}
-use Rattle.idtable.specs.Table.{start_of, next_of, Cleared, Lying, has_id, look, in_table, Way, start, on, Ended, Holds}
+use Rattle.idtable.specs.Table.{at, start_of, next_of, Cleared, Lying, has_id, look, in_table, Way, start, on, Vacant, Ended, Holds}
+use Rattle.idtable.specs.declared.End.{End}
+use Rattle.idtable.specs.declared.End.TheVariants.{Found, Free, Full}
 use Rattle.idtable.proofs.Mixing.{start-within}
 
 same_refl : (f : List ℕ) → same f f ≡ true
@@ -83,29 +84,35 @@ module _ {text : List ℕ} {n : ℕ} {l y : List ℕ} where
     some_left : 0 < left → Way text n l y (suc (left - 1)) k
     some_left h = subst (λ f. Way text n l y f k) (omega arith) w
 
-    pub ended-over : {j : ℕ} → left ≤ 0 → Ended text n l y j 0 false
-    ended-over h = record { tells = way-look (subst (λ f. Way text n l y f k) (omega arith) w) ∙ look-over text n l y k; within = λ e. never e refl; vacant = λ e. never e refl; left = 0; way = λ e. never e refl }
+    pub ended-over : left ≤ 0 → Ended text n l y Full
+    ended-over h = way-look (subst (λ f. Way text n l y f k) (omega arith) w) ∙ look-over text n l y k
 
     module _ (h : 0 < left) {r : ℕ} (e : r ≡ at l k) where
-      pub ended-free : k < n → r ≡ 0 → Ended text n l y k 0 true
-      ended-free i z = record { tells = way-look (some_left h) ∙ look-free text n l y (left - 1) k (sym e ∙ z); within = λ t. i; vacant = λ t. sym e ∙ z; left = left - 1; way = λ t. some_left h }
+      pub ended-free : k < n → r ≡ 0 → Ended text n l y (Free k)
+      ended-free i z = record { none = way-look (some_left h) ∙ look-free text n l y (left - 1) k (sym e ∙ z); within = i; vacant = sym e ∙ z; left = left - 1; way = some_left h }
 
       module _ (z : r ≡ 0 → ⊥) {t : Bool} (s : t ≡ same y (first_bytes (line_at text (r - 1)))) where
         has-is : has_id text n l y (at l k) ≡ t
         unfolding has_id
         has-is = ap (λ (q : ℕ). same y (first_bytes (line_at text (q - 1)))) (sym e) ∙ sym s
 
-        pub ended-has : t ≡ true → Ended text n l y k r false
-        ended-has q = record { tells = way-look (some_left h) ∙ look-has text n l y (left - 1) k (λ v. z (e ∙ v)) (has-is ∙ q) ∙ sym e; within = λ v. never v refl; vacant = λ v. never v refl; left = 0; way = λ v. never v refl }
+        pub ended-has : t ≡ true → Ended text n l y (Found r)
+        ended-has q = (way-look (some_left h) ∙ look-has text n l y (left - 1) k (λ v. z (e ∙ v)) (has-is ∙ q) ∙ sym e, z)
 
         pub further : {next : ℕ} → t ≡ false → next ≡ next_of n k → Way text n l y (left - 1) next
         further q v = subst (λ j. Way text n l y (left - 1) j) (sym v) (on (some_left h) (λ u. z (e ∙ u)) (has-is ∙ q))
 
-pub ended-as : {text l y x : List ℕ} {n k found : ℕ} {free : Bool} → Ended text n l y k found free → y ≡ x → Ended text n l x k found free
-ended-as {text} {l} {y} {x} {n} {k} {found} {free} e q = subst (λ w. Ended text n l w k found free) q e
+pub ended-as : (text : List ℕ) (n : ℕ) (l : List ℕ) {y x : List ℕ} (end : End) → Ended text n l y end → y ≡ x → Ended text n l x end
+ended-as text n l {y} {x} end e q = subst (λ w. Ended text n l w end) q e
 
 pub holds_as : {text l : List ℕ} {p q n : ℕ} → Holds text p n l → p ≡ q → Holds text q n l
 holds_as {text} {l} {p} {q} {n} o e = subst (λ r. Holds text r n l) e o
+
+pub holds_long : {text : List ℕ} {p n m : ℕ} (l : List ℕ) → m ≡ n → Holds text p n l → Holds text p m l
+holds_long {text} {p} {n} {m} l e o = subst (λ r. Holds text p r l) (sym e) o
+
+pub way-as : {text l y : List ℕ} {n f k : ℕ} (g : ℕ) → f ≡ g → Way text n l y f k → Way text n l y g k
+way-as {text} {l} {y} {n} {f} {k} g e w = subst (λ h. Way text n l y h k) e w
 
 pub way-from : {text l y : List ℕ} {n k : ℕ} → k ≡ start_of n y → Way text n l y n k
 way-from {text} {l} {y} {n} e = subst (λ j. Way text n l y n j) (sym e) start
@@ -116,6 +123,9 @@ cleared_more l {l'} {i} len h z u k j = go (ℕ_discrete k i)
     go : Dec (k ≡ i) → at l' k ≡ 0
     go (yes q) = rw (u, q) (get_or-set_same l i 0 0 (omega (arith, len)))
     go (no q) = rw u (get_or-set_other l i k 0 0 q ∙ z k (omega (arith, q)))
+
+pub cleared : (n : ℕ) (l : List ℕ) → l ≡ replicate n 0 → Cleared n l
+cleared n l e k h = rw e (get_or-replicate n k 0 0 h)
 
 -- ---- what the table holds
 none_in : (text l : List ℕ) (n : ℕ) (y : List ℕ) → 0 < n → ((j : ℕ) → j < n → (at l j ≡ 0 → ⊥) → has_id text n l y (at l j) ≡ true → ⊥) → in_table text n l y ≡ 0
@@ -267,8 +277,8 @@ module _ (text : List ℕ) (place : ℕ) where
         holds-new : Holds text (next_at text place) n l'
         holds-new = record { lies = lies_more; owns = owns-more; found = found-more }
 
-      pub holds_more : {l' : List ℕ} {k found : ℕ} {free : Bool} → 0 < n → length l ≡ n → Ended text n l x k found free → free ≡ true → l' ≡ set l k (place + 1) → Holds text (next_at text place) n l'
-      holds_more p len e t u = holds-new p len (e.within t) (e.vacant t) (e.way t) u
+      pub holds_more : {l' : List ℕ} {k : ℕ} → 0 < n → length l ≡ n → Vacant text n l x k → l' ≡ set l k (place + 1) → Holds text (next_at text place) n l'
+      holds_more p len e u = holds-new p len e.within e.vacant e.way u
 
 -- ---- what a search in the table tells
 module _ {text l : List ℕ} {place n r : ℕ} (y : List ℕ) (o : Holds text place n l) (e : in_table text n l y ≡ r) where

@@ -1,8 +1,9 @@
 -- A table of ids in numbered slots: an id is looked for from one slot on, each free or of a line. Assumes nothing.
-use Rattle.std.specs.Prelude.{◌≡◌, Bool, true, false, cond, List, [], ◌∷◌, ℕ, zero, suc, ◌+◌, ◌-◌, ◌*◌, ◌/◌, ◌%◌, ◌<◌, ◌≤◌, ◌^◌, eqb, length}
-use Rattle.table_bytes.specs.Columns.{at, col}
+use Rattle.std.specs.Prelude.{◌≡◌, Bool, true, false, cond, List, [], ◌∷◌, ℕ, zero, suc, ◌+◌, ◌-◌, ◌*◌, ◌/◌, ◌%◌, ◌<◌, ◌≤◌, eqb, length, get_or, Option, Some, None}
 use Rattle.feed.specs.Fields.{same}
-use Rattle.naming.specs.Named.{line_at, first_bytes, found_from}
+use Rattle.naming.specs.Named.{line_at, next_at, first_bytes, found_from}
+use Rattle.idtable.specs.declared.End.{End}
+use Rattle.idtable.specs.declared.End.TheVariants.{Found, Free, Full}
 
 -- ---- where an id is looked for: from a slot that a number mixed from it tells, round and round
 unfoldable pub mixed : ℕ → List ℕ → ℕ
@@ -15,9 +16,9 @@ start_of n y = mixed 1 y * n / 4294967296
 unfoldable pub next_of : ℕ → ℕ → ℕ
 next_of n k = cond (eqb (k + 1) n) 0 (k + 1)
 
--- ---- a slot as one number of 4 bytes: 0 where it is free, else the place of a line, counted from 1
-abbrev pub slots : ℕ → List ℕ → List ℕ
-slots n b = col 4 n b 0
+-- ---- a slot: 0 where it is free, else the place of a line, counted from 1
+abbrev pub at : List ℕ → ℕ → ℕ
+at l k = get_or l k 0
 
 abbrev pub Cleared : ℕ → List ℕ → Type 0
 Cleared n l = (k : ℕ) → k < n → at l k ≡ 0
@@ -45,13 +46,19 @@ module _ (text : List ℕ) (n : ℕ) (l : List ℕ) (y : List ℕ) where
     start : Way n (start_of n y)
     on : {f k : ℕ} → Way (suc f) k → (at l k ≡ 0 → ⊥) → has_id (at l k) ≡ false → Way f (next_of n k)
 
-  -- it ends with what the table holds; where that is a free slot, it has come there
-  pub record Ended (k found : ℕ) (free : Bool) : Type 0 where
-    pub tells : in_table ≡ found
-    pub within : free ≡ true → k < n
-    pub vacant : free ≡ true → at l k ≡ 0
+  -- the search has come to a free slot
+  pub record Vacant (k : ℕ) : Type 0 where
+    pub none : in_table ≡ 0
+    pub within : k < n
+    pub vacant : at l k ≡ 0
     pub left : ℕ
-    pub way : free ≡ true → Way (suc left) k
+    pub way : Way (suc left) k
+
+  -- it ends with what the table holds
+  abbrev pub Ended : End → Type 0
+  Ended (Found x) = (in_table ≡ x) × (x ≡ 0 → ⊥)
+  Ended (Free k) = Vacant k
+  Ended Full = in_table ≡ 0
 
 -- it holds the lines before a place: what it does not hold, the lines from there on decide
 pub record Holds (text : List ℕ) (place n : ℕ) (l : List ℕ) : Type 0 where
@@ -59,9 +66,14 @@ pub record Holds (text : List ℕ) (place n : ℕ) (l : List ℕ) : Type 0 where
   pub owns : (y : List ℕ) (k : ℕ) → k < n → (at l k ≡ 0 → ⊥) → has_id text n l y (at l k) ≡ true → in_table text n l y ≡ at l k
   pub found : (y : List ℕ) → found_from text 0 y ≡ cond (eqb (in_table text n l y) 0) (found_from text place y) (in_table text n l y)
 
--- n slots are the table of the lines of a list before place m: from there on the lines decide
-pub record Grown (text : List ℕ) (n m : ℕ) (b : List ℕ) : Type 0 where
-  pub some : 0 < n
-  pub few : n < 4294967296
+-- what becomes of a table that holds the lines before a place, as the line there takes at most one slot, or finds none free
+abbrev pub Grafted : List ℕ → ℕ → List ℕ → Option ℕ → Type 0
+Grafted text place l (Some taken) = (taken ≤ 1) × Holds text (next_at text place) (length l) l
+Grafted text place l None = Holds text place (length l) l
+
+-- so many slots are the table of the lines of a list before place m: from there on the lines decide
+pub record Grown (text : List ℕ) (m : ℕ) (l : List ℕ) : Type 0 where
+  pub some : 0 < length l
+  pub few : length l < 4294967296
   pub within : m ≤ length text
-  pub holds : Holds text m n (slots n b)
+  pub holds : Holds text m (length l) l

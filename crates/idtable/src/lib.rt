@@ -1,49 +1,23 @@
-// The ids of a list, found by a table of places in lent slots of 4 bytes, as far as these hold the list, and line by line from there on.
+// The ids of a list, found by a table of places in lent slots of 32 bits, as far as these hold the list, and line by line from there on.
 // Promises: the place of the first line that has an id, as the definitions of `feed` say.
-// Rests on: lines by their ids (`naming`), numbers of 4 bytes (`table_bytes`). A number mixed from an id tells the slot where it is looked for first: what the mixing is costs time alone.
+// Rests on: lines by their ids (`naming`). A slot is 0 where it is free, else the place of a line, counted from 1. A number mixed from an id tells the slot where it is looked for first: what the mixing is costs time alone.
 #![tactic(auto)]
 
-ghost use Rattle.std.specs.Prelude.{◌≡◌, false, cond, ◌+◌, ◌*◌, ◌-◌, ◌<◌, ◌≤◌, eqb, length, take, drop, set};
-ghost use Rattle.table_bytes.specs.Columns.{at};
+ghost use Rattle.std.specs.Prelude.{◌≡◌, false, List, ℕ, ◌-◌, ◌<◌, ◌≤◌, length, take, drop};
 ghost use Rattle.feed.specs.Lines.{empty};
 ghost use Rattle.naming.specs.Named.{stop_at, line_at, next_at, first_bytes, found_from};
-ghost use Rattle.idtable.specs.Table.{mixed, start_of, next_of, slots, Cleared, Lying, Ended, Holds, Grown};
+ghost use Rattle.idtable.specs.Table.{mixed, start_of, next_of, Lying, Ended, Holds, Grafted, Grown};
 
-use table_bytes::{read4, write4};
-
-fn wide(x: u8) -> u64
-    ensures { result ≡ x }
-{
-    x as u64
-}
+use std::marker::Model;
 
 fn mix(name: &[u8]) -> u64
     ensures { result ≡ mixed 1 name.now }
 {
     let mut h: u64 = 1;
-    let mut i = 0;
-    while i < name.len() {
-        h = (h + wide(name[i])) * 2654435761 % 4294967296;
-        i += 1;
+    for b in name {
+        h = (h + u64::from(*b)) * 2654435761 % 4294967296;
     }
     h
-}
-
-// ---- a slot: 0, or the place of a line, counted from 1
-fn slot(b: &[u8], n: usize, k: usize) -> u32
-    requires { (length b.now ≡ 4 * n) × (k < n) }
-    ensures { result ≡ at (slots n b.now) k }
-{
-    let o = k * 4;
-    read4(&b[o..o + 4])
-}
-
-fn set_slot(b: &mut [u8], n: usize, k: usize, x: u32)
-    requires { (length b.old ≡ 4 * n) × (k < n) }
-    ensures { slots n b.new ≡ set (slots n b.old) k x }
-{
-    let o = k * 4;
-    write4(&mut b[o..o + 4], x);
 }
 
 // The slot where an id is looked for first: its mixed number, as a part of 2^32, of n.
@@ -66,116 +40,75 @@ fn next_slot(n: usize, k: usize) -> usize
     next
 }
 
-// Where the search for an id ends: what the slot that has it holds, or 0; and whether it ends at a slot that is free.
+// Where the search for an id ends: at a slot that has it, with the place that this holds; at a slot that is free; or nowhere, where no slot is.
 #[derive(Clone, Copy)]
-struct End {
-    slot: usize,
-    found: usize,
-    free: bool,
+enum End {
+    Found(usize),
+    Free(usize),
+    Full,
 }
 
-fn probe(b: &[u8], n: usize, text: &[u8], name: &[u8]) -> End
-    requires { (length b.now ≡ 4 * n) × (0 < n) × (n < 4294967296) × Lying text.now n (slots n b.now) }
-    ensures { Ended text.now n (slots n b.now) name.now result.slot result.found result.free }
+fn probe(table: &[u32], text: &[u8], name: &[u8]) -> End
+    requires { (0 < length table.now) × (length table.now < 4294967296) × Lying text.now (length table.now) table.now }
+    ensures { Ended text.now (length table.now) table.now name.now result }
 {
+    let n = table.len();
     let mut k = first_slot(name, n);
-    let mut left = n;
-    while 0 < left {
-        let x = slot(b, n, k) as usize;
+    for _turn in 0..n {
+        let x = table[k] as usize;
         if x == 0 {
-            return End {
-                slot: k,
-                found: 0,
-                free: true,
-            };
+            return End::Free(k);
         }
         if naming::names_at(text, x - 1, name) {
-            return End {
-                slot: k,
-                found: x,
-                free: false,
-            };
+            return End::Found(x);
         }
         k = next_slot(n, k);
-        left -= 1;
     }
-    End {
-        slot: 0,
-        found: 0,
-        free: false,
-    }
+    End::Full
 }
 
-// The line at a place, whose id is named, gets a slot unless one has its id: how many slots it takes, or 2 where none is free.
-fn graft(b: &mut [u8], n: usize, text: &[u8], place: usize, name: &[u8]) -> usize
-    requires b_len { (length b.old ≡ 4 * n) × (0 < n) × (n < 4294967296) × (place < length text.now) × (place < 4294967295) }
-    requires place_value { (empty (line_at text.now place) ≡ false) × (name.now ≡ first_bytes (line_at text.now place)) × Holds text.now place n (slots n b.old) }
-    ensures { (result ≤ 2) × Holds text.now (cond (eqb result 2) place (next_at text.now place)) n (slots n b.new) }
+// The line at a place, whose id is named, gets a slot unless one has its id: how many slots it takes, if one is free.
+fn graft(table: &mut [u32], text: &[u8], place: usize, name: &[u8]) -> Option<usize>
+    requires table_len { (0 < length table.old) × (length table.old < 4294967296) × (place < length text.now) × (place < 4294967295) }
+    requires place_value { (empty (line_at text.now place) ≡ false) × (name.now ≡ first_bytes (line_at text.now place)) × Holds text.now place (length table.old) table.old }
+    ensures { Grafted text.now place table.new result }
 {
-    let end = probe(b, n, text, name);
-    if end.found != 0 {
-        return 0;
+    match probe(table, text, name) {
+        End::Found(_) => Some(0),
+        End::Free(k) => {
+            table[k] = (place + 1) as u32;
+            Some(1)
+        }
+        End::Full => None,
     }
-    if !end.free {
-        return 2;
-    }
-    set_slot(b, n, end.slot, (place + 1) as u32);
-    1
 }
 
-fn graft_between(
-    b: &mut [u8],
-    n: usize,
-    text: &[u8],
-    place: usize,
-    line: &[u8],
-    start: usize,
-    stop: usize,
-) -> usize
-    requires b_len { (length b.old ≡ 4 * n) × (0 < n) × (n < 4294967296) × (place < length text.now) × (place < 4294967295) }
-    requires start_le_stop { (start ≤ stop) × (stop ≤ length line.now) }
-    requires place_value { (empty (line_at text.now place) ≡ false) × (take (stop - start) (drop start line.now) ≡ first_bytes (line_at text.now place)) × Holds text.now place n (slots n b.old) }
-    ensures { (result ≤ 2) × Holds text.now (cond (eqb result 2) place (next_at text.now place)) n (slots n b.new) }
-{
-    graft(b, n, text, place, &line[start..stop])
-}
-
-fn graft_line(b: &mut [u8], n: usize, text: &[u8], place: usize, line: &[u8]) -> usize
-    requires b_len { (length b.old ≡ 4 * n) × (0 < n) × (n < 4294967296) × (place < length text.now) × (place < 4294967295) }
-    requires place_value { (empty (line_at text.now place) ≡ false) × (line.now ≡ line_at text.now place) × Holds text.now place n (slots n b.old) }
-    ensures { (result ≤ 2) × Holds text.now (cond (eqb result 2) place (next_at text.now place)) n (slots n b.new) }
+fn graft_line(table: &mut [u32], text: &[u8], place: usize, line: &[u8]) -> Option<usize>
+    requires table_len { (0 < length table.old) × (length table.old < 4294967296) × (place < length text.now) × (place < 4294967295) }
+    requires place_value { (empty (line_at text.now place) ≡ false) × (line.now ≡ line_at text.now place) × Holds text.now place (length table.old) table.old }
+    ensures { Grafted text.now place table.new result }
 {
     let span = lines::span_at(line, 0);
-    graft_between(b, n, text, place, line, span.start, span.stop)
+    graft(table, text, place, span.bytes(line))
 }
 
-fn graft_part(b: &mut [u8], n: usize, text: &[u8], place: usize, stop: usize) -> usize
-    requires b_len { (length b.old ≡ 4 * n) × (0 < n) × (n < 4294967296) × (place < stop) × (stop ≤ length text.now) × (place < 4294967295) }
-    requires stop_value { (stop ≡ stop_at text.now place) × Holds text.now place n (slots n b.old) }
-    ensures { (result ≤ 2) × Holds text.now (cond (eqb result 2) place (next_at text.now place)) n (slots n b.new) }
+fn graft_part(table: &mut [u32], text: &[u8], place: usize, stop: usize) -> Option<usize>
+    requires table_len { (0 < length table.old) × (length table.old < 4294967296) × (place < stop) × (stop ≤ length text.now) × (place < 4294967295) }
+    requires stop_value { (stop ≡ stop_at text.now place) × Holds text.now place (length table.old) table.old }
+    ensures { Grafted text.now place table.new result }
 {
-    graft_line(b, n, text, place, &text[place..stop])
-}
-
-fn clear(b: &mut [u8], n: usize)
-    requires { length b.old ≡ 4 * n }
-    ensures { Cleared n (slots n b.new) }
-{
-    let mut i = 0;
-    while i < n {
-        set_slot(b, n, i, 0);
-        i += 1;
-    }
+    graft_line(table, text, place, &text[place..stop])
 }
 
 // The table of a list, as far as its slots and places of 32 bits reach: the place from which on the lines decide. An eighth of the slots stays free, so that a search ends soon.
-pub fn build(b: &mut [u8], n: usize, text: &[u8]) -> usize
-    requires { (length b.old ≡ 4 * n) × (0 < n) × (n < 4294967296) }
-    ensures { Grown text.now n result b.new }
+pub fn build(table: &mut [u32], text: &[u8]) -> usize
+    requires { (0 < length table.old) × (length table.old < 4294967296) }
+    ensures { Grown text.now result table.new }
 {
-    clear(b, n);
+    table.fill(0);
     let mut at = 0;
-    let mut left = n - n / 8;
+    let mut left = table.len() - table.len() / 8;
+    // A while: each turn goes on where the line ends, so there is no range to go over.
     while at < text.len() {
         let stop = lines::line_stop(text, at);
         let next = lines::line_next(text, stop);
@@ -186,10 +119,9 @@ pub fn build(b: &mut [u8], n: usize, text: &[u8]) -> usize
             if at > 4294967294 {
                 return at;
             }
-            let taken = graft_part(b, n, text, at, stop);
-            if taken == 2 {
+            let Some(taken) = graft_part(table, text, at, stop) else {
                 return at;
-            }
+            };
             left -= taken;
             at = next;
         } else {
@@ -199,15 +131,31 @@ pub fn build(b: &mut [u8], n: usize, text: &[u8]) -> usize
     at
 }
 
-// The place, counted from 1, of the first line with an id.
-pub fn find(b: &[u8], n: usize, m: usize, text: &[u8], name: &[u8]) -> usize
-    requires { (length b.now ≡ 4 * n) × Grown text.now n m b.now }
-    ensures { result ≡ found_from text.now 0 name.now }
-{
-    let end = probe(b, n, text, name);
-    let place = end.found;
-    if place != 0 {
-        return place;
+// The lines of a list by their ids: a table of slots holds those before a place, and from there on the lines decide.
+#[derive(Drop)]
+pub struct Ids<'a> {
+    pub list: &'a [u8],
+    pub table: &'a [u32],
+    pub held: usize,
+}
+
+impl<'a> Model for Ids<'a> {
+    ghost Value = { List ℕ };
+
+    ghost view = { λ ids. ids.list.now };
+
+    ghost invariant = { λ ids. Grown ids.list.now ids.held ids.table.now };
+}
+
+impl<'a> Ids<'a> {
+    // The place, counted from 1, of the first line with an id; 0 where none has it, as the definitions count.
+    pub fn find(&self, name: &[u8]) -> usize
+        ensures { result ≡ found_from self.now 0 name.now }
+    {
+        match probe(self.table, self.list, name) {
+            End::Found(place) => place,
+            End::Free(_) => naming::seek(self.list, self.held, name),
+            End::Full => naming::seek(self.list, self.held, name),
+        }
     }
-    naming::seek(text, m, name)
 }

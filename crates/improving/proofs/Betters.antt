@@ -3,11 +3,10 @@ use mathlib.Core.Path.{◌≡◌, refl, sym, ap, subst, fun_ext, ◌∙◌}
 use mathlib.Core.Logic.{◌⊎◌, inl, inr, ◌≢◌}
 use mathlib.Core.Bool.{Bool, true, false, cond}
 use mathlib.Core.List.{List}
-use Prim.Native.Nat.{ℕ, zero, suc, ◌+◌, ◌≤◌, ◌<◌, min}
+use Prim.Native.Nat.{ℕ, zero, suc, ◌≤◌, ◌<◌, min}
 use native.Mathlib.Omega.{arith}
 use lib.Dec.{eqb, leb, ltb}
 use borrow.Author.Tests.{le-leb, lt-leb, eq-eqb, ltb-true, lt-ltb}
-use Rattle.journeys.specs.Counting.{none}
 use Rattle.journeys.proofs.Tests.{Test, same, other, test, cond-true, cond-false, and_both, and-true, never, le-or-lt}
 use Rattle.worktable.specs.Map.{Entry, absent, known, Map, put, one, size, size_to, spent, distance_of, state_of, remaining_of, distance_limit, remaining_limit, Figure}
 use Rattle.worktable.specs.Table.{map_of, Gives, Holds, InOrder}

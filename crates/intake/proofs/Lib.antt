@@ -1,4 +1,3 @@
 pub mod FirstFault
-pub mod RefusalOrder
 pub mod Determined
 pub mod Window

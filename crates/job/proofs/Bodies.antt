@@ -1,16 +1,15 @@
 -- Laws of the tables in 20-byte records. Assumes nothing.
 use mathlib.Core.Path.{◌≡◌, refl, sym, ap, ◌∙◌, subst}
 use mathlib.Core.List.{List, [], ◌++◌}
-use Prim.Native.Nat.{ℕ, ◌+◌, ◌-◌, ◌*◌, ◌≤◌, ◌<◌}
-use native.Mathlib.Nat.{mul-le-mul_left, mul-add, mul-one}
+use Prim.Native.Nat.{ℕ, ◌+◌, ◌-◌, ◌*◌, ◌≤◌}
+use native.Mathlib.Nat.{mul-add, mul-one}
 use native.Mathlib.Numerals.{add-one}
 use native.Mathlib.Omega.{arith}
 use lib.ListN.{length, take, drop, length-drop}
 use lib.Seq.{length-take-le}
 use Rattle.journeys.specs.Counting.{joined}
-use Rattle.records.specs.declared.Query.{Query}
 use Rattle.job.specs.declared.Job.{Job}
-use Rattle.job.specs.declared.Job.TheVariants.{Good}
+use Rattle.std.specs.Prelude.{Result, Ok}
 use Rattle.job.specs.Job.{Read, job, faulty, Question, body, job_of, taken}
 use Rattle.job.specs.Steps.{bodies, Laid, LaidOut}
 use Rattle.copying.specs.Write.{over, Wrote}
@@ -53,5 +52,5 @@ table_taken s t b v w h q {d} {d'} {r} e p a = in-front a ∙ ap (λ (l : List �
 pub table_kept : (s t : List ℕ) (n : ℕ) (d : List ℕ) → faulty n ≡ job_of s → d ≡ over (taken (job_of s) t) d
 table_kept s t n d e = over_none d ∙ ap (λ (x : Read). over (taken x t) d) e
 
-pub laid_of : {s : List ℕ} {r : Job} {v w h : ℕ} {q : Query} → r ≡ Good v w h q → LaidOut s r → Laid s v w h
-laid_of {s} {r} {v} {w} {h} {q} e l = subst (λ (x : Job). LaidOut s x) e l
+pub laid_of : {s : List ℕ} {r : Result Job ℕ} {j : Job} → r ≡ Ok j → LaidOut s r → Laid s j.counts.vertices j.counts.walks j.counts.hops
+laid_of {s} {r} {j} e l = subst (λ (x : Result Job ℕ). LaidOut s x) e l

@@ -1,6 +1,6 @@
 -- What is known behind the records that the reader has passed, and what the next one makes of it. Assumes nothing.
 use mathlib.Core.Path.{◌≡◌, refl, sym, ap, ◌∙◌, subst}
-use mathlib.Core.Logic.{◌⊎◌, ⊎_elim, ◌≢◌}
+use mathlib.Core.Logic.{⊎_elim, ◌≢◌}
 use mathlib.Core.Bool.{Bool, true, false, cond, not, ◌&&◌, ◌||◌}
 use mathlib.Core.List.{List, [], ◌++◌, append-nil}
 use Prim.Native.Nat.{ℕ, zero, suc, ◌+◌, ◌-◌, ◌*◌, ◌/◌, ◌≤◌, ◌<◌, zero-le}
@@ -13,9 +13,9 @@ use Rattle.journeys.specs.Counting.{count, joined}
 use Rattle.journeys.specs.Bytes.{be32}
 use Rattle.journeys.proofs.Tests.{split, and_both, and_right, le-or-lt, same-or-below}
 use Rattle.job.specs.declared.Item.{Item}
-use Rattle.job.specs.declared.Item.TheVariants.{Vertex, Walk, Hop, Query, Faulty}
+use Rattle.job.specs.declared.Item.TheVariants.{Vertex, Walk, Hop, Query}
 use Rattle.job.specs.declared.Job.{Job}
-use Rattle.job.specs.declared.Job.TheVariants.{Good, Faulty as Not}
+use Rattle.std.specs.Prelude.{Result, Ok, Err}
 use Rattle.job.specs.Job.{told, question, job, faulty, kind_at, of_kind, most, sound, first_faulty, read_as, question_at, body, table_of}
 use Rattle.job.specs.Steps.{item_of, ended_of, bodies, Laid, LaidOut}
 
@@ -181,12 +181,12 @@ drop-true false true = refl
 drop-true false false = refl
 
 -- what the next record is, and whether it is sound
-pub data Next (s : List ℕ) (i v w h : ℕ) : Item → Type 0 where
-  vertex : kind_at s i ≡ 1 → sound s i ≡ true → w + h ≡ 0 → v < 512 → Next s i v w h Vertex
-  walk : kind_at s i ≡ 2 → sound s i ≡ true → h ≡ 0 → w < 1024 → Next s i v w h Walk
-  hop : kind_at s i ≡ 3 → sound s i ≡ true → h < 1024 → Next s i v w h Hop
-  query : kind_at s i ≡ 4 → sound s i ≡ true → Next s i v w h Query
-  fault : sound s i ≡ false → Next s i v w h (Faulty i)
+pub data Next (s : List ℕ) (i v w h : ℕ) : Result Item ℕ → Type 0 where
+  vertex : kind_at s i ≡ 1 → sound s i ≡ true → w + h ≡ 0 → v < 512 → Next s i v w h (Ok Vertex)
+  walk : kind_at s i ≡ 2 → sound s i ≡ true → h ≡ 0 → w < 1024 → Next s i v w h (Ok Walk)
+  hop : kind_at s i ≡ 3 → sound s i ≡ true → h < 1024 → Next s i v w h (Ok Hop)
+  query : kind_at s i ≡ 4 → sound s i ≡ true → Next s i v w h (Ok Query)
+  fault : sound s i ≡ false → Next s i v w h (Err i)
 
 module _ {s : List ℕ} {n i v w h : ℕ} (P : Passed s n i v w h) where
   -- the kind before is that of the last table that has records
@@ -222,18 +222,18 @@ module _ {s : List ℕ} {n i v w h : ℕ} (P : Passed s n i v w h) where
   sound-4 e = sound-at s i 4 e ∙ rw (rises 4 e (omega arith), le-leb (last_kind w h) 4 (omega (arith, last-most w h)), P.fours)
 
   -- the next item, by its kind
-  item-1 : (t : Bool) → eqb (w + h) 0 && ltb v 512 && eqb (be32 s (20 * i + 16)) 0 ≡ t → kind_at s i ≡ 1 → Next s i v w h (cond t Vertex (Faulty i))
+  item-1 : (t : Bool) → eqb (w + h) 0 && ltb v 512 && eqb (be32 s (20 * i + 16)) 0 ≡ t → kind_at s i ≡ 1 → Next s i v w h (cond t (Ok Vertex) (Err i))
   item-1 true q e =
       let p = and_both _ _ q in
       let r = and_both _ _ p.0 in
       vertex e (sound-1 e ∙ q) (eqb-true _ _ r.0) (ltb-true _ _ r.1)
   item-1 false q e = fault (sound-1 e ∙ q)
 
-  item-2 : (t : Bool) → eqb h 0 && ltb w 1024 ≡ t → kind_at s i ≡ 2 → Next s i v w h (cond t Walk (Faulty i))
+  item-2 : (t : Bool) → eqb h 0 && ltb w 1024 ≡ t → kind_at s i ≡ 2 → Next s i v w h (cond t (Ok Walk) (Err i))
   item-2 true q e = let p = and_both _ _ q in walk e (sound-2 e ∙ q) (eqb-true _ _ p.0) (ltb-true _ _ p.1)
   item-2 false q e = fault (sound-2 e ∙ q)
 
-  item-3 : (t : Bool) → ltb h 1024 ≡ t → kind_at s i ≡ 3 → Next s i v w h (cond t Hop (Faulty i))
+  item-3 : (t : Bool) → ltb h 1024 ≡ t → kind_at s i ≡ 3 → Next s i v w h (cond t (Ok Hop) (Err i))
   item-3 true q e = hop e (sound-3 e ∙ q) (ltb-true _ _ q)
   item-3 false q e = fault (sound-3 e ∙ q)
 
@@ -241,27 +241,27 @@ module _ {s : List ℕ} {n i v w h : ℕ} (P : Passed s n i v w h) where
   unfolding item_of
   next = by-1 (eqb (kind_at s i) 1) refl
     where
-      by_4 : (kind_at s i ≢ 1) → (kind_at s i ≢ 2) → (kind_at s i ≢ 3) → (t : Bool) → eqb (kind_at s i) 4 ≡ t → Next s i v w h (cond t Query (Faulty i))
+      by_4 : (kind_at s i ≢ 1) → (kind_at s i ≢ 2) → (kind_at s i ≢ 3) → (t : Bool) → eqb (kind_at s i) 4 ≡ t → Next s i v w h (cond t (Ok Query) (Err i))
       by_4 a b c true q = query (eqb-true _ _ q) (sound-4 (eqb-true _ _ q))
       by_4 a b c false q = fault (sound-other s i (kind_at s i) refl a b c (eqb-false _ _ q))
 
       by-3 : (kind_at s i ≢ 1) → (kind_at s i ≢ 2) → (t : Bool) → eqb (kind_at s i) 3 ≡ t
-          → Next s i v w h (cond t (cond (ltb h 1024) Hop (Faulty i)) (cond (eqb (kind_at s i) 4) Query (Faulty i)))
+          → Next s i v w h (cond t (cond (ltb h 1024) (Ok Hop) (Err i)) (cond (eqb (kind_at s i) 4) (Ok Query) (Err i)))
       by-3 a b true q = item-3 _ refl (eqb-true _ _ q)
       by-3 a b false q = by_4 a b (eqb-false _ _ q) _ refl
 
       by_2 : (kind_at s i ≢ 1) → (t : Bool) → eqb (kind_at s i) 2 ≡ t
-          → Next s i v w h (cond t (cond (eqb h 0 && ltb w 1024) Walk (Faulty i)) (cond (eqb (kind_at s i) 3) (cond (ltb h 1024) Hop (Faulty i)) (cond (eqb (kind_at s i) 4) Query (Faulty i))))
+          → Next s i v w h (cond t (cond (eqb h 0 && ltb w 1024) (Ok Walk) (Err i)) (cond (eqb (kind_at s i) 3) (cond (ltb h 1024) (Ok Hop) (Err i)) (cond (eqb (kind_at s i) 4) (Ok Query) (Err i))))
       by_2 a true q = item-2 _ refl (eqb-true _ _ q)
       by_2 a false q = by-3 a (eqb-false _ _ q) _ refl
 
       by-1 : (t : Bool) → eqb (kind_at s i) 1 ≡ t
-          → Next s i v w h (cond t (cond (eqb (w + h) 0 && ltb v 512 && eqb (be32 s (20 * i + 16)) 0) Vertex (Faulty i)) (cond (eqb (kind_at s i) 2) (cond (eqb h 0 && ltb w 1024) Walk (Faulty i)) (cond (eqb (kind_at s i) 3) (cond (ltb h 1024) Hop (Faulty i)) (cond (eqb (kind_at s i) 4) Query (Faulty i)))))
+          → Next s i v w h (cond t (cond (eqb (w + h) 0 && ltb v 512 && eqb (be32 s (20 * i + 16)) 0) (Ok Vertex) (Err i)) (cond (eqb (kind_at s i) 2) (cond (eqb h 0 && ltb w 1024) (Ok Walk) (Err i)) (cond (eqb (kind_at s i) 3) (cond (ltb h 1024) (Ok Hop) (Err i)) (cond (eqb (kind_at s i) 4) (Ok Query) (Err i)))))
       by-1 true q = item-1 _ refl (eqb-true _ _ q)
       by-1 false q = by_2 (eqb-false _ _ q) _ refl
 
-  pub next-as : (x : Item) → item_of s i v w h ≡ x → Next s i v w h x
-  next-as x e = subst (λ (y : Item). Next s i v w h y) e next
+  pub next-as : (x : Result Item ℕ) → item_of s i v w h ≡ x → Next s i v w h x
+  next-as x e = subst (λ (y : Result Item ℕ). Next s i v w h y) e next
 
   -- ---- one sound record more
   still : i < n → sound s i ≡ true → first_faulty s n 0 ≡ first_faulty s (n - (i + 1)) (i + 1)
@@ -270,7 +270,7 @@ module _ {s : List ℕ} {n i v w h : ℕ} (P : Passed s n i v w h) where
   before-next : (k : ℕ) → kind_at s i ≡ k → 0 < i + 1 → kind_at s (i + 1 - 1) ≡ k
   before-next k e l = let q : i + 1 - 1 ≡ i = omega arith in rw q e
 
-  pub vertex-passed : i < n → Next s i v w h Vertex → Passed s n (i + 1) (v + 1) w h
+  pub vertex-passed : i < n → Next s i v w h (Ok Vertex) → Passed s n (i + 1) (v + 1) w h
   unfolding last_kind
   vertex-passed l (vertex e q z f) =
       let w0 : w ≡ 0 = omega arith in
@@ -289,7 +289,7 @@ module _ {s : List ℕ} {n i v w h : ℕ} (P : Passed s n i v w h) where
         hops = table-other s 3 1 16 i e (omega arith) ∙ P.hops ∙ bodies-none s 16 (v + w) (v + 1 + w) h h0;
       }
 
-  pub walk-passed : i < n → Next s i v w h Walk → Passed s n (i + 1) v (w + 1) h
+  pub walk-passed : i < n → Next s i v w h (Ok Walk) → Passed s n (i + 1) v (w + 1) h
   unfolding last_kind
   walk-passed l (walk e q z f) =
       let w1 : w + 1 ≡ suc w = omega arith in
@@ -307,7 +307,7 @@ module _ {s : List ℕ} {n i v w h : ℕ} (P : Passed s n i v w h) where
         hops = table-other s 3 2 16 i e (omega arith) ∙ P.hops ∙ bodies-none s 16 (v + w) (v + (w + 1)) h z;
       }
 
-  pub hop-passed : i < n → Next s i v w h Hop → Passed s n (i + 1) v w (h + 1)
+  pub hop-passed : i < n → Next s i v w h (Ok Hop) → Passed s n (i + 1) v w (h + 1)
   unfolding last_kind
   hop-passed l (hop e q f) =
       let h1 : h + 1 ≡ suc h = omega arith in
@@ -330,7 +330,7 @@ module _ {s : List ℕ} {n i v w h : ℕ} (P : Passed s n i v w h) where
       hops-last (suc w) q = rw q
 
   -- ---- where the reader stops
-  pub at-fault : (m : ℕ) → i < n → Next s i v w h (Faulty m) → faulty m ≡ read_as s n
+  pub at-fault : (m : ℕ) → i < n → Next s i v w h (Err m) → faulty m ≡ read_as s n
   unfolding read_as
   at-fault m l (fault q) = rw (P.left, left-faulty s n i l q, ne_eqb i n (omega arith))
 
@@ -341,14 +341,14 @@ module _ {s : List ℕ} {n i v w h : ℕ} (P : Passed s n i v w h) where
       let z : of_kind s 4 n ≡ 0 = ap (of_kind s 4) (sym e) ∙ P.fours in
       rw (P.left ∙ left-none s n i l ∙ e, z, and_right (eqb n n && eqb (20 * n) (length s)) {b = false} refl)
 
-  module _ (l : i < n) (N : Next s i v w h Query) where
-    kind-4 : Next s i v w h Query → kind_at s i ≡ 4
+  module _ (l : i < n) (N : Next s i v w h (Ok Query)) where
+    kind-4 : Next s i v w h (Ok Query) → kind_at s i ≡ 4
     kind-4 (query e q) = e
 
     one-query : of_kind s 4 (i + 1) ≡ 1
     one-query = of-same s 4 i (kind-4 N) ∙ omega (arith, P.fours)
 
-    first-is : Next s i v w h Query → first_faulty s n 0 ≡ i + 1
+    first-is : Next s i v w h (Ok Query) → first_faulty s n 0 ≡ i + 1
     first-is (query e q) =
         ⊎_elim (λ (g : n ≤ i + 1). still l q ∙ left-none s n (i + 1) g)
         (λ (g : i + 1 < n). still l q ∙ left-faulty s n (i + 1) g (after-query s i e one-query))
@@ -395,12 +395,21 @@ module _ {s : List ℕ} {n i v w h : ℕ} (P : Passed s n i v w h) where
         }
 
 -- what the end of a job says of the answer
-pub ended-laid : (s : List ℕ) (i v w h : ℕ) (r : Job) → told r ≡ ended_of s i v w h → (length s ≡ 20 * (i + 1) → Laid s v w h) → LaidOut s r
+pub ended-laid : (s : List ℕ) (i v w h : ℕ) (r : Result Job ℕ) → told r ≡ ended_of s i v w h → (length s ≡ 20 * (i + 1) → Laid s v w h) → LaidOut s r
 unfolding ended_of
-ended-laid s i v w h (Not n) e f = tt
-ended-laid s i v w h (Good v' w' h' q) e f = by (eqb (length s) (20 * (i + 1))) refl e
+ended-laid s i v w h (Err n) e f = tt
+ended-laid s i v w h (Ok j) e f = by (eqb (length s) (20 * (i + 1))) refl e
   where
-    by : (t : Bool) → eqb (length s) (20 * (i + 1)) ≡ t → job v' w' h' (question q) ≡ cond t (job v w h (question_at s i)) (faulty (i + 1)) → Laid s v' w' h'
+    v' : ℕ
+    v' = j.counts.vertices
+
+    w' : ℕ
+    w' = j.counts.walks
+
+    h' : ℕ
+    h' = j.counts.hops
+
+    by : (t : Bool) → eqb (length s) (20 * (i + 1)) ≡ t → job v' w' h' (question j.asked) ≡ cond t (job v w h (question_at s i)) (faulty (i + 1)) → Laid s v' w' h'
     by true p g =
         let a : v ≡ v' = cc in
         let b : w ≡ w' = cc in

@@ -7,24 +7,24 @@ use Rattle.journeys.specs.Bytes.{be32, clock, clocked}
 use Rattle.journeys.specs.Query as query
 use Rattle.records.specs.declared.Query.{Query}
 use Rattle.job.specs.declared.Job.{Job}
-use Rattle.job.specs.declared.Job.TheVariants.{Good, Faulty}
+use Rattle.std.specs.Prelude.{Result, Ok, Err}
 use Rattle.job.specs.Job.{Read, job, faulty, Question, question_at, be24, told}
 use Rattle.job.proofs.Seconds.{seconds-clocked}
 
 asked : Question → Query
 asked q = record { walk = q.walk; offset = record { 0 = q.offset }; arrival = record { 0 = q.arrival }; duration = q.duration; speed = q.speed }
 
-back : Read → Job
-back (job v w h q) = Good v w h (asked q)
-back (faulty n) = Faulty n
+back : Read → Result Job ℕ
+back (job v w h q) = Ok (record { counts = record { vertices = v; walks = w; hops = h }; asked = asked q })
+back (faulty n) = Err n
 
-back-told : (r : Job) → back (told r) ≡ r
+back-told : (r : Result Job ℕ) → back (told r) ≡ r
 unfolding back asked
-back-told (Good v w h q) = refl
-back-told (Faulty n) = refl
+back-told (Ok j) = refl
+back-told (Err n) = refl
 
 -- `told` is injective
-pub told-one : (r r' : Job) → told r ≡ told r' → r ≡ r'
+pub told-one : (r r' : Result Job ℕ) → told r ≡ told r' → r ≡ r'
 told-one r r' e = sym (back-told r) ∙ ap back e ∙ back-told r'
 
 -- the query by `clock`, as the definitions of a run have it

@@ -1,11 +1,10 @@
 -- The job of RULES 14: 20-byte records with no header, a 4-byte kind and 16 bytes, numbered from 0. Assumes nothing.
-use Rattle.std.specs.Prelude.{Bool, not, cond, ◌&&◌, ◌||◌, List, [], ℕ, zero, suc, ◌+◌, ◌-◌, ◌*◌, ◌/◌, eqb, leb, ltb, ℤ, length, get_or, take, drop}
+use Rattle.std.specs.Prelude.{Bool, not, cond, ◌&&◌, ◌||◌, List, [], ℕ, zero, suc, ◌+◌, ◌-◌, ◌*◌, ◌/◌, eqb, leb, ltb, ℤ, Result, Ok, Err, length, get_or, take, drop}
 use Rattle.std.proofs.Math.IntN.{sub_ℕ}
 use Rattle.journeys.specs.Counting.{count, joined}
 use Rattle.journeys.specs.Bytes.{be32, clock, midnight}
 use Rattle.records.specs.declared.Query.{Query}
 use Rattle.job.specs.declared.Job.{Job}
-use Rattle.job.specs.declared.Job.TheVariants.{Good, Faulty}
 
 -- ---- what is faulty
 unfoldable pub kind_at : List ℕ → ℕ → ℕ
@@ -98,6 +97,6 @@ question q =
       speed = q.speed;
     }
 
-abbrev pub told : Job → Read
-told (Good v w h q) = job v w h (question q)
-told (Faulty n) = faulty n
+abbrev pub told : Result Job ℕ → Read
+told (Ok j) = job j.counts.vertices j.counts.walks j.counts.hops (question j.asked)
+told (Err n) = faulty n

@@ -1,19 +1,18 @@
 -- What the inner functions of the reader answer: one record, and the end of the input. Assumes nothing.
-use Rattle.std.specs.Prelude.{◌≡◌, cond, ◌&&◌, List, ℕ, ◌+◌, ◌*◌, ◌≤◌, eqb, ltb, length}
+use Rattle.std.specs.Prelude.{◌≡◌, cond, ◌&&◌, List, ℕ, ◌+◌, ◌*◌, ◌≤◌, eqb, ltb, Result, Ok, Err, length}
 use Rattle.journeys.specs.Counting.{joined}
 use Rattle.journeys.specs.Bytes.{be32}
 use Rattle.job.specs.declared.Item.{Item}
-use Rattle.job.specs.declared.Item.TheVariants.{Vertex, Walk, Hop, Query, Faulty}
+use Rattle.job.specs.declared.Item.TheVariants.{Vertex, Walk, Hop, Query}
 use Rattle.job.specs.declared.Job.{Job}
-use Rattle.job.specs.declared.Job.TheVariants.{Good, Faulty as Not}
 use Rattle.job.specs.Job.{Read, job, faulty, kind_at, question_at, body, table_of}
 
 -- what record i is behind so many sound vertices, walks and hops
-unfoldable pub item_of : List ℕ → ℕ → ℕ → ℕ → ℕ → Item
+unfoldable pub item_of : List ℕ → ℕ → ℕ → ℕ → ℕ → Result Item ℕ
 item_of s i v w h =
-    cond (eqb (kind_at s i) 1) (cond (eqb (w + h) 0 && ltb v 512 && eqb (be32 s (20 * i + 16)) 0) Vertex (Faulty i))
-    (cond (eqb (kind_at s i) 2) (cond (eqb h 0 && ltb w 1024) Walk (Faulty i))
-    (cond (eqb (kind_at s i) 3) (cond (ltb h 1024) Hop (Faulty i)) (cond (eqb (kind_at s i) 4) Query (Faulty i))))
+    cond (eqb (kind_at s i) 1) (cond (eqb (w + h) 0 && ltb v 512 && eqb (be32 s (20 * i + 16)) 0) (Ok Vertex) (Err i))
+    (cond (eqb (kind_at s i) 2) (cond (eqb h 0 && ltb w 1024) (Ok Walk) (Err i))
+    (cond (eqb (kind_at s i) 3) (cond (ltb h 1024) (Ok Hop) (Err i)) (cond (eqb (kind_at s i) 4) (Ok Query) (Err i))))
 
 -- the job whose query is record i, where nothing follows it
 unfoldable pub ended_of : List ℕ → ℕ → ℕ → ℕ → ℕ → Read
@@ -33,6 +32,6 @@ pub record Laid (s : List ℕ) (v w h : ℕ) : Type 0 where
   pub walk_table : table_of s 2 16 ≡ bodies s 16 v w
   pub hop_table : table_of s 3 16 ≡ bodies s 16 (v + w) h
 
-abbrev pub LaidOut : List ℕ → Job → Type 0
-LaidOut s (Good v w h q) = Laid s v w h
-LaidOut s (Not n) = Unit
+abbrev pub LaidOut : List ℕ → Result Job ℕ → Type 0
+LaidOut s (Ok j) = Laid s j.counts.vertices j.counts.walks j.counts.hops
+LaidOut s (Err n) = Unit

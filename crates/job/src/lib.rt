@@ -12,26 +12,28 @@ use copying::put;
 use records::Query;
 use words::{Offset, seconds_of, word, word_at};
 
-// What one record of a job is, or its number where it is faulty.
+// What one record of a job is.
 #[derive(Clone, Copy)]
 pub enum Item {
     Vertex,
     Walk,
     Hop,
     Query,
-    Faulty(usize),
 }
 
-// A job with the numbers of its table records, or the number N of RULES 14.4.
+// So many records of each table.
 #[derive(Clone, Copy)]
-pub enum Job {
-    Good {
-        vertices: usize,
-        walks: usize,
-        hops: usize,
-        asked: Query,
-    },
-    Faulty(usize),
+pub struct Counts {
+    pub vertices: usize,
+    pub walks: usize,
+    pub hops: usize,
+}
+
+// A job: the numbers of its table records, and its query. A faulty one is the number N of RULES 14.4.
+#[derive(Clone, Copy)]
+pub struct Job {
+    pub counts: Counts,
+    pub asked: Query,
 }
 
 fn wide(x: u8) -> u32
@@ -63,93 +65,75 @@ fn asked_at(s: &[u8], i: usize) -> Query
     }
 }
 
-// What record i is, behind so many sound vertices, walks and hops. A kind may not fall: behind a walk no vertex is taken, behind a hop no walk.
-fn item_at(s: &[u8], i: usize, vertices: usize, walks: usize, hops: usize) -> Item
-    requires { (20 * (i + 1) ≤ length s.now) × (i ≡ vertices + walks + hops) }
-    ensures { result ≡ item_of s.now i vertices walks hops }
+// What record i is, behind so many sound records, or its number where it is faulty. A kind may not fall: behind a walk no vertex is taken, behind a hop no walk.
+fn item_at(s: &[u8], i: usize, passed: Counts) -> Result<Item, usize>
+    requires { (20 * (i + 1) ≤ length s.now) × (i ≡ passed.vertices + passed.walks + passed.hops) }
+    ensures { result ≡ item_of s.now i passed.vertices passed.walks passed.hops }
 {
     let kind = word_at(s, 20 * i);
     match kind {
         1 => {
             let pad = word_at(s, 20 * i + 16);
-            if (walks + hops == 0) & (vertices < 512) & (pad == 0) {
-                Item::Vertex
+            if (passed.walks + passed.hops == 0) & (passed.vertices < 512) & (pad == 0) {
+                Ok(Item::Vertex)
             } else {
-                Item::Faulty(i)
+                Err(i)
             }
         }
         2 => {
-            if (hops == 0) & (walks < 1024) {
-                Item::Walk
+            if (passed.hops == 0) & (passed.walks < 1024) {
+                Ok(Item::Walk)
             } else {
-                Item::Faulty(i)
+                Err(i)
             }
         }
         3 => {
-            if hops < 1024 {
-                Item::Hop
+            if passed.hops < 1024 {
+                Ok(Item::Hop)
             } else {
-                Item::Faulty(i)
+                Err(i)
             }
         }
-        4 => Item::Query,
-        _ => Item::Faulty(i),
+        4 => Ok(Item::Query),
+        _ => Err(i),
     }
 }
 
 // The job whose query is record i, where nothing follows it.
-fn ended(s: &[u8], i: usize, vertices: usize, walks: usize, hops: usize) -> Job
+fn ended(s: &[u8], i: usize, counts: Counts) -> Result<Job, usize>
     requires { 20 * (i + 1) ≤ length s.now }
-    ensures { told result ≡ ended_of s.now i vertices walks hops }
+    ensures { told result ≡ ended_of s.now i counts.vertices counts.walks counts.hops }
 {
     let end = 20 * (i + 1);
     if s.len() == end {
         let asked = asked_at(s, i);
-        Job::Good {
-            vertices,
-            walks,
-            hops,
-            asked,
-        }
+        Ok(Job { counts, asked })
     } else {
-        Job::Faulty(i + 1)
+        Err(i + 1)
     }
 }
 
 // Reads a job of any length. The second promise says where its tables lie, which a caller needs to copy them.
-pub fn read(s: &[u8]) -> Job
+pub fn read(s: &[u8]) -> Result<Job, usize>
     ensures result_value { told result ≡ job_of s.now }
     ensures laid_out { LaidOut s.now result }
 {
     let whole = s.len() / 20;
-    let mut vertices: usize = 0;
-    let mut walks: usize = 0;
-    let mut hops: usize = 0;
-    let mut i: usize = 0;
-    while i < whole {
-        let item = item_at(s, i, vertices, walks, hops);
+    let mut passed = Counts {
+        vertices: 0,
+        walks: 0,
+        hops: 0,
+    };
+    for i in 0..whole {
+        let item = item_at(s, i, passed)?;
         match item {
-            Item::Vertex => {
-                vertices += 1;
-                i += 1;
-            }
-            Item::Walk => {
-                walks += 1;
-                i += 1;
-            }
-            Item::Hop => {
-                hops += 1;
-                i += 1;
-            }
-            Item::Query => {
-                return ended(s, i, vertices, walks, hops);
-            }
-            Item::Faulty(n) => {
-                return Job::Faulty(n);
-            }
+            Item::Vertex => passed.vertices += 1,
+            Item::Walk => passed.walks += 1,
+            Item::Hop => passed.hops += 1,
+            Item::Query => return ended(s, i, passed),
         }
     }
-    Job::Faulty(whole)
+    Err(whole)
 }
 
 // Copies the bodies of records to the front of a buffer.
@@ -158,18 +142,16 @@ fn copy_table(s: &[u8], from: usize, count: usize, size: usize, out: &mut [u8]) 
     ensures { Wrote out.old 0 (bodies s.now size from count) out.new result }
 {
     let mut at = 0;
-    let mut j = 0;
-    while j < count {
+    for j in 0..count {
         let a = 20 * (from + j) + 4;
         let e = a + size;
         at = put(out, at, &s[a..e]);
-        j += 1;
     }
     at
 }
 
 // Reads a job, and copies its tables to the front of the lent buffers. A faulty job leaves them untouched.
-pub fn load(s: &[u8], vertices: &mut [u8], walks: &mut [u8], hops: &mut [u8]) -> Job
+pub fn load(s: &[u8], vertices: &mut [u8], walks: &mut [u8], hops: &mut [u8]) -> Result<Job, usize>
     requires { (6144 ≤ length vertices.old) × (16384 ≤ length walks.old) × (16384 ≤ length hops.old) }
     ensures result_value { told result ≡ job_of s.now }
     ensures laid_out { LaidOut s.now result }
@@ -177,19 +159,10 @@ pub fn load(s: &[u8], vertices: &mut [u8], walks: &mut [u8], hops: &mut [u8]) ->
     ensures walks_after { walks.new ≡ over (taken (job_of s.now) (table_of s.now 2 16)) walks.old }
     ensures hops_after { hops.new ≡ over (taken (job_of s.now) (table_of s.now 3 16)) hops.old }
 {
-    let job = read(s);
-    match job {
-        Job::Good {
-            vertices: v,
-            walks: w,
-            hops: h,
-            asked: _,
-        } => {
-            copy_table(s, 0, v, 12, vertices);
-            copy_table(s, v, w, 16, walks);
-            copy_table(s, v + w, h, 16, hops);
-            job
-        }
-        Job::Faulty(_) => job,
-    }
+    let job = read(s)?;
+    let n = job.counts;
+    copy_table(s, 0, n.vertices, 12, vertices);
+    copy_table(s, n.vertices, n.walks, 16, walks);
+    copy_table(s, n.vertices + n.walks, n.hops, 16, hops);
+    Ok(job)
 }

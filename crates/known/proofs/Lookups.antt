@@ -1,21 +1,20 @@
 -- An id that stands in a line, looked up. Assumes nothing.
-use Prim.Native.Nat.{ℕ, suc, ◌+◌, ◌-◌, ◌≤◌, ◌<◌}
+use Prim.Native.Nat.{ℕ, ◌+◌, ◌-◌, ◌<◌}
 use native.Mathlib.Omega.{arith}
-use mathlib.Core.Path.{◌≡◌, refl, sym, ap, subst, ◌∙◌}
+use mathlib.Core.Path.{◌≡◌, refl, sym, ap, ◌∙◌}
 use mathlib.Core.Logic.{⊎_elim}
-use mathlib.Core.Bool.{Bool, true, false, not, ◌&&◌, ◌||◌}
+use mathlib.Core.Bool.{Bool, true, false, not, ◌||◌}
 use mathlib.Core.List.{List, [], ◌∷◌}
 use lib.Dec.{eqb}
 use lib.ListN.{length, take, drop}
 use borrow.Author.Tests.{eqb-true, eqb-false}
 use Rattle.journeys.specs.Refusals.{Refusal, fine}
-use Rattle.journeys.proofs.Tests.{split, never, and_both}
+use Rattle.journeys.proofs.Tests.{split, and_both}
 use Rattle.feed.specs.Lines.{empty, lines_of, first_bad_line}
-use Rattle.feed.specs.Fields.{row_of, field}
+use Rattle.feed.specs.Fields.{row_of}
 use Rattle.feed.specs.Ids.{ids_refusal, known}
 use Rattle.lines.specs.declared.Span.{Span}
 use Rattle.lines.specs.Ends.{width, end_width}
-use Rattle.lines.specs.Rows.{undoubled}
 use Rattle.lines.specs.Spans.{bytes_in}
 use Rattle.lines.proofs.Passes.{pass-good, pass-bad}
 use Rattle.rows.specs.Placed.{field_span}

@@ -1,8 +1,7 @@
 -- Lines with as many fields as line 1, and an id in one of them. Assumes nothing.
-use Rattle.std.specs.Prelude.{◌≡◌, Bool, ◌&&◌, List, ℕ, ◌*◌, eqb, length}
+use Rattle.std.specs.Prelude.{Bool, ◌&&◌, List, ℕ, eqb, length}
 use Rattle.feed.specs.Fields.{row_of, field}
 use Rattle.feed.specs.Ids.{known}
-use Rattle.idtable.specs.Table.{Grown}
 
 -- so many fields, and quotes in order
 unfoldable pub counted : ℕ → List ℕ → Bool
@@ -11,11 +10,3 @@ counted count l = (row_of l).sound && eqb (length (row_of l).fields) count
 -- the id in field k is listed
 unfoldable pub id_known : List ℕ → ℕ → List ℕ → Bool
 id_known list k l = known list (field (row_of l) k)
-
--- room for n slots
-abbrev pub Slots : ℕ → List ℕ → Type 0
-Slots n b = length b ≡ 4 * n
-
--- n slots are the table of the list's lines before place m
-abbrev pub Listed : List ℕ → ℕ → ℕ → List ℕ → Type 0
-Listed list n m b = Grown list n m b

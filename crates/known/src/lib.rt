@@ -12,78 +12,43 @@ ghost use Rattle.lines.specs.Spans.{bytes_in};
 ghost use Rattle.rows.specs.Placed.{place_of, field_span};
 ghost use Rattle.naming.specs.Named.{found_from};
 ghost use Rattle.words.specs.Told.{told};
-ghost use Rattle.known.specs.Counted.{counted, id_known, Slots, Listed};
+ghost use Rattle.known.specs.Counted.{counted, id_known};
 
-use words::Refusal;
-
-fn look_between(
-    b: &[u8],
-    n: usize,
-    m: usize,
-    list: &[u8],
-    line: &[u8],
-    start: usize,
-    stop: usize,
-) -> usize
-    requires slots { Slots n b.now × Listed list.now n m b.now }
-    requires start_le_stop { (start ≤ stop) × (stop ≤ length line.now) }
-    ensures { result ≡ found_from list.now 0 (take (stop - start) (drop start line.now)) }
-{
-    idtable::find(b, n, m, list, &line[start..stop])
-}
+use idtable::Ids;
+use words::{Reason, Refusal};
 
 // The place, counted from 1, of the first line of a list that has the id in field k of a line, which begins at a place; 0 where none has it.
-pub fn listed_from(
-    b: &[u8],
-    n: usize,
-    m: usize,
-    list: &[u8],
-    line: &[u8],
-    k: usize,
-    at: usize,
-) -> usize
-    requires { Slots n b.now × Listed list.now n m b.now × (k < length (row_of line.now).fields) × (at ≡ place_of line.now k) }
+pub fn listed_from(list: &Ids, line: &[u8], k: usize, at: usize) -> usize
+    requires { (k < length (row_of line.now).fields) × (at ≡ place_of line.now k) }
     ensures { result ≡ found_from list.now 0 (bytes_in line.now (field_span line.now k)) }
 {
     let span = rows::span_from(line, k, at);
-    look_between(b, n, m, list, line, span.start, span.stop)
+    list.find(span.bytes(line))
 }
 
 // The same for a field that is looked for from the line's start.
-pub fn listed_at(b: &[u8], n: usize, m: usize, list: &[u8], line: &[u8], k: usize) -> usize
-    requires { Slots n b.now × Listed list.now n m b.now × (k < length (row_of line.now).fields) }
+pub fn listed_at(list: &Ids, line: &[u8], k: usize) -> usize
+    requires { k < length (row_of line.now).fields }
     ensures { result ≡ found_from list.now 0 (bytes_in line.now (field_span line.now k)) }
 {
     let at = rows::field_place(line, k);
-    listed_from(b, n, m, list, line, k, at)
+    listed_from(list, line, k, at)
 }
 
 // The line between two places of a text has a listed id in field k. Empty lines are passed over.
-fn line_known(
-    b: &[u8],
-    n: usize,
-    m: usize,
-    list: &[u8],
-    most: u32,
-    line: &[u8],
-    count: usize,
-    k: usize,
-) -> bool
-    requires slots { Slots n b.now × Listed list.now n m b.now × (ids_refusal most list.now ≡ fine) × (k < count) }
+fn line_known(list: &Ids, most: u32, line: &[u8], count: usize, k: usize) -> bool
+    requires list_good { (ids_refusal most list.now ≡ fine) × (k < count) }
     requires line_value { (empty line.now || counted count line.now) ≡ true }
     ensures { result ≡ (empty line.now || id_known list.now k line.now) }
 {
     if line.len() == 0 {
         return true;
     }
-    listed_at(b, n, m, list, line, k) != 0
+    listed_at(list, line, k) != 0
 }
 
 fn part_known(
-    b: &[u8],
-    n: usize,
-    m: usize,
-    list: &[u8],
+    list: &Ids,
     most: u32,
     text: &[u8],
     at: usize,
@@ -91,40 +56,38 @@ fn part_known(
     count: usize,
     k: usize,
 ) -> bool
-    requires slots { Slots n b.now × Listed list.now n m b.now × (ids_refusal most list.now ≡ fine) × (k < count) }
+    requires list_good { (ids_refusal most list.now ≡ fine) × (k < count) }
     requires at_le_stop { (at ≤ stop) × (stop ≤ length text.now) }
     requires text_value { (empty (take (stop - at) (drop at text.now)) || counted count (take (stop - at) (drop at text.now))) ≡ true }
     ensures { result ≡ (empty (take (stop - at) (drop at text.now)) || id_known list.now k (take (stop - at) (drop at text.now))) }
 {
-    line_known(b, n, m, list, most, &text[at..stop], count, k)
+    line_known(list, most, &text[at..stop], count, k)
 }
 
 // The first line of a text, from a place on, whose id in field k is not listed.
 pub fn unlisted(
-    b: &[u8],
-    n: usize,
-    m: usize,
-    list: &[u8],
+    list: &Ids,
     most: u32,
     text: &[u8],
     from: usize,
     first: u32,
     count: usize,
     k: usize,
-) -> Refusal
-    requires slots { Slots n b.now × Listed list.now n m b.now × (ids_refusal most list.now ≡ fine) × (k < count) }
+) -> Result<(), Refusal>
+    requires list_good { (ids_refusal most list.now ≡ fine) × (k < count) }
     requires from_in_bounds { (from ≤ length text.now) × (first_bad_line 13 (counted count) first (lines_of (drop from text.now)) ≡ fine) }
     ensures { told result ≡ first_bad_line 14 (id_known list.now k) first (lines_of (drop from text.now)) }
 {
     let mut at = from;
     let mut line = first;
+    // A while: each turn goes on where the line ends, so there is no range to go over.
     while at < text.len() {
         let stop = lines::line_stop(text, at);
-        if !part_known(b, n, m, list, most, text, at, stop, count, k) {
-            return words::refused(14, line);
+        if !part_known(list, most, text, at, stop, count, k) {
+            return words::refused(Reason::UnknownId, line);
         }
         at = lines::line_next(text, stop);
         line = ids::next_number(line);
     }
-    words::fine()
+    Ok(())
 }

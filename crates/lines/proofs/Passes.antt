@@ -1,16 +1,16 @@
 -- A pass over the lines of a text: which line is the first that is not good. Assumes nothing.
 use Prim.Native.Nat.{ℕ, ◌+◌, ◌-◌, ◌≤◌, ◌<◌, min}
 use native.Mathlib.Omega.{arith}
-use mathlib.Core.Path.{◌≡◌, refl, sym, ap, ap₂, ◌∙◌}
+use mathlib.Core.Path.{◌≡◌, refl, sym, ap, ◌∙◌}
 use mathlib.Core.Logic.{⊎_elim}
-use mathlib.Core.Bool.{Bool, true, false, cond, ◌&&◌, ◌||◌}
+use mathlib.Core.Bool.{Bool, true, false, ◌&&◌, ◌||◌}
 use mathlib.Core.List.{List, [], ◌∷◌}
 use lib.Dec.{eqb}
 use lib.ListN.{length, take, drop, length-drop, drop_of_length-le}
 use lib.Seq.{drop-drop}
 use Rattle.journeys.proofs.Tests.{split, and_right, le-or-lt}
 use Rattle.journeys.specs.Counting.{none}
-use Rattle.journeys.specs.Refusals.{Refusal, fine, unless, or_else}
+use Rattle.journeys.specs.Refusals.{fine, unless, or_else}
 use Rattle.feed.specs.Lines.{empty, ends_now, lines_of, place, first_bad_line}
 use Rattle.lines.specs.Ends.{ends, width, end_width}
 use Rattle.lines.proofs.Lines.{line-at}

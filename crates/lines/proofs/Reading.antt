@@ -4,18 +4,18 @@ use native.Mathlib.Omega.{arith}
 use native.Mathlib.Numerals.{add-one}
 use mathlib.Core.Path.{◌≡◌, refl, sym, ap, subst, ◌∙◌}
 use mathlib.Core.Logic.{⊎_elim}
-use mathlib.Core.Bool.{Bool, true, false, cond, ◌||◌}
+use mathlib.Core.Bool.{true, false, ◌||◌}
 use mathlib.Core.List.{List, [], ◌∷◌}
 use lib.Dec.{eqb}
 use lib.ListN.{length, get_or, take, drop, length-drop, drop_of_length-le}
 use lib.Seq.{drop-cons, drop-drop, get_or-drop}
-use borrow.Author.Tests.{eqb-true, eqb-false, eq-eqb, ne_eqb}
+use borrow.Author.Tests.{eqb-true, eqb-false, ne_eqb}
 use Rattle.journeys.proofs.Tests.{split, never, or_cases}
 use Rattle.feed.specs.Fields.{Row, begins, plain, quoted, broken, row}
 use Rattle.lines.specs.declared.Stand.{Stand}
 use Rattle.lines.specs.declared.Stand.TheVariants.{Begins, Ended, Broken}
 use Rattle.lines.specs.Passing.{quote, plain_width, quoted_width, opens_at, plain_stop, quoted_stop, stand}
-use Rattle.lines.specs.Rows.{row_at, behind, Stood, undoubled}
+use Rattle.lines.specs.Rows.{row_at, Stood, undoubled}
 use Rattle.lines.proofs.Steps.{opens-within, plain-within, quoted-within}
 use Rattle.lines.proofs.Rows.{PlainRow, QuotedRow, closing, closing_quote, plain_row, quoted-row}
 

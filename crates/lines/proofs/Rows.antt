@@ -1,18 +1,15 @@
 -- The fields of a line by their places are the fields of its definition. Assumes nothing.
-use Prim.Native.Nat.{ℕ, zero, suc, ◌+◌, ◌≤◌, ◌<◌}
-use native.Mathlib.Omega.{arith}
-use native.Mathlib.Nat.{add-zero}
+use Prim.Native.Nat.{ℕ}
 use mathlib.Core.Path.{◌≡◌, refl, sym, ap, ◌∙◌}
-use mathlib.Core.Logic.{◌⊎◌, inl, inr, ⊎_elim}
-use mathlib.Core.Bool.{Bool, true, false, cond, ◌||◌}
+use mathlib.Core.Logic.{⊎_elim}
+use mathlib.Core.Bool.{true, false, cond}
 use mathlib.Core.List.{List, [], ◌∷◌}
 use lib.Dec.{eqb}
-use lib.ListN.{length, get_or, take, drop}
-use lib.Seq.{drop-cons, drop-drop}
-use borrow.Author.Tests.{eqb-true, eqb-false, eq-eqb, ne_eqb}
-use Rattle.journeys.proofs.Tests.{split, never, or-none, or_cases}
-use Rattle.feed.specs.Fields.{Row, begins, plain, quoted, closed, before, broken, onto_first, onto, row}
-use Rattle.lines.specs.Passing.{quote, plain_width, quoted_width}
+use lib.ListN.{take, drop}
+use borrow.Author.Tests.{eqb-true}
+use Rattle.journeys.proofs.Tests.{split}
+use Rattle.feed.specs.Fields.{Row, begins, plain, quoted, broken, onto_first, onto, row}
+use Rattle.lines.specs.Passing.{plain_width, quoted_width}
 use Rattle.lines.specs.Rows.{undoubled}
 
 -- a field f, and what follows it: nothing, or a comma and more; at anything else the line is broken

@@ -1,19 +1,19 @@
 -- The bytes of a field between its ends are its value, but for doubled quotes; and nothing that is asked of a value asks for these. Assumes nothing.
-use Prim.Native.Nat.{ℕ, zero, suc, ◌+◌, ◌-◌, ◌≤◌, ◌<◌}
+use Prim.Native.Nat.{ℕ, ◌+◌, ◌-◌, ◌≤◌, ◌<◌}
 use native.Mathlib.Omega.{arith}
 use native.Mathlib.Nat.{add-zero}
-use mathlib.Core.Path.{◌≡◌, refl, sym, ap, ap₂, subst, ◌∙◌}
+use mathlib.Core.Path.{◌≡◌, refl, sym, ap, subst, ◌∙◌}
 use mathlib.Core.Logic.{⊎_elim}
-use mathlib.Core.Bool.{Bool, true, false, cond, ◌&&◌, ◌||◌}
+use mathlib.Core.Bool.{Bool, true, false, ◌||◌}
 use mathlib.Core.List.{List, [], ◌∷◌}
 use lib.Dec.{eqb}
 use lib.ListN.{length, get_or, take, drop, length-drop}
 use lib.Seq.{get_or-drop}
-use borrow.Author.Tests.{eqb-true, eqb-false, eq-eqb, ne_eqb}
-use Rattle.journeys.proofs.Tests.{split, never, or-none, or_right, and_both, cond-true, cond-false}
-use Rattle.feed.specs.Fields.{Row, broken, row, row_of, field, same}
+use borrow.Author.Tests.{eqb-true, eqb-false, ne_eqb}
+use Rattle.journeys.proofs.Tests.{split, never, or-none, and_both}
+use Rattle.feed.specs.Fields.{row_of, field, same}
 use Rattle.lines.specs.declared.Span.{Span}
-use Rattle.lines.specs.declared.Stand.TheVariants.{Begins, Ended, Broken}
+use Rattle.lines.specs.declared.Stand.TheVariants.{Begins}
 use Rattle.lines.specs.Passing.{plain_width, quoted_width, opens_at, plain_stop, quoted_stop, stand}
 use Rattle.lines.specs.Rows.{row_at, behind, Stood, undoubled}
 use Rattle.lines.specs.Spans.{span_at, bytes_in, quotes, paired}

@@ -1,5 +1,5 @@
 -- How many bytes the first line of a text has, and how many its end. Assumes nothing.
-use Rattle.std.specs.Prelude.{Bool, true, false, cond, ◌&&◌, ◌||◌, List, [], ◌∷◌, ℕ, suc, eqb}
+use Rattle.std.specs.Prelude.{Bool, false, cond, ◌&&◌, ◌||◌, List, [], ◌∷◌, ℕ, suc, eqb}
 use Rattle.feed.specs.Lines.{ends_now}
 
 -- LF, or CR with LF behind it

@@ -1,5 +1,5 @@
 -- Fields passed over by their places in a line. What it means is said by `feed`, and shown in proofs/. Assumes nothing.
-use Rattle.std.specs.Prelude.{Bool, true, false, cond, ◌||◌, List, [], ◌∷◌, ℕ, zero, suc, ◌+◌, eqb, ltb, length, get_or, drop}
+use Rattle.std.specs.Prelude.{Bool, true, false, cond, ◌||◌, List, [], ◌∷◌, ℕ, zero, suc, ◌+◌, eqb, length, get_or, drop}
 use Rattle.lines.specs.declared.Stand.{Stand}
 use Rattle.lines.specs.declared.Stand.TheVariants.{Begins, Ended, Broken}
 

@@ -1,5 +1,5 @@
 -- What the fields of a line are, read from a place where a field begins. Assumes nothing.
-use Rattle.std.specs.Prelude.{◌≡◌, Bool, true, false, cond, List, [], ◌∷◌, ℕ, ◌+◌, ◌≤◌, eqb, length, drop}
+use Rattle.std.specs.Prelude.{◌≡◌, true, false, cond, List, [], ◌∷◌, ℕ, ◌+◌, ◌≤◌, eqb, length, drop}
 use Rattle.feed.specs.Fields.{Row, begins, row}
 use Rattle.lines.specs.declared.Stand.{Stand}
 use Rattle.lines.specs.declared.Stand.TheVariants.{Begins, Ended, Broken}

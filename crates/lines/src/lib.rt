@@ -3,7 +3,7 @@
 // Rests on: `feed` alone. A plain field and a quoted field hand over to one another, at most 32 fields deep; a loop goes on from there.
 #![tactic(auto)]
 
-ghost use Rattle.std.specs.Prelude.{◌≡◌, true, false, ℕ, ◌+◌, ◌<◌, ◌≤◌, min, length, drop};
+ghost use Rattle.std.specs.Prelude.{◌≡◌, true, false, ℕ, ◌+◌, ◌-◌, ◌<◌, ◌≤◌, min, length, take, drop};
 ghost use Rattle.lines.specs.Ends.{ends, width, end_width};
 ghost use Rattle.lines.specs.Passing.{opens_at, plain_stop, quoted_stop, stand};
 ghost use Rattle.lines.specs.Spans.{span_at};
@@ -22,6 +22,15 @@ pub enum Stand {
 pub struct Span {
     pub start: usize,
     pub stop: usize,
+}
+
+impl Span {
+    pub fn bytes(self, line: &[u8]) -> &[u8]
+        requires { (self.start ≤ self.stop) × (self.stop ≤ length line.now) }
+        ensures { result.now ≡ take (self.stop - self.start) (drop self.start line.now) }
+    {
+        &line[self.start..self.stop]
+    }
 }
 
 // The line ends here: LF, or CR with LF behind it.
@@ -75,6 +84,7 @@ fn line_on(text: &[u8], at: usize) -> usize
     ensures { (result ≤ length text.now) × (result + width (drop result text.now) ≡ at + width (drop at text.now)) }
 {
     let mut i = at;
+    // A while: the place where it stops is the answer, so the steps of eight are counted by hand.
     while 7 < text.len() - i {
         if !eight_on(text, i) {
             return i;
@@ -89,14 +99,12 @@ pub fn line_stop(text: &[u8], at: usize) -> usize
     requires { at ≤ length text.now }
     ensures { result ≡ at + width (drop at text.now) }
 {
-    let mut i = line_on(text, at);
-    while i < text.len() {
+    for i in line_on(text, at)..text.len() {
         if ends_at(text, i) {
             return i;
         }
-        i += 1;
     }
-    i
+    text.len()
 }
 
 // Where the next line begins, behind the end of a line.
@@ -150,6 +158,7 @@ fn plain_run(line: &[u8], at: usize) -> usize
     ensures { (result ≤ length line.now) × (plain_stop line.now result ≡ plain_stop line.now at) }
 {
     let mut i = at;
+    // A while: the place where it stops is the answer, so the steps of four are counted by hand.
     while 3 < line.len() - i {
         if !four_plain(line, i) {
             return i;
@@ -164,15 +173,13 @@ fn plain_stop(line: &[u8], at: usize) -> usize
     requires { at ≤ length line.now }
     ensures { result ≡ plain_stop line.now at }
 {
-    let mut i = plain_run(line, at);
-    while i < line.len() {
+    for i in plain_run(line, at)..line.len() {
         let b = line[i];
         if (b == 44) | (b == 34) {
             return i;
         }
-        i += 1;
     }
-    i
+    line.len()
 }
 
 // The first quote from a place on that no quote follows, or the line's end.
@@ -181,6 +188,7 @@ fn quoted_stop(line: &[u8], at: usize) -> usize
     ensures { result ≡ quoted_stop line.now at }
 {
     let mut i = at;
+    // A while: a turn takes one byte or two, so there is no range to go over.
     while i < line.len() {
         if line[i] != 34 {
             i += 1;
@@ -261,7 +269,7 @@ pub fn some_fields(line: &[u8], at: usize, left: usize) -> Stand
 fn at_once(left: usize) -> usize
     ensures { result ≡ min left 32 }
 {
-    if left < 32 { left } else { 32 }
+    left.min(32)
 }
 
 // So many fields of a line, passed over from its beginning.
@@ -270,6 +278,7 @@ pub fn pass(line: &[u8], fields: usize) -> Stand
 {
     let mut at = 0;
     let mut left = fields;
+    // A while: each turn goes on where the fields before it end, and may end the line.
     while 0 < left {
         let most = at_once(left);
         let stand = some_fields(line, at, most);

@@ -1,7 +1,7 @@
 -- Stretches that rise, as many numbers as there are records: so the counts of the vertices are right, and so is the list. Assumes nothing.
-use mathlib.Core.Path.{◌≡◌, refl, sym, ap, subst, ◌∙◌}
+use mathlib.Core.Path.{◌≡◌, sym, ap, subst, ◌∙◌}
 use mathlib.Core.List.{List}
-use Prim.Native.Nat.{ℕ, zero, suc, ◌+◌, ◌-◌, ◌*◌, ◌/◌, ◌<◌, ◌≤◌}
+use Prim.Native.Nat.{ℕ, zero, suc, ◌+◌, ◌-◌, ◌/◌, ◌<◌, ◌≤◌}
 use native.Mathlib.Omega.{arith}
 use lib.ListN.{length}
 use borrow.Author.Tests.{lt-ltb}
@@ -13,10 +13,10 @@ use Rattle.journeys.proofs.Tests.{last-or-below, cond-true}
 use mathlib.Core.Logic.{◌⊎◌, inl, inr}
 use Rattle.starts.specs.Sums.{departing_of, sums}
 use Rattle.starts.proofs.SumLaws.{sums-zero, sums-step}
-use Rattle.listing.specs.Places.{total, from_of, below, same, Sound}
+use Rattle.listing.specs.Places.{below, same, Sound}
 use Rattle.listing.proofs.PlaceLaws.{below_next, below_none, below-most, same_grows}
 use Rattle.listing.proofs.Froms.{departing-is}
-use Rattle.listed.specs.Stretches.{Found, Rising, Risen, Sure}
+use Rattle.listed.specs.Stretches.{Found, Risen, Sure}
 use Rattle.listed.proofs.Judging.{rising-all, found_none, found-more, all_found}
 
 -- the stretches of the first c vertices rise

@@ -1,9 +1,9 @@
 -- As many rising records of a vertex as it has are its records; and where the first place that differs is. Assumes nothing.
-use mathlib.Core.Path.{◌≡◌, refl, sym, ap, subst, ◌∙◌}
-use mathlib.Core.Logic.{◌⊎◌, inl, inr, ⊎_elim, ◌≢◌}
-use mathlib.Core.Bool.{Bool, true, false}
+use mathlib.Core.Path.{◌≡◌, sym, ap, subst, ◌∙◌}
+use mathlib.Core.Logic.{◌⊎◌, inl, inr, ◌≢◌}
+use mathlib.Core.Bool.{true, false}
 use mathlib.Core.List.{List}
-use Prim.Native.Nat.{ℕ, zero, suc, ◌+◌, ◌-◌, ◌*◌, ◌/◌, ◌<◌, ◌≤◌}
+use Prim.Native.Nat.{ℕ, suc, ◌+◌, ◌*◌, ◌/◌, ◌<◌, ◌≤◌}
 use native.Mathlib.Omega.{arith}
 use native.Mathlib.Decide.{ℕ_discrete}
 use lib.Dec.{eqb}
@@ -13,12 +13,12 @@ use Rattle.journeys.specs.Counting.{none}
 use Rattle.journeys.specs.Bytes.{be32}
 use Rattle.journeys.specs.Tables.{tables_of}
 use Rattle.journeys.specs.Records.{record_count}
-use Rattle.journeys.specs.Refusals.{fine, first_bad}
+use Rattle.journeys.specs.Refusals.{fine}
 use Rattle.journeys.specs.CourierList.{by_from, list_refusal}
-use Rattle.journeys.proofs.Tests.{le-or-lt, last-or-below}
+use Rattle.journeys.proofs.Tests.{le-or-lt}
 use Rattle.journeys.proofs.Refusals.{bad-none, bad-first}
 use Rattle.listing.specs.Places.{total, from_of, below, same, place, rank, Sound}
-use Rattle.listing.proofs.PlaceLaws.{below_next, below-grows, below_all, same_here, same-other, same_start, same_grows, same-before, rank_below, rank-low, rank-apart, every-place}
+use Rattle.listing.proofs.PlaceLaws.{below_next, below-grows, below_all, same_here, same-other, same_start, same_grows, same-before, rank-low, rank-apart, every-place}
 use Rattle.listing.proofs.Froms.{total-is, number_at}
 use Rattle.listed.specs.Stretches.{Found, Upto, Rising}
 

@@ -1,5 +1,5 @@
 -- Numbers that rise among the walks rise among all records; and what waits. Assumes nothing.
-use mathlib.Core.Path.{◌≡◌, refl, sym, ap, subst, ◌∙◌}
+use mathlib.Core.Path.{◌≡◌, sym, ap, subst, ◌∙◌}
 use mathlib.Core.Logic.{◌≢◌}
 use mathlib.Core.List.{List}
 use Prim.Native.Nat.{ℕ, zero, suc, ◌+◌, ◌*◌, ◌/◌, ◌%◌, ◌<◌, ◌≤◌}
@@ -12,8 +12,7 @@ use Rattle.listing.specs.Places.{same}
 use Rattle.listing.proofs.PlaceLaws.{same_here, same-other, same_start, same_grows}
 use Rattle.listed.specs.Stretches.{Rising}
 use Rattle.listed.specs.Waiting.{Leave, waited, Waits, WaitingIs}
-use Rattle.listed.specs.declared.Waiting.{Waiting}
-use Rattle.listed.specs.declared.Waiting.TheVariants.{Many, Wrong}
+use Rattle.std.specs.Prelude.{Option, Some, None}
 
 -- the bound may be higher
 pub rising-later : {F : ℕ → ℕ} {n v first i low : ℕ} {list : List ℕ} (high : ℕ) → low ≤ high → high ≤ n → Rising F n v first i low list → Rising F n v first i high list
@@ -99,14 +98,14 @@ module _ (s : List ℕ) (k x v : ℕ) (long : length s ≡ 2048) (low : k < 512)
 
 -- the answer by its cases
 module _ (size : ℕ) (w h : List ℕ) (v at end : ℕ) (list s : List ℕ) (k : ℕ) (s' : List ℕ) where
-  pub wrong-is : WaitingIs size w h v at end list s k s' Wrong
+  pub wrong-is : WaitingIs size w h v at end list s k s' None
   unfolding WaitingIs
   wrong-is = tt
 
-  pub many_is : (k' : ℕ) → Waits size w h v at end list s k s' k' → WaitingIs size w h v at end list s k s' (Many k')
+  pub many_is : (k' : ℕ) → Waits size w h v at end list s k s' k' → WaitingIs size w h v at end list s k s' (Some k')
   unfolding WaitingIs
   many_is k' a = a
 
-  pub is-many : (r : Waiting) (k' : ℕ) → r ≡ Many k' → WaitingIs size w h v at end list s k s' r → Waits size w h v at end list s k s' k'
+  pub is-many : (r : Option ℕ) (k' : ℕ) → r ≡ Some k' → WaitingIs size w h v at end list s k s' r → Waits size w h v at end list s k s' k'
   unfolding WaitingIs
   is-many r k' e a = subst (WaitingIs size w h v at end list s k s') e a

@@ -2,9 +2,21 @@
 use Rattle.std.specs.Prelude.{◌≡◌, ◌≢◌, List, ℕ, ◌+◌, ◌*◌, ◌/◌, ◌<◌, ◌≤◌, length}
 use Rattle.journeys.specs.Bytes.{be32}
 use Rattle.starts.specs.Sums.{departing_of}
-use Rattle.listing.specs.Places.{total, from_of, rank, same}
+use Rattle.listing.specs.Places.{total, from_of, rank, below, same}
 
--- F tells where each of n records leaves: those that leave a vertex before v stand in their places
+-- a list with one number for each record of these tables, and a place up to which it is looked at
+pub record Fits (size : ℕ) (w h list : List ℕ) (end : ℕ) : Type 0 where
+  pub hop_fits : 4 ≤ size
+  pub few : total size w h ≤ 524288
+  pub long : length list ≡ 4 * total size w h
+  pub within : end ≤ total size w h
+
+-- F tells where each of n records leaves: those that leave v stand from `first` up to `end`
+pub record Stretch (F : ℕ → ℕ) (n v first end : ℕ) : Type 0 where
+  pub begins : first ≡ below F v n
+  pub ends : end ≡ first + same F v n
+
+-- those that leave a vertex before v stand in their places
 pub record Found (F : ℕ → ℕ) (n v : ℕ) (list : List ℕ) : Type 0 where
   pub right : (x : ℕ) → x < n → F x < v → be32 list (4 * rank F n x) ≡ x
 

@@ -1,10 +1,8 @@
 -- Hops that wait in a scratch, each with the vertex that it has to leave. Assumes nothing.
-use Rattle.std.specs.Prelude.{◌≡◌, List, ℕ, ◌+◌, ◌*◌, ◌/◌, ◌%◌, ◌<◌, ◌≤◌, get_or, set}
+use Rattle.std.specs.Prelude.{◌≡◌, List, ℕ, ◌+◌, ◌*◌, ◌/◌, ◌%◌, ◌<◌, ◌≤◌, get_or, set, Option, Some, None}
 use Rattle.records.specs.Columns.{records_in, from_at}
 use Rattle.listing.specs.Places.{total, from_of}
 use Rattle.listed.specs.Stretches.{Rising, Risen}
-use Rattle.listed.specs.declared.Waiting.{Waiting}
-use Rattle.listed.specs.declared.Waiting.TheVariants.{Many, Wrong}
 
 -- the hop in place j, and its vertex
 abbrev pub number_in : List ℕ → ℕ → ℕ
@@ -28,6 +26,6 @@ pub record Waits (size : ℕ) (w h : List ℕ) (v at end : ℕ) (list s : List �
   pub risen : Leave (from_at size h) s' k' → (first : ℕ) → Rising (from_of size w h) (total size w h) v first at (records_in 16 w) list → Risen (from_of size w h) (total size w h) v first end list
 
 -- nothing is said where a number is wrong
-unfoldable pub WaitingIs : ℕ → List ℕ → List ℕ → ℕ → ℕ → ℕ → List ℕ → List ℕ → ℕ → List ℕ → Waiting → Type 0
-WaitingIs size w h v at end list s k s' (Many k') = Waits size w h v at end list s k s' k'
-WaitingIs size w h v at end list s k s' Wrong = Unit
+unfoldable pub WaitingIs : ℕ → List ℕ → List ℕ → ℕ → ℕ → ℕ → List ℕ → List ℕ → ℕ → List ℕ → Option ℕ → Type 0
+WaitingIs size w h v at end list s k s' (Some k') = Waits size w h v at end list s k s' k'
+WaitingIs size w h v at end list s k s' None = Unit

@@ -3,33 +3,26 @@
 // Rests on: where records leave (`listing`, `records`) and how many (`starts`), numbers in bytes and refusals (`words`). It has no array of its own.
 #![tactic(auto)]
 
-ghost use Rattle.std.specs.Prelude.{◌≡◌, true, ℕ, ◌+◌, ◌*◌, ◌/◌, ◌<◌, ◌≤◌, length};
+ghost use Rattle.std.specs.Prelude.{◌≡◌, true, ℕ, ◌+◌, ◌*◌, ◌/◌, ◌<◌, ◌≤◌, length, IfSome};
 ghost use Rattle.journeys.specs.Tables.{tables_of};
 ghost use Rattle.journeys.specs.Records.{record_count};
 ghost use Rattle.journeys.specs.Valid.{ValidTables};
 ghost use Rattle.journeys.specs.CourierList.{list_refusal};
 ghost use Rattle.words.specs.Told.{told};
-ghost use Rattle.listing.specs.Places.{total, from_of, below, same};
+ghost use Rattle.listing.specs.Places.{total, from_of};
 ghost use Rattle.records.specs.Columns.{records_in, from_at};
-ghost use Rattle.listed.specs.Stretches.{Upto, Rising, Risen, Sure};
+ghost use Rattle.listed.specs.Stretches.{Fits, Stretch, Upto, Rising, Risen, Sure};
 ghost use Rattle.listed.specs.Waiting.{Leave, waited, WaitingIs};
 
 use listing::from_of;
 use records::{WALK_SIZE, from_at};
 use starts::departing_of;
-use words::{Refusal, fine, refused, word_at};
+use words::{Reason, Refusal, refused, word_at};
 
 const VERTEX_SIZE: usize = 12;
 
 // So many hops may wait in the scratch, four words for each.
 const PLACES: usize = 512;
-
-// How many hops wait, or that a number is wrong.
-#[derive(Clone, Copy)]
-enum Waiting {
-    Many(usize),
-    Wrong,
-}
 
 // The numbers from `first` up to `end` are records that leave v, and rise: so they are its records, if they are as many.
 fn rises(
@@ -41,14 +34,13 @@ fn rises(
     first: usize,
     end: usize,
 ) -> bool
-    requires le_hop_size { (4 ≤ hop_size) × (total hop_size walks.now hops.now ≤ 524288) × (length list.now ≡ 4 * total hop_size walks.now hops.now) × (end ≤ total hop_size walks.now hops.now) }
+    requires fits { Fits hop_size walks.now hops.now list.now end }
     requires first_le_end { first ≤ end }
     ensures { result ≡ true → Risen (from_of hop_size walks.now hops.now) (total hop_size walks.now hops.now) v first end list.now }
 {
     let n = list.len() / 4;
     let mut low = 0;
-    let mut i = first;
-    while i < end {
+    for i in first..end {
         let x = word_at(list, 4 * i) as usize;
         if x < low {
             return false;
@@ -60,7 +52,6 @@ fn rises(
             return false;
         }
         low = x + 1;
-        i += 1;
     }
     true
 }
@@ -75,16 +66,13 @@ fn differs(
     first: usize,
     end: usize,
 ) -> usize
-    requires le_hop_size { (4 ≤ hop_size) × (total hop_size walks.now hops.now ≤ 524288) × (length list.now ≡ 4 * total hop_size walks.now hops.now) × (end ≤ total hop_size walks.now hops.now) }
-    requires first_value { (first ≡ below (from_of hop_size walks.now hops.now) v (total hop_size walks.now hops.now)) × (end ≡ first + same (from_of hop_size walks.now hops.now) v (total hop_size walks.now hops.now)) }
+    requires fits { Fits hop_size walks.now hops.now list.now end }
+    requires stretch { Stretch (from_of hop_size walks.now hops.now) (total hop_size walks.now hops.now) v first end }
     ensures { Upto (from_of hop_size walks.now hops.now) (total hop_size walks.now hops.now) v first end result list.now }
 {
     let n = list.len() / 4;
     let mut at = first;
-    let mut r = 0;
-    while r < n {
-        let x = r;
-        r += 1;
+    for x in 0..n {
         if from_of(walks, hops, hop_size, x) == v {
             if word_at(list, 4 * at) as usize != x {
                 return at;
@@ -105,8 +93,8 @@ fn wrong_in(
     first: usize,
     end: usize,
 ) -> usize
-    requires le_hop_size { (4 ≤ hop_size) × (total hop_size walks.now hops.now ≤ 524288) × (length list.now ≡ 4 * total hop_size walks.now hops.now) × (end ≤ total hop_size walks.now hops.now) }
-    requires first_value { (first ≡ below (from_of hop_size walks.now hops.now) v (total hop_size walks.now hops.now)) × (end ≡ first + same (from_of hop_size walks.now hops.now) v (total hop_size walks.now hops.now)) }
+    requires fits { Fits hop_size walks.now hops.now list.now end }
+    requires stretch { Stretch (from_of hop_size walks.now hops.now) (total hop_size walks.now hops.now) v first end }
     ensures { Upto (from_of hop_size walks.now hops.now) (total hop_size walks.now hops.now) v first end result list.now }
 {
     if rises(walks, hops, hop_size, list, v, first, end) {
@@ -116,24 +104,28 @@ fn wrong_in(
 }
 
 // Refusal 22, over tables that the check has passed and a list of their length.
-pub fn fault(vertices: &[u8], walks: &[u8], hops: &[u8], hop_size: usize, list: &[u8]) -> Refusal
+pub fn fault(
+    vertices: &[u8],
+    walks: &[u8],
+    hops: &[u8],
+    hop_size: usize,
+    list: &[u8],
+) -> Result<(), Refusal>
     requires le_hop_size { (4 ≤ hop_size) × ValidTables (tables_of hop_size vertices.now walks.now hops.now) }
     requires list_len { length list.now ≡ 4 * record_count (tables_of hop_size vertices.now walks.now hops.now) }
     ensures { told result ≡ list_refusal (tables_of hop_size vertices.now walks.now hops.now) list.now }
 {
     let n = vertices.len() / VERTEX_SIZE;
     let mut first = 0;
-    let mut v = 0;
-    while v < n {
+    for v in 0..n {
         let end = first + departing_of(vertices, v) as usize;
         let at = wrong_in(walks, hops, hop_size, list, v as u32, first, end);
         if at < end {
-            return refused(22, at as u32);
+            return refused(Reason::RecordList, at as u32);
         }
         first = end;
-        v += 1;
     }
-    fine()
+    Ok(())
 }
 
 // Up to which place the numbers from `first` on are walks that leave v, and rise.
@@ -143,8 +135,7 @@ fn walks_rise(walks: &[u8], list: &[u8], v: u32, first: usize, end: usize) -> us
 {
     let ways = walks.len() / WALK_SIZE;
     let mut low = 0;
-    let mut i = first;
-    while i < end {
+    for i in first..end {
         let x = word_at(list, 4 * i) as usize;
         if ways <= x {
             return i;
@@ -156,9 +147,8 @@ fn walks_rise(walks: &[u8], list: &[u8], v: u32, first: usize, end: usize) -> us
             return i;
         }
         low = x + 1;
-        i += 1;
     }
-    i
+    end
 }
 
 fn wide(x: u16) -> usize
@@ -183,8 +173,7 @@ fn all_leave(hops: &[u8], hop_size: usize, scratch: &[u16], k: usize) -> bool
     ensures { result ≡ true → Leave (from_at hop_size hops.now) scratch.now k }
 {
     let n = hops.len() / hop_size;
-    let mut j = 0;
-    while j < k {
+    for j in 0..k {
         let x = wide(scratch[4 * j]) + 65536 * wide(scratch[4 * j + 1]);
         if n <= x {
             return false;
@@ -192,26 +181,25 @@ fn all_leave(hops: &[u8], hop_size: usize, scratch: &[u16], k: usize) -> bool
         if from_at(hops, hop_size, x) as usize != wide(scratch[4 * j + 2]) {
             return false;
         }
-        j += 1;
     }
     true
 }
 
 // A free place behind the k hops that wait; where there is none they are looked at, and have to leave.
-fn free_place(hops: &[u8], hop_size: usize, scratch: &[u16], k: usize) -> usize
+fn free_place(hops: &[u8], hop_size: usize, scratch: &[u16], k: usize) -> Option<usize>
     requires { (4 ≤ hop_size) × (k ≤ 512) × (length scratch.now ≡ 2048) }
-    ensures { result < 512 → Leave (from_at hop_size hops.now) scratch.now result → Leave (from_at hop_size hops.now) scratch.now k }
+    ensures { IfSome result (λ place. (place < 512) × (Leave (from_at hop_size hops.now) scratch.now place → Leave (from_at hop_size hops.now) scratch.now k)) }
 {
     if k < PLACES {
-        return k;
+        return Some(k);
     }
     if all_leave(hops, hop_size, scratch, k) {
-        return 0;
+        return Some(0);
     }
-    PLACES
+    None
 }
 
-// The numbers from `at` up to `end` are those of hops, and rise. That they leave v is looked at later: they wait behind the k that wait already.
+// How many hops wait, where the numbers from `at` up to `end` are those of hops, and rise; or that a number is wrong. That they leave v is looked at later: they wait behind the k that wait already.
 fn hops_wait(
     walks: &[u8],
     hops: &[u8],
@@ -222,33 +210,29 @@ fn hops_wait(
     end: usize,
     scratch: &mut [u16],
     k: usize,
-) -> Waiting
-    requires { (4 ≤ hop_size) × (total hop_size walks.now hops.now ≤ 524288) × (length list.now ≡ 4 * total hop_size walks.now hops.now) × (at ≤ end) × (end ≤ total hop_size walks.now hops.now) × (v < 65536) × (k ≤ 512) × (length scratch.old ≡ 2048) }
+) -> Option<usize>
+    requires fits { Fits hop_size walks.now hops.now list.now end }
+    requires at_le_end { (at ≤ end) × (v < 65536) × (k ≤ 512) × (length scratch.old ≡ 2048) }
     ensures { WaitingIs hop_size walks.now hops.now v at end list.now scratch.old k scratch.new result }
 {
     let n = list.len() / 4;
     let ways = walks.len() / WALK_SIZE;
     let mut many = k;
     let mut least = ways;
-    let mut i = at;
-    while i < end {
+    for i in at..end {
         let x = word_at(list, 4 * i) as usize;
         if x < least {
-            return Waiting::Wrong;
+            return None;
         }
         if n <= x {
-            return Waiting::Wrong;
+            return None;
         }
-        let place = free_place(hops, hop_size, scratch, many);
-        if PLACES <= place {
-            return Waiting::Wrong;
-        }
+        let place = free_place(hops, hop_size, scratch, many)?;
         wait(scratch, place, x - ways, v);
         many = place + 1;
         least = x + 1;
-        i += 1;
     }
-    Waiting::Many(many)
+    Some(many)
 }
 
 // Whether all is right, the departing counts of the vertices and the list, by one pass over the list; tables and list have their lengths. A yes is sure; a no says nothing. Walks stand near one another and are looked at on the way, hops wait in the scratch, which may hold anything before and afterwards.
@@ -267,20 +251,17 @@ pub fn sure(
     let many = list.len() / 4;
     let mut k = 0;
     let mut first = 0;
-    let mut v = 0;
-    while v < n {
+    for v in 0..n {
         let end = first + departing_of(vertices, v) as usize;
         if many < end {
             return false;
         }
         let middle = walks_rise(walks, list, v as u32, first, end);
-        let Waiting::Many(more) = hops_wait(walks, hops, hop_size, list, v, middle, end, scratch, k)
-        else {
+        let Some(more) = hops_wait(walks, hops, hop_size, list, v, middle, end, scratch, k) else {
             return false;
         };
         k = more;
         first = end;
-        v += 1;
     }
     if !all_leave(hops, hop_size, scratch, k) {
         return false;

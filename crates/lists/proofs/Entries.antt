@@ -3,6 +3,7 @@ use mathlib.Core.Path.{◌≡◌, refl, sym, ap, ◌∙◌}
 use mathlib.Core.Logic.{◌⊎◌, inl, inr, ⊎_elim}
 use mathlib.Core.Bool.{Bool, true, false, cond, not, ◌&&◌, ◌||◌}
 use mathlib.Core.List.{List}
+use Rattle.std.specs.Prelude.{Result, Ok, Err}
 use Prim.Native.Nat.{ℕ, zero, suc, ◌+◌, ◌-◌, ◌*◌, ◌/◌, ◌%◌, ◌≤◌, ◌<◌}
 use native.Mathlib.Nat.{zero-add, mul_comm, mul-suc, mul-le-mul_left, div-mul-le_self}
 use native.Mathlib.Decide.{ℕ_discrete}
@@ -15,10 +16,8 @@ use Rattle.journeys.specs.Refusals.{Refusal, fine, first_from, first_bad}
 use Rattle.journeys.proofs.Tests.{split, never, le-or-lt, same-or-below, last-or-below, and_both, and-true, and_left, and_right}
 use Rattle.journeys.proofs.Counting.{below_suc, is_one, is_zero, count_most, count-join, none-count}
 use Rattle.audit.proofs.Scan.{scan_step, scan-stop, scan-end, refusing}
-use Rattle.lists.specs.declared.Judged.{Judged}
-use Rattle.lists.specs.declared.Judged.TheVariants as judged
 use Rattle.lists.specs.Lists.{told}
-use Rattle.journeys.specs.Lists.{allows, entries, vertex_in, distance_at, named, entry_ok}
+use Rattle.journeys.specs.Lists.{allows, vertex_in, distance_at, named, entry_ok}
 use Rattle.lists.specs.Passes.{in_half, half_ok, First}
 
 -- ---- where an entry stands
@@ -212,16 +211,16 @@ first-is ok (suc n) = go (first-is ok n)
             (split (ok n))
 
 -- ---- an answer that is right with the number 21 is right with every number
-pub other-number : (number : ℕ) → 0 < number → (ok : ℕ → Bool) (n : ℕ) (r : Judged) → told 21 r ≡ first_bad 21 ok n → told number r ≡ first_bad number ok n
+pub other-number : {T : Type 0} (number : ℕ) → 0 < number → (ok : ℕ → Bool) (n : ℕ) (r : Result T ℕ) → told 21 r ≡ first_bad 21 ok n → told number r ≡ first_bad number ok n
 unfolding told
 other-number number some ok n r e = go (first-is ok n) r e
   where
-    go : (i : ℕ) × First ok n i → (r : Judged) → told 21 r ≡ first_bad 21 ok n → told number r ≡ first_bad number ok n
-    go (i, f) judged.Good e =
+    go : {U : Type 0} → (i : ℕ) × First ok n i → (r : Result U ℕ) → told 21 r ≡ first_bad 21 ok n → told number r ≡ first_bad number ok n
+    go (i, f) (Ok _) e =
         ⊎_elim (λ (h : n ≤ i). none-refused number some ok n i f h)
         (λ (h : i < n). absurd (let z : ◌≡◌ {A = ℕ} 0 21 = ap (λ (x : Refusal). x.number) (e ∙ sym (first-refused 21 (omega arith) ok n i f h)) in let y : ⊥ = omega arith in y))
         (le-or-lt n i)
-    go (i, f) (judged.Bad p) e =
+    go (i, f) (Err p) e =
         ⊎_elim (λ (h : n ≤ i). absurd (let z : ◌≡◌ {A = ℕ} 21 0 = ap (λ (x : Refusal). x.number) (e ∙ sym (none-refused 21 (omega arith) ok n i f h)) in let y : ⊥ = omega arith in y))
         (λ (h : i < n). ap (λ (x : ℕ). record { number = number; place = x }) (ap (λ (x : Refusal). x.place) (e ∙ sym (first-refused 21 (omega arith) ok n i f h))) ∙ first-refused number some ok n i f h)
         (le-or-lt n i)

@@ -1,10 +1,8 @@
 -- What the judge of lists answers, as a refusal. Assumes nothing.
-use Rattle.std.specs.Prelude.{ℕ}
+use Rattle.std.specs.Prelude.{ℕ, Result, Ok, Err}
 use Rattle.journeys.specs.Refusals.{Refusal, fine}
-use Rattle.lists.specs.declared.Judged.{Judged}
-use Rattle.lists.specs.declared.Judged.TheVariants as judged
 
--- each case of the enum, as the refusal of a number
-unfoldable pub told : ℕ → Judged → Refusal
-told number judged.Good = fine
-told number (judged.Bad i) = record { number = number; place = i }
+-- each case, as the refusal of a number
+unfoldable pub told : {T : Type 0} → ℕ → Result T ℕ → Refusal
+told number (Ok _) = fine
+told number (Err i) = record { number = number; place = i }

@@ -10,13 +10,6 @@ ghost use Rattle.lists.specs.Lists.{told};
 ghost use Rattle.journeys.specs.Lists.{allows, list_refusal};
 ghost use Rattle.lists.specs.Passes.{in_half, half_ok, First};
 
-// Every entry is good, or the first that is not.
-#[derive(Clone, Copy)]
-pub enum Judged {
-    Good,
-    Bad(u32),
-}
-
 fn allowed(v: u32, distance: u32, vertices: u32, most: u32) -> bool
     ensures { result ≡ (ltb v vertices && allows most distance) }
 {
@@ -48,7 +41,7 @@ fn entry_ok(
     marks::mark(marks, vertex % 32768) == 1
 }
 
-// The first of `end` entries that is not good as far as one half goes, or `end`.
+// The first of `end` entries that is not good as far as one half goes, or `end`. A place, and no Option: the pass over the other half ends there.
 fn scan(
     list: &[u8],
     size: usize,
@@ -62,14 +55,12 @@ fn scan(
     requires marks_value { marks.old ≡ replicate 2048 0 }
     ensures { First (half_ok size vertices most list.now half) end result }
 {
-    let mut i = 0;
-    while i < end {
+    for i in 0..end {
         if !entry_ok(list, size * i, vertices, most, half, marks) {
             return i;
         }
-        i += 1;
     }
-    i
+    end
 }
 
 fn pass(
@@ -91,8 +82,14 @@ fn pass(
     found
 }
 
-// The list as records of `size` bytes, for `vertices` vertices. No distance may be above `most`; where that is FFFFFFFF they are not looked at.
-pub fn judge(list: &[u8], size: usize, vertices: u32, most: u32, marks: &mut [u16]) -> Judged
+// The list as records of `size` bytes, for `vertices` vertices: every entry is good, or the first that is not. No distance may be above `most`; where that is FFFFFFFF they are not looked at.
+pub fn judge(
+    list: &[u8],
+    size: usize,
+    vertices: u32,
+    most: u32,
+    marks: &mut [u16],
+) -> Result<(), u32>
     requires le_size { (8 ≤ size) × (vertices ≤ 65536) }
     requires marks_value { marks.old ≡ replicate 2048 0 }
     ensures result_value { told 21 result ≡ list_refusal size vertices most list.now }
@@ -101,9 +98,5 @@ pub fn judge(list: &[u8], size: usize, vertices: u32, most: u32, marks: &mut [u1
     let n = list.len() / size;
     let lower = pass(list, size, vertices, most, 0, n, marks);
     let found = pass(list, size, vertices, most, 1, lower, marks);
-    if found < n {
-        Judged::Bad(found as u32)
-    } else {
-        Judged::Good
-    }
+    if found < n { Err(found as u32) } else { Ok(()) }
 }

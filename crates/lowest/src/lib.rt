@@ -9,16 +9,16 @@ ghost use Rattle.lowest.specs.Lower.{lower_of};
 
 use words::Refusal;
 
-pub fn lower(a: Refusal, b: Refusal) -> Refusal
+pub fn lower(a: Result<(), Refusal>, b: Result<(), Refusal>) -> Result<(), Refusal>
     ensures { told result ≡ lower_of (told a) (told b) }
 {
-    if a.number == 0 {
+    let Err(first) = a else {
         return b;
-    }
-    if b.number == 0 {
+    };
+    let Err(second) = b else {
         return a;
-    }
-    if b.place < a.place {
+    };
+    if second.place < first.place {
         return b;
     }
     a

@@ -1,20 +1,17 @@
 -- The refusals of making in their order, and what the target holds after each. Assumes nothing.
-use mathlib.Core.Path.{◌≡◌, refl, sym, ap, ◌∙◌}
+use mathlib.Core.Path.{◌≡◌, sym, ap, ◌∙◌}
 use mathlib.Core.Logic.{◌≢◌}
 use mathlib.Core.List.{List}
-use Prim.Native.Nat.{ℕ, ◌+◌, ◌*◌, ◌/◌, ◌≤◌}
+use Prim.Native.Nat.{ℕ, ◌*◌}
 use native.Mathlib.Omega.{arith}
-use lib.Dec.{eqb}
 use lib.ListN.{length}
 use borrow.Author.Tests.{eq-eqb, ne_eqb, eqb-true}
 use Rattle.journeys.specs.Tables.{tables_of}
 use Rattle.journeys.specs.Records.{record_count}
-use Rattle.journeys.specs.Valid.{ValidTables}
-use Rattle.journeys.specs.Refusals.{Refusal, fine, unless, table_lengths, contents}
+use Rattle.journeys.specs.Refusals.{Refusal, fine, table_lengths, contents}
 use Rattle.journeys.specs.CourierList.{list_bytes, list_length}
 use Rattle.journeys.proofs.Tests.{cond-true, cond-false}
 use Rattle.journeys.proofs.Refusals.{or-first, or-next, unless-good, unless-bad, unless-fine}
-use Rattle.journeys.proofs.Valid.{lengths-valid}
 use Rattle.listing.specs.Places.{total}
 use Rattle.listing.proofs.Froms.{total-is}
 use Rattle.audit.proofs.Scan.{same_number}

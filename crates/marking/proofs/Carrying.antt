@@ -1,10 +1,9 @@
 -- A hop is marked for one of two reasons, and what is true inside a step stays so; one such change after another is one. Assumes nothing.
-use mathlib.Core.Path.{◌≡◌, refl, sym, ap, subst, ◌∙◌}
-use mathlib.Core.Logic.{◌⊎◌, inl, inr, ⊎_elim, ◌≢◌}
+use mathlib.Core.Path.{◌≡◌, refl, sym, ap, ◌∙◌}
+use mathlib.Core.Logic.{◌⊎◌, inl, inr, ⊎_elim}
 use mathlib.Core.Bool.{Bool, true, false, not, cond, ◌&&◌}
 use mathlib.Core.List.{List}
 use Prim.Native.Nat.{ℕ, ◌≤◌, ◌<◌}
-use native.Mathlib.Omega.{arith}
 use lib.Dec.{eqb}
 use lib.ListN.{take}
 use borrow.Author.Tests.{eq-eqb, ne_eqb}
@@ -14,7 +13,7 @@ use Rattle.journeys.specs.Query.{Query, allowed, before}
 use Rattle.journeys.specs.Settled.{Settled, settled}
 use Rattle.journeys.specs.Network.{distance_in, within}
 use Rattle.journeys.specs.Valid.{Valid}
-use Rattle.journeys.proofs.Tests.{Test, same, other, test, never, le-or-lt, cond-true, cond-false}
+use Rattle.journeys.proofs.Tests.{Test, same, other, test, never, le-or-lt}
 use Rattle.journeys.proofs.Known.{is_within, not_within}
 use Rattle.journeys.proofs.Valid.{good-hop}
 use Rattle.journeys.proofs.Document as document
@@ -25,7 +24,6 @@ use Rattle.boarding.proofs.Marks.{Marked, mark-alights, mark-stays, marked-near}
 use Rattle.boarding.proofs.OneMark.{also, by_hop}
 use Rattle.boarding.proofs.Kept.{improved}
 use Rattle.boarding.proofs.Searching.{Underway, marks-one}
-use Rattle.improving.specs.Figures.{improved_at}
 use Rattle.improving.proofs.Betters.{improved-above}
 use Rattle.marking.specs.Carried.{offered_by, Carries}
 

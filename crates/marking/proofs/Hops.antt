@@ -1,11 +1,11 @@
 -- A hop of judged tables as the code reads it, and what its offer makes of the figures. Assumes nothing.
-use mathlib.Core.Path.{◌≡◌, refl, sym, ap, fun_ext, ◌∙◌}
+use mathlib.Core.Path.{◌≡◌, sym, ap, fun_ext, ◌∙◌}
 use mathlib.Core.Bool.{Bool, true, false, not}
 use mathlib.Core.List.{List}
-use Prim.Native.Nat.{ℕ, ◌/◌, ◌≤◌, ◌<◌}
+use Prim.Native.Nat.{ℕ, ◌≤◌, ◌<◌}
 use native.Mathlib.Omega.{arith}
 use Rattle.journeys.specs.Bytes.{clocked}
-use Rattle.journeys.specs.Tables.{Tables, Hop, hop, hop_at, vertex_count, hop_count}
+use Rattle.journeys.specs.Tables.{Tables, Hop, hop, hop_at, hop_count}
 use Rattle.journeys.specs.Query.{Query}
 use Rattle.journeys.specs.Query as queries
 use Rattle.journeys.proofs.Tests.{cond-true, cond-false, and_left, and_right, and-true}

@@ -3,13 +3,12 @@ use mathlib.Core.Path.{◌≡◌, refl, sym, ap, subst, ◌∙◌}
 use mathlib.Core.Logic.{◌⊎◌, inl, inr, ⊎_elim, ◌≢◌}
 use mathlib.Core.Bool.{Bool, true, false, cond, ◌&&◌}
 use mathlib.Core.List.{List}
-use Prim.Native.Nat.{ℕ, suc, ◌+◌, ◌/◌, ◌≤◌, ◌<◌}
+use Prim.Native.Nat.{ℕ, suc, ◌+◌, ◌≤◌, ◌<◌}
 use native.Mathlib.Omega.{arith}
-use lib.Dec.{eqb, leb}
-use lib.ListN.{length}
+use lib.Dec.{leb}
 use borrow.Author.Tests.{leb-true, le-leb, eq-eqb}
 use Rattle.journeys.specs.Counting.{In}
-use Rattle.journeys.specs.Tables.{Tables, hop, hop_count, vertex_at}
+use Rattle.journeys.specs.Tables.{Tables, hop, hop_count}
 use Rattle.journeys.specs.Query.{Query, before}
 use Rattle.journeys.specs.Settled.{Settled, settled}
 use Rattle.journeys.proofs.Tests.{Test, same, other, test, never, and_both, and-true, cond-true, le-or-lt, last-or-below}
@@ -18,7 +17,7 @@ use Rattle.boarding.proofs.Boards.{before-mono}
 use Rattle.marks.specs.Marks.{bit}
 use Rattle.bitset.specs.Joined.{joined}
 use Rattle.marking.specs.Carried.{offered_by, Carries}
-use Rattle.marking.specs.Pends.{State, marks_of, figures_of, Pends, Prefix, Fit, left, Markable, HopMarked}
+use Rattle.marking.specs.Pends.{State, marks_of, figures_of, Prefix, Fit, HopMarked}
 use Rattle.marking.specs.Moves.{Alights, Moved, alights_test, AlightsBy, Alighted}
 use Rattle.marking.proofs.Carrying.{carries_same, carries-then, carries-any, carries-stays, carries-alights}
 

@@ -3,7 +3,7 @@ use mathlib.Core.Path.{◌≡◌, refl, sym, ap, subst, ◌∙◌}
 use mathlib.Core.Logic.{◌⊎◌, inl, inr, ◌≢◌}
 use mathlib.Core.Bool.{Bool, true, false, not, cond}
 use mathlib.Core.List.{List}
-use Prim.Native.Nat.{ℕ, ◌+◌, ◌-◌, ◌*◌, ◌≤◌, ◌<◌}
+use Prim.Native.Nat.{ℕ, ◌+◌, ◌-◌, ◌≤◌, ◌<◌}
 use native.Mathlib.Omega.{arith}
 use lib.Dec.{eqb}
 use lib.ListN.{length, get_or, set, length-set}
@@ -12,10 +12,10 @@ use borrow.Author.Tests.{eq-eqb}
 use Rattle.journeys.specs.Counting.{count, one}
 use Rattle.journeys.specs.Tables.{Tables, hop, hop_count}
 use Rattle.journeys.specs.Query.{Query}
-use Rattle.journeys.proofs.Tests.{Test, same, other, test, never, cond-true, last-or-below}
+use Rattle.journeys.proofs.Tests.{Test, same, other, test, cond-true, last-or-below}
 use Rattle.journeys.proofs.Counting.{count-join, some-count}
 use Rattle.worktable.specs.declared.Table.{Table}
-use Rattle.boarding.specs.Rides.{Mode, Stays}
+use Rattle.boarding.specs.Rides.{Mode}
 use Rattle.marks.specs.Marks.{bit}
 use Rattle.bitset.specs.Joined.{joined}
 use Rattle.improving.specs.Figures.{Ready, figures}

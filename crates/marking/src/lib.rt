@@ -39,7 +39,7 @@ pub struct Pending {
     pub cursor: usize,
 }
 
-// How many words the stack can have.
+// How many words the stack can have. The table, the marks and the stack stay apart in the calls: each is lent by itself, and the clauses join them as one `state`.
 pub const DEPTH: usize = 16384;
 
 // The offer of hop j, which is marked: it is made once the vertex that the hop leads to is settled.
@@ -172,11 +172,9 @@ pub fn alight(
     ensures { Alighted (tables vertices.now walks.now hops.now a) (query a) (mode hops.now a) set.now x d (state p table.old marks.old stack.old) (state result table.new marks.new stack.new) }
 {
     let end = records::end_arriving(vertices, Kind::Hops, x, hops.len() / a.size);
-    let mut i = records::first_arriving(vertices, Kind::Hops, x);
     let mut q = p;
-    while i < end {
+    for i in records::first_arriving(vertices, Kind::Hops, x)..end {
         q = alight_by(vertices, walks, hops, a, set, table, marks, stack, q, i, d);
-        i += 1;
     }
     q
 }

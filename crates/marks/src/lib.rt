@@ -8,7 +8,7 @@ ghost use Rattle.marks.specs.Marks as Marks;
 ghost use Rattle.marks.specs.Marks.{bit};
 
 // 2 to the k: the weight of a bit in its word.
-fn power(k: usize) -> u16
+pub fn power(k: usize) -> u16
     requires { k < 16 }
     ensures { result ≡ Marks.power k }
 {
@@ -41,9 +41,5 @@ pub fn clear(marks: &mut [u16])
     requires { length marks.old ≡ 2048 }
     ensures { marks.new ≡ replicate 2048 0 }
 {
-    let mut i = 0;
-    while i < 2048 {
-        marks[i] = 0;
-        i += 1;
-    }
+    marks.fill(0);
 }

@@ -1,8 +1,9 @@
 -- From one table to another: what `Leads` and the answers are made of. Assumes nothing.
+use Rattle.std.specs.Prelude.{Option, Some, None}
 use mathlib.Core.Path.{◌≡◌, refl, sym, ap, ◌∙◌, subst}
 use mathlib.Core.Bool.{false}
 use mathlib.Core.List.{List}
-use Prim.Native.Nat.{ℕ, ◌+◌, ◌≤◌, ◌<◌}
+use Prim.Native.Nat.{ℕ, ◌≤◌, ◌<◌}
 use native.Mathlib.Omega.{arith}
 use Rattle.worktable.specs.Map.{Entry, absent, Map, put, size, touched}
 use Rattle.worktable.specs.Table.{map_of, InOrder, Place, Gives, PassedIs}
@@ -14,8 +15,6 @@ use Rattle.worktable.proofs.PassLaws.{gives_at, gives-twice}
 use Rattle.meeting.specs.Passing.{missing, entered, met, left}
 use Rattle.meeting.proofs.Entries.{left-absent, one-missing}
 use Rattle.meeting.specs.Answer.{Leads, ArrivedIs}
-use Rattle.meeting.specs.declared.Arrived.{Arrived}
-use Rattle.meeting.specs.declared.Arrived.TheVariants.{Fits, NoRoom}
 
 pub leads-gives : {t r : Table} {b c : List ℕ} {m k : Map} → Gives t r b c m → m ≡ k → Leads t r c k
 leads-gives {t} {r} {b} {c} g e = subst (Leads t r c) e (record { holds = g.holds; room = g.room })
@@ -68,14 +67,18 @@ new-there P t b u x d {c} g l room z =
     (omega (arith, l, left-absent d (map_of t b u) a), λ p. subst (λ (m : Map). size m < t.room) (sym e) (room a p))
 
 -- ---- answers
-pub fits-is : {t r : Table} {c : List ℕ} {m : Map} → Leads t r c m → ArrivedIs t c m (Fits r)
+pub fits-is : {t r : Table} {c : List ℕ} {m : Map} → Leads t r c m → ArrivedIs t c m (Some r)
 unfolding ArrivedIs
 fits-is l = (l, leads-room l)
 
-pub fits-leads : {t r : Table} {c : List ℕ} {m : Map} {x : Arrived} → ArrivedIs t c m x → x ≡ Fits r → Leads t r c m
+pub fits-leads : {t r : Table} {c : List ℕ} {m : Map} {x : Option Table} → ArrivedIs t c m x → x ≡ Some r → Leads t r c m
 unfolding ArrivedIs
 fits-leads {t} {r} {c} {m} h e = (subst (ArrivedIs t c m) e h).0
 
-pub none-fits : (t : Table) (c : List ℕ) (m : Map) {x : Arrived} → ArrivedIs t c m x → x ≡ NoRoom → t.room < size m
+pub none-lacks : (t : Table) (c : List ℕ) (m : Map) {x : Option Table} → t.room < size m → x ≡ None → ArrivedIs t c m x
+unfolding ArrivedIs
+none-lacks t c m l e = rw e l
+
+pub none-fits : (t : Table) (c : List ℕ) (m : Map) {x : Option Table} → ArrivedIs t c m x → x ≡ None → t.room < size m
 unfolding ArrivedIs
 none-fits t c m h e = subst (ArrivedIs t c m) e h

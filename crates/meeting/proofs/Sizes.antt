@@ -10,7 +10,7 @@ use Rattle.journeys.specs.Counting as counting
 use Rattle.journeys.specs.Counting.{count}
 use Rattle.journeys.proofs.Counting.{count-grows}
 use Rattle.passing.specs.Row.{Row}
-use Rattle.meeting.specs.Passing.{goes, meets, met, passed, futile, comers}
+use Rattle.meeting.specs.Passing.{goes, meets, passed, futile, comers}
 use Rattle.meeting.proofs.Entries.{met-one}
 
 pub size-le : (n : ℕ) (a b : Map) → ((u : ℕ) → u < n → one (a u) ≤ one (b u)) → size_to n a ≤ size_to n b

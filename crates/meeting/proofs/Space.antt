@@ -1,6 +1,5 @@
 -- When a slot is free for each record that brings an entry: where those that may bring one are no more than the free slots, and where there is a slot for every vertex. Assumes nothing.
-use mathlib.Core.Path.{◌≡◌, refl, sym, ap, ◌∙◌}
-use mathlib.Core.Bool.{Bool, false}
+use mathlib.Core.Path.{◌≡◌, ◌∙◌}
 use Prim.Native.Nat.{ℕ, zero, suc, ◌+◌, ◌-◌, ◌≤◌, ◌<◌}
 use native.Mathlib.Omega.{arith}
 use Rattle.passing.specs.Row.{Row}

@@ -4,9 +4,16 @@ use Rattle.journeys.specs.Counting.{count}
 use Rattle.passing.specs.Row.{Row, passes}
 use Rattle.directed.specs.Directed.{row_in, Passable, Near}
 use Rattle.directed.specs.declared.Directed.{Directed}
-use Rattle.worktable.specs.Map.{Entry, absent, known, Map, put, touched, spent, swept, size}
+use Rattle.worktable.specs.Map.{Entry, absent, known, Figure, Map, put, touched, spent, swept, size}
 use Rattle.worktable.specs.Table.{map_of, InOrder}
 use Rattle.worktable.specs.declared.Table.{Table}
+
+-- the table is in order, u is one of its vertices, of which there are not too many, and an entry may have the offer x
+pub record Offered (t : Table) (b v : List ℕ) (u x : ℕ) : Type 0 where
+  pub order : InOrder t b
+  pub low : u < length v / 12
+  pub few : length v / 12 ≤ 65536
+  pub figure : Figure x
 
 unfoldable pub missing : Entry → Bool
 missing absent = true

@@ -3,25 +3,18 @@
 // Rests on: the row of `directed`, one look at an entry by `worktable`.
 #![tactic(auto)]
 
-ghost use Rattle.std.specs.Prelude.{◌≡◌, false, not, ◌-◌, ◌/◌, ◌<◌, ◌≤◌, length};
+ghost use Rattle.std.specs.Prelude.{◌≡◌, false, not, ◌-◌, ◌<◌};
 ghost use Rattle.journeys.specs.Counting.{one};
-ghost use Rattle.worktable.specs.Map.{absent, known, distance_limit, Figure, put, swept, size};
-ghost use Rattle.worktable.specs.Table.{map_of, InOrder, PassedIs};
+ghost use Rattle.worktable.specs.Map.{absent, known, distance_limit, put, swept, size};
+ghost use Rattle.worktable.specs.Table.{map_of, PassedIs};
 ghost use Rattle.passing.specs.Row.{passes};
 ghost use Rattle.directed.specs.Directed.{due_of, row_in, Passable, Near};
-ghost use Rattle.meeting.specs.Passing.{entered, met, futile, comers, left, Spacious, Ready};
+ghost use Rattle.meeting.specs.Passing.{entered, met, futile, comers, left, Offered, Spacious, Ready};
 ghost use Rattle.meeting.specs.Answer.{Leads, AllMet};
 
 use directed::{Directed, brings_at, due_at, near_at};
-use words::{Ticks, lesser};
+use words::Ticks;
 use worktable::{Passed, Table, drop, insert, pass};
-
-// What a step answers: the table afterwards, or that the step has no room in it.
-#[derive(Clone, Copy)]
-pub enum Arrived {
-    Fits(Table),
-    NoRoom,
-}
 
 // Whether a new vertex with so many records in all is hopeless with one of them: it has no other, and the offer is above D.
 fn hopeless(due: u32, offer: Ticks, allowed: Ticks) -> bool
@@ -32,7 +25,7 @@ fn hopeless(due: u32, offer: Ticks, allowed: Ticks) -> bool
 
 // A new vertex gets an entry, unless it is hopeless with its only record: then it takes no slot.
 fn enter(held: &mut [u8], t: Table, vertices: &[u8], row: Directed, u: usize, offer: Ticks) -> Table
-    requires in_order { InOrder t held.old × (u < length vertices.now / 12) × (length vertices.now / 12 ≤ 65536) × Figure offer.0 × (map_of t held.old u ≡ absent) }
+    requires in_order { Offered t held.old vertices.now u offer.0 × (map_of t held.old u ≡ absent) }
     requires u_nonzero { (0 < due_of vertices.now row u) × (futile row.arriving.allowed.0 offer.0 (due_of vertices.now row u) ≡ false → size (map_of t held.old) < t.room) }
     ensures { Leads t result held.new (put (map_of t held.old) u (swept row.arriving.allowed.0 (known offer.0 0 (due_of vertices.now row u - 1)))) }
 {
@@ -53,7 +46,7 @@ pub fn enter_or_drop(
     offer: Ticks,
     told: Passed,
 ) -> Table
-    requires in_order { InOrder t held.old × (u < length vertices.now / 12) × (length vertices.now / 12 ≤ 65536) × Figure offer.0 × PassedIs row.arriving.allowed.0 t held.old u (map_of t held.old u) told }
+    requires in_order { Offered t held.old vertices.now u offer.0 × PassedIs row.arriving.allowed.0 t held.old u (map_of t held.old u) told }
     requires u_nonzero { map_of t held.old u ≡ absent → (0 < due_of vertices.now row u) × (futile row.arriving.allowed.0 offer.0 (due_of vertices.now row u) ≡ false → size (map_of t held.old) < t.room) }
     ensures { Leads t result held.new (put (map_of t held.old) u (entered row.arriving.allowed.0 offer.0 (due_of vertices.now row u) (map_of t held.old u))) }
 {
@@ -66,7 +59,7 @@ pub fn enter_or_drop(
 
 // One record with u at its other end: u is newly met, or one record less remains to it. A vertex to which nothing remains is dropped where it is settled or known above D.
 fn meet(held: &mut [u8], t: Table, vertices: &[u8], row: Directed, u: usize, offer: Ticks) -> Table
-    requires in_order { InOrder t held.old × (u < length vertices.now / 12) × (length vertices.now / 12 ≤ 65536) × Figure offer.0 × (row.arriving.allowed.0 < distance_limit) }
+    requires in_order { Offered t held.old vertices.now u offer.0 × (row.arriving.allowed.0 < distance_limit) }
     requires nonzero { (0 < left (due_of vertices.now row u) (map_of t held.old u)) × (map_of t held.old u ≡ absent → futile row.arriving.allowed.0 offer.0 (due_of vertices.now row u) ≡ false → size (map_of t held.old) < t.room) }
     ensures { Leads t result held.new (put (map_of t held.old) u (met row.arriving.allowed.0 offer.0 (due_of vertices.now row u) (map_of t held.old u))) }
 {
@@ -78,10 +71,7 @@ fn meet(held: &mut [u8], t: Table, vertices: &[u8], row: Directed, u: usize, off
 fn comes(due: u32, offer: Ticks, allowed: Ticks) -> usize
     ensures { result ≡ one (not (futile allowed.0 offer.0 due)) }
 {
-    if hopeless(due, offer, allowed) {
-        return 0;
-    }
-    1
+    usize::from(!hopeless(due, offer, allowed))
 }
 
 // How many records of the row may bring a new entry.
@@ -91,13 +81,11 @@ pub fn most_comers(vertices: &[u8], walks: &[u8], hops: &[u8], list: &[u8], row:
 {
     let n = row.arriving.walks + row.arriving.hops;
     let mut come = 0;
-    let mut i = 0;
-    while i < n {
+    for i in 0..n {
         let u = near_at(walks, hops, list, row, i);
         let offer = brings_at(walks, hops, list, row, i);
         let due = due_at(vertices, row, u);
         come += comes(due, offer, row.arriving.allowed);
-        i += 1;
     }
     come
 }
@@ -122,15 +110,13 @@ pub fn meet_all(
     }
     let mut table = t;
     let mut u = near_at(walks, hops, list, row, 0);
-    let mut next = near_at(walks, hops, list, row, lesser(1, n - 1));
-    let mut j = 0;
-    while j < n {
-        let later = near_at(walks, hops, list, row, lesser(j + 2, n - 1));
+    let mut next = near_at(walks, hops, list, row, (n - 1).min(1));
+    for j in 0..n {
+        let later = near_at(walks, hops, list, row, (j + 2).min(n - 1));
         let offer = brings_at(walks, hops, list, row, j);
         table = meet(held, table, vertices, row, u, offer);
         u = next;
         next = later;
-        j += 1;
     }
     table
 }

@@ -1,5 +1,4 @@
 pub mod Rows
-pub mod Words
 pub mod GoodLengths
 pub mod Left
 pub mod ThereAndBack

@@ -3,26 +3,18 @@
 // Rests on: the test of a table's length (`audit`), numbers in bytes and refusals (`words`).
 #![tactic(auto)]
 
-ghost use Rattle.std.specs.Prelude.{◌≡◌, true, ◌+◌, ◌*◌, ◌/◌, ◌<◌, ◌≤◌, eqb, length, take, drop};
+ghost use Rattle.std.specs.Prelude.{◌≡◌, true, ◌+◌, ◌*◌, ◌/◌, ◌<◌, ◌≤◌, eqb, length};
 ghost use Rattle.journeys.specs.Refusals.{first_bad};
 ghost use Rattle.words.specs.Told.{told};
 ghost use Rattle.words.specs.Written.{written};
 ghost use Rattle.moves.specs.Moved.{common, trip, lengthened, shortened, move_lengths, forward_refusal, backward_refusal, leaves};
 
 use records::hop_start;
-use words::{Refusal, fine, put_word, refused, word_at};
+use words::{Reason, Refusal, put_word, refused, word_at};
 
 const WITHOUT_TRIP: usize = 16;
 
 const WITH_TRIP: usize = 20;
-
-// Four bytes from a place to a place: one load and one store.
-fn copy_word(source: &[u8], at: usize, target: &mut [u8], place: usize)
-    requires { (at + 4 ≤ length source.now) × (place + 4 ≤ length target.old) }
-    ensures { target.new ≡ written target.old place (take 4 (drop at source.now)) }
-{
-    put_word(target, place, word_at(source, at));
-}
 
 // What both sizes of a hop have, 16 bytes, from record i of one table to record i of the other.
 fn copy_hop(source: &[u8], from: usize, target: &mut [u8], to: usize, i: usize)
@@ -32,23 +24,18 @@ fn copy_hop(source: &[u8], from: usize, target: &mut [u8], to: usize, i: usize)
 {
     let at = hop_start(from, i);
     let place = hop_start(to, i);
-    copy_word(source, at, target, place);
-    copy_word(source, at + 4, target, place + 4);
-    copy_word(source, at + 8, target, place + 8);
-    copy_word(source, at + 12, target, place + 12);
+    target[place..place + WITHOUT_TRIP].copy_from_slice(&source[at..at + WITHOUT_TRIP]);
 }
 
-// Every hop with the trip 0, for unknown.
+// Every hop with the trip 0, for unknown. Two functions, this and `shorten`: one for both would ask for every hop whether a trip is to be written.
 fn lengthen(source: &[u8], target: &mut [u8])
     requires { length target.old ≡ 20 * (length source.now / 16) }
     ensures { target.new ≡ lengthened source.now }
 {
     let n = source.len() / WITHOUT_TRIP;
-    let mut i = 0;
-    while i < n {
+    for i in 0..n {
         copy_hop(source, WITHOUT_TRIP, target, WITH_TRIP, i);
         put_word(target, WITH_TRIP * i + 16, 0);
-        i += 1;
     }
 }
 
@@ -58,69 +45,56 @@ fn shorten(source: &[u8], target: &mut [u8])
     ensures { target.new ≡ shortened source.now }
 {
     let n = source.len() / WITH_TRIP;
-    let mut i = 0;
-    while i < n {
+    for i in 0..n {
         copy_hop(source, WITH_TRIP, target, WITHOUT_TRIP, i);
-        i += 1;
     }
 }
 
 // Refusal 1: place 2 for the source, place 6 for a target of another number of records.
-fn lengths(source: &[u8], from: usize, target: &[u8], to: usize) -> Refusal
+fn lengths(source: &[u8], from: usize, target: &[u8], to: usize) -> Result<(), Refusal>
     requires { (0 < from) × (to ≤ 20) }
     ensures { told result ≡ move_lengths from to source.now target.now }
 {
     if !audit::table_ok(source, from, 0, 262144) {
-        return refused(1, 2);
+        return refused(Reason::Length, 2);
     }
     if target.len() != to * (source.len() / from) {
-        return refused(1, 6);
+        return refused(Reason::Length, 6);
     }
-    fine()
+    Ok(())
 }
 
 // Refusal 11: the first hop with a trip.
-fn trips(source: &[u8]) -> Refusal
+fn trips(source: &[u8]) -> Result<(), Refusal>
     requires { length source.now / 20 ≤ 262144 }
     ensures { told result ≡ first_bad 11 (λ i. eqb (trip source.now i) 0) (length source.now / 20) }
 {
     let n = (source.len() / WITH_TRIP) as u32;
-    let mut i: u32 = 0;
-    while i < n {
+    for i in 0..n {
         if word_at(source, WITH_TRIP * (i as usize) + 16) != 0 {
-            return refused(11, i);
+            return refused(Reason::Trip, i);
         }
-        i += 1;
     }
-    fine()
+    Ok(())
 }
 
 // Hops of 16 bytes to hops of 20.
-pub fn forward(source: &[u8], target: &mut [u8]) -> Refusal
+pub fn forward(source: &[u8], target: &mut [u8]) -> Result<(), Refusal>
     ensures result_value { told result ≡ forward_refusal source.now target.old }
     ensures target_after { target.new ≡ leaves (forward_refusal source.now target.old) (lengthened source.now) target.old }
 {
-    let one = lengths(source, WITHOUT_TRIP, target, WITH_TRIP);
-    if one.number != 0 {
-        return one;
-    }
+    lengths(source, WITHOUT_TRIP, target, WITH_TRIP)?;
     lengthen(source, target);
-    one
+    Ok(())
 }
 
 // Hops of 20 bytes to hops of 16, if none has a trip.
-pub fn backward(source: &[u8], target: &mut [u8]) -> Refusal
+pub fn backward(source: &[u8], target: &mut [u8]) -> Result<(), Refusal>
     ensures result_value { told result ≡ backward_refusal source.now target.old }
     ensures target_after { target.new ≡ leaves (backward_refusal source.now target.old) (shortened source.now) target.old }
 {
-    let one = lengths(source, WITH_TRIP, target, WITHOUT_TRIP);
-    if one.number != 0 {
-        return one;
-    }
-    let eleven = trips(source);
-    if eleven.number != 0 {
-        return eleven;
-    }
+    lengths(source, WITH_TRIP, target, WITHOUT_TRIP)?;
+    trips(source)?;
     shorten(source, target);
-    eleven
+    Ok(())
 }

@@ -7,19 +7,12 @@ ghost use Rattle.std.specs.Prelude.{◌≡◌, true, ◌-◌, ◌<◌, ◌≤◌
 ghost use Rattle.feed.specs.Fields.{same};
 ghost use Rattle.naming.specs.Named.{line_at, first_bytes, found_from, leads, above};
 
-fn same_between(name: &[u8], line: &[u8], start: usize, stop: usize) -> bool
-    requires { (start ≤ stop) × (stop ≤ length line.now) }
-    ensures { result ≡ same name.now (take (stop - start) (drop start line.now)) }
-{
-    header::same_bytes(name, &line[start..stop])
-}
-
 // The first field of a line has these bytes.
 fn begins_with(line: &[u8], name: &[u8]) -> bool
     ensures { result ≡ same name.now (first_bytes line.now) }
 {
     let span = lines::span_at(line, 0);
-    same_between(name, line, span.start, span.stop)
+    header::same_bytes(name, span.bytes(line))
 }
 
 fn begins_between(name: &[u8], text: &[u8], at: usize, stop: usize) -> bool
@@ -37,13 +30,10 @@ fn goes_on(text: &[u8], at: usize, name: &[u8]) -> bool
     if name.len() > text.len() - at {
         return false;
     }
-    let mut i = name.len();
-    while 0 < i {
-        let k = i - 1;
+    for k in (0..name.len()).rev() {
         if name[k] != text[at + k] {
             return false;
         }
-        i = k;
     }
     true
 }
@@ -52,12 +42,10 @@ fn goes_on(text: &[u8], at: usize, name: &[u8]) -> bool
 fn plain_name(name: &[u8]) -> bool
     ensures { result ≡ above name.now }
 {
-    let mut i = 0;
-    while i < name.len() {
-        if name[i] <= 44 {
+    for b in name {
+        if *b <= 44 {
             return false;
         }
-        i += 1;
     }
     true
 }
@@ -100,6 +88,7 @@ pub fn seek(text: &[u8], from: usize, name: &[u8]) -> usize
     ensures { result ≡ found_from text.now from name.now }
 {
     let mut at = from;
+    // A while: each turn goes on where the line ends, so there is no range to go over.
     while at < text.len() {
         let stop = lines::line_stop(text, at);
         let next = lines::line_next(text, stop);

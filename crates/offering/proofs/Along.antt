@@ -1,15 +1,15 @@
 -- The loops over the walks and over the hops to a vertex, step by step, and a walk as the code reads it. Assumes nothing.
-use mathlib.Core.Path.{◌≡◌, refl, sym, ap, subst, fun_ext, ◌∙◌}
+use mathlib.Core.Path.{◌≡◌, sym, ap, fun_ext, ◌∙◌}
 use mathlib.Core.Logic.{◌⊎◌, inl, inr, ◌≢◌}
-use mathlib.Core.Bool.{Bool, true, false, cond}
+use mathlib.Core.Bool.{Bool, true, false}
 use mathlib.Core.List.{List}
 use Prim.Native.Nat.{ℕ, suc, ◌+◌, ◌-◌, ◌*◌, ◌/◌, ◌≤◌, ◌<◌}
 use native.Mathlib.Omega.{arith}
 use lib.ListN.{length}
 use Rattle.journeys.specs.Bytes.{be32}
-use Rattle.journeys.specs.Tables.{Tables, Walk, walk, hop, walk_at, len_of, wait_of, vertex_count, walk_count, hop_count}
+use Rattle.journeys.specs.Tables.{Tables, Walk, walk, hop, walk_at, len_of, wait_of, vertex_count, walk_count}
 use Rattle.journeys.specs.Query.{Query, allowed, walk_ticks}
-use Rattle.journeys.specs.Records.{Record, from, to, record_at, record_count}
+use Rattle.journeys.specs.Records.{to, record_at}
 use Rattle.journeys.specs.Valid.{Valid}
 use Rattle.journeys.proofs.Tests.{split, cond-true, cond-false}
 use Rattle.journeys.proofs.Document.{walk-record, hop-record}
@@ -20,10 +20,10 @@ use Rattle.worktable.specs.declared.Table.{Table}
 use Rattle.boarding.specs.Rides.{Mode}
 use Rattle.marks.specs.Marks.{bit}
 use Rattle.improving.specs.Figures.{Ready, figures, improved_at}
-use Rattle.marking.specs.Setting.{tables, query, mode, Judged}
+use Rattle.marking.specs.Setting.{tables, query, Judged}
 use Rattle.marking.specs.Carried.{offered_by}
 use Rattle.marking.specs.declared.Asked.{Asked}
-use Rattle.offering.specs.Offers.{passed, taken_at, held_back, Passable, Passes}
+use Rattle.offering.specs.Offers.{passed, taken_at, held_back, Passes}
 use Rattle.offering.proofs.Offered.{passed_none, passed-skip, walk-brings, not-marked, is-marked}
 
 -- ---- a walk of judged tables

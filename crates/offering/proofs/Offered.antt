@@ -2,18 +2,16 @@
 use mathlib.Core.Path.{◌≡◌, refl, sym, ap, fun_ext, ◌∙◌}
 use mathlib.Core.Logic.{◌≢◌}
 use mathlib.Core.Bool.{Bool, true, false, not, cond, ◌&&◌}
-use mathlib.Core.List.{List}
-use Prim.Native.Nat.{ℕ, suc, ◌+◌, ◌-◌, ◌*◌, ◌≤◌, ◌<◌, min}
+use Prim.Native.Nat.{ℕ, suc, ◌+◌, ◌-◌, ◌≤◌, ◌<◌, min}
 use native.Mathlib.Omega.{arith}
-use native.Mathlib.Nat.{mul-le-mul}
-use lib.Dec.{eqb, leb}
+use lib.Dec.{eqb}
 use borrow.Author.Tests.{eq-eqb, ne_eqb}
 use Rattle.journeys.specs.Counting.{none, least}
-use Rattle.journeys.specs.Tables.{Tables, walk, hop, walk_count, hop_count}
+use Rattle.journeys.specs.Tables.{Tables, walk, hop, walk_count}
 use Rattle.journeys.specs.Query.{Query, allowed, walk_ticks}
-use Rattle.journeys.specs.Records.{Record, walked, ridden, from, to, record_at}
+use Rattle.journeys.specs.Records.{from, to, record_at}
 use Rattle.journeys.specs.Valid.{Valid}
-use Rattle.journeys.proofs.Tests.{Test, same, other, test, never, and-true, cond-true, cond-false, TestLe, fits, over, test_le}
+use Rattle.journeys.proofs.Tests.{Test, same, other, test, and-true, cond-true, cond-false, TestLe, fits, over, test_le}
 use Rattle.journeys.proofs.Counting.{least-none, least-empty}
 use Rattle.journeys.proofs.Document as document
 use Rattle.journeys.proofs.Document.{walk-record, hop-record}

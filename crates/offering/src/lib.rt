@@ -60,11 +60,9 @@ fn pass_walks(
     ensures { Passes (tables vertices.now walks.now hops.now a) (query a) (mode hops.now a) set.now marks.now x d 0 (walk_count (tables vertices.now walks.now hops.now a)) t result table.old table.new }
 {
     let end = records::end_arriving(vertices, Kind::Walks, x, walks.len() / 16);
-    let mut i = records::first_arriving(vertices, Kind::Walks, x);
     let mut q = t;
-    while i < end {
+    for i in records::first_arriving(vertices, Kind::Walks, x)..end {
         q = pass_walk(vertices, walks, hops, a, set, table, q, i, d);
-        i += 1;
     }
     q
 }
@@ -92,6 +90,7 @@ fn pass_hop(
 }
 
 // The marked hops to x.
+// Not one loop with `pass_walks`, which would be no plainer: the two share the range alone, and a turn has another law for each kind.
 fn pass_hops(
     vertices: &[u8],
     walks: &[u8],
@@ -108,11 +107,9 @@ fn pass_hops(
     ensures { Passes (tables vertices.now walks.now hops.now a) (query a) (mode hops.now a) set.now marks.now x d (walk_count (tables vertices.now walks.now hops.now a)) (record_count (tables vertices.now walks.now hops.now a)) t result table.old table.new }
 {
     let end = records::end_arriving(vertices, Kind::Hops, x, hops.len() / a.size);
-    let mut i = records::first_arriving(vertices, Kind::Hops, x);
     let mut q = t;
-    while i < end {
+    for i in records::first_arriving(vertices, Kind::Hops, x)..end {
         q = pass_hop(vertices, walks, hops, a, set, marks, table, q, i);
-        i += 1;
     }
     q
 }

@@ -1,5 +1,7 @@
 -- The road that is asked has small numbers and two ends, and its seeds are what the definitions hold before the first step. Assumes nothing.
-use mathlib.Core.Path.{◌≡◌, sym, ap, ap₂, subst, fun_ext, ◌∙◌}
+use Rattle.std.specs.Prelude.{Option, Some, None, IfSome}
+use Rattle.std.specs.Bool.{then_some}
+use mathlib.Core.Path.{◌≡◌, refl, sym, ap, ap₂, subst, fun_ext, ◌∙◌}
 use mathlib.Core.Logic.{◌⊎◌, inl, inr, ◌≢◌}
 use mathlib.Core.Bool.{Bool, true, false, not, cond, ◌||◌}
 use mathlib.Core.List.{List, []}
@@ -26,7 +28,7 @@ use Rattle.journeys.proofs.Fits.{from-fits, to-fits}
 use Rattle.journeys.proofs.Valid.{GoodWalk, good-walk}
 use Rattle.journeys.specs.Valid.{Valid}
 use Rattle.journeys.proofs.Decoding.{vertex-count, walk-count, walk_at_lem}
-use Rattle.worktable.specs.Map.{known, size}
+use Rattle.worktable.specs.Map.{Map, known, size, empty, put}
 use Rattle.parts.specs.Listing.{road_of}
 use Rattle.parts.specs.declared.Road.{Road}
 use Rattle.parts.proofs.Laws.{past_is}
@@ -36,9 +38,26 @@ use Rattle.heldmap.specs.Directions.{network_in}
 use Rattle.heldmap.specs.Model.{held_map}
 use Rattle.heldmap.proofs.HeldMap.{size-held}
 use Rattle.heldmap.proofs.Directions.{searched}
-use Rattle.opening.specs.Seeds.{seed_map, from_ticks_of, to_ticks_of, at_end, to_is_seed, wait_on, sent_ticks, from_is_seed, RoadFits, PairFits, pair_of, pair_map}
+use Rattle.opening.specs.Seeds.{seed_map, from_ticks_of, to_ticks_of, at_end, to_is_seed, wait_on, sent_ticks, from_is_seed, RoadFits, PairFits, pair_of, pair_map, planted, planted_if, one_or_two, seed_count}
+use Rattle.opening.specs.declared.Seed.{Seed}
+use Rattle.opening.specs.declared.Pair.{Pair}
 use Rattle.opening.proofs.SeedsHeld.{two, two_back, ordinary-seeds, courier-seeds, seeds-held}
 use Rattle.opening.proofs.SeedTable.{size-first}
+
+-- the map of two seeds, of which `o` is one if `t` says so, and how many there are
+module _ (v : List ℕ) (a : Directed) (s o : Seed) where
+  pair-seeds : (t : Bool) → planted_if v a (planted v a empty s) (then_some t o) ≡ seed_map s.vertex (known s.away.0 0 (due_of v a s.vertex)) o.vertex (known o.away.0 0 (due_of v a o.vertex)) t
+  unfolding planted_if seed_map
+  pair-seeds true = refl
+  pair-seeds false = refl
+
+  pair-count : (t : Bool) → one_or_two (then_some t o) ≡ cond t 2 1
+  unfolding one_or_two
+  pair-count true = refl
+  pair-count false = refl
+
+  pair-size : (t : Bool) → s.vertex < 65536 → o.vertex < 65536 → s.vertex ≢ o.vertex → size (planted_if v a (planted v a empty s) (then_some t o)) ≡ one_or_two (then_some t o)
+  pair-size t l k ne = ap size (pair-seeds t) ∙ size-first s.vertex _ _ o.vertex _ _ l k ne t ∙ sym (pair-count t)
 
 module _ (b : Lent) (Q : Query) (ok : Valid (tables b) Q) where
   abbrev N : Tables
@@ -138,10 +157,35 @@ module _ (b : Lent) (Q : Query) (ok : Valid (tables b) Q) where
         back = omega (arith, back-ticks, back_fits N Q ok);
       }
 
+  if-so : {T : Type 0} (t : Bool) (x : T) (P : T → Type 0) → P x → IfSome (then_some t x) P
+  if-so true x P p = p
+  if-so false x P p = tt
+
   pub pair_fits : (c : Bool) → PairFits (length b.vertices / 12) (pair_of c b.walks road)
   unfolding pair_of
-  pair_fits true = record { first = road-ends.1; second = road-ends.0; apart = λ z. road-ends.2 (sym z); near = road-few.on; back = road-few.back }
-  pair_fits false = record { first = road-ends.0; second = road-ends.1; apart = road-ends.2; near = road-few.from; back = road-few.to }
+  pair_fits true =
+      record {
+        sure = record { vertex = road-ends.1; away = road-few.on };
+        other = if-so (from_is_seed road) _ _ (record { vertex = road-ends.0; away = road-few.back }, λ z. road-ends.2 (sym z));
+      }
+  pair_fits false =
+      record {
+        sure = record { vertex = road-ends.0; away = road-few.from };
+        other = if-so (to_is_seed road) _ _ (record { vertex = road-ends.1; away = road-few.to }, road-ends.2);
+      }
+
+  -- the seeds of both directions
+  abbrev to-on : Seed
+  to-on = record { vertex = (walk_at b.walks road.walk).to; away = record { 0 = sent_ticks b.walks road.speed road.back.0 road.walk } }
+
+  abbrev from-back : Seed
+  from-back = record { vertex = (walk_at b.walks road.walk).from; away = record { 0 = sent_ticks b.walks road.speed road.near.0 road.twin } }
+
+  abbrev from-on : Seed
+  from-on = record { vertex = (walk_at b.walks road.walk).from; away = record { 0 = from_ticks_of road } }
+
+  abbrev to-back : Seed
+  to-back = record { vertex = (walk_at b.walks road.walk).to; away = record { 0 = to_ticks_of road } }
 
   same-seeds : {a a' x x' m m' c c' y y' n n' : ℕ} {t t' : Bool} → a ≡ a' → x ≡ x' → m ≡ m' → c ≡ c' → y ≡ y' → n ≡ n' → t ≡ t'
       → seed_map a (known x 0 m) c (known y 0 n) t ≡ seed_map a' (known x' 0 m') c' (known y' 0 n') t'
@@ -158,19 +202,22 @@ module _ (b : Lent) (Q : Query) (ok : Valid (tables b) Q) where
     pub first-held : (c : Bool) → Due c → pair_map b.vertices a (pair_of c b.walks road) ≡ held_map (network_in c N Q) (distance_in [])
     unfolding pair_of
     first-held true due =
-        same-seeds (ap (λ (x : Walk). x.to) (sym asked_is)) on-ticks (due-at true due (λ x. x.to) good.to_low) (ap (λ (x : Walk). x.from) (sym asked_is)) back-ticks (due-at true due (λ x. x.from) good.from_low) from-is-seed-as
+        pair-seeds b.vertices a to-on from-back (from_is_seed road)
+        ∙ same-seeds (ap (λ (x : Walk). x.to) (sym asked_is)) on-ticks (due-at true due (λ x. x.to) good.to_low) (ap (λ (x : Walk). x.from) (sym asked_is)) back-ticks (due-at true due (λ x. x.from) good.from_low) from-is-seed-as
         ∙ fun_ext (λ u. seeds-held (courier.network N Q) _ _ _ _ (two_back N Q ok) (courier-seeds N Q ok) u)
     first-held false due =
-        same-seeds (ap (λ (x : Walk). x.from) (sym asked_is)) from-ticks (due-at false due (λ x. x.from) good.from_low) (ap (λ (x : Walk). x.to) (sym asked_is)) to-ticks (due-at false due (λ x. x.to) good.to_low) to-is-seed-as
+        pair-seeds b.vertices a from-on to-back (to_is_seed road)
+        ∙ same-seeds (ap (λ (x : Walk). x.from) (sym asked_is)) from-ticks (due-at false due (λ x. x.from) good.from_low) (ap (λ (x : Walk). x.to) (sym asked_is)) to-ticks (due-at false due (λ x. x.to) good.to_low) to-is-seed-as
         ∙ fun_ext (λ u. seeds-held (network N Q) _ _ _ _ (two N Q ok) (ordinary-seeds N Q ok) u)
 
     -- there are as many seeds as the definitions hold
-    pub seeds-sized : (c : Bool) → Due c → (l : List Settled) → cond (pair_of c b.walks road).two 2 1 ≡ length (held_for (network_in c N Q) l 0)
-    seeds-sized c due l =
-        let f = pair_fits c in
-        sym (size-first (pair_of c b.walks road).first _ _ (pair_of c b.walks road).second _ _ (omega (arith, f.first, road-small.0)) (omega (arith, f.second, road-small.0)) f.apart (pair_of c b.walks road).two)
-        ∙ ap size (first-held c due)
-        ∙ size-held (network_in c N Q) (distance_in []) (searched c N Q ok).bounded ok.tables.vertices_few
+    pub seeds-sized : (c : Bool) → Due c → (l : List Settled) → seed_count (pair_of c b.walks road) ≡ length (held_for (network_in c N Q) l 0)
+    unfolding pair_of
+    seeds-sized c due l = sym (sized c) ∙ ap size (first-held c due) ∙ size-held (network_in c N Q) (distance_in []) (searched c N Q ok).bounded ok.tables.vertices_few
+      where
+        sized : (c : Bool) → size (pair_map b.vertices a (pair_of c b.walks road)) ≡ seed_count (pair_of c b.walks road)
+        sized true = pair-size b.vertices a to-on from-back (from_is_seed road) (omega (arith, road-ends.1, road-small.0)) (omega (arith, road-ends.0, road-small.0)) (λ z. road-ends.2 (sym z))
+        sized false = pair-size b.vertices a from-on to-back (to_is_seed road) (omega (arith, road-ends.0, road-small.0)) (omega (arith, road-ends.1, road-small.0)) road-ends.2
 
   abbrev pub capacity : ℕ
   capacity = min (length b.held / 16) (min (length b.vertices / 12) 65536)

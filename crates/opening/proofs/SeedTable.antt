@@ -1,5 +1,6 @@
 -- The seeds are entered into the working table. Assumes nothing.
-use mathlib.Core.Path.{◌≡◌, refl, sym, ap, ◌∙◌}
+use Rattle.std.specs.Prelude.{Option, Some, None, IfSome}
+use mathlib.Core.Path.{◌≡◌, refl, sym, ap, subst, ◌∙◌}
 use mathlib.Core.Logic.{inl, ◌≢◌}
 use mathlib.Core.Bool.{Bool, true, false, cond}
 use mathlib.Core.List.{List}
@@ -9,8 +10,11 @@ use Rattle.worktable.specs.Map.{Entry, absent, known, Map, empty, put, remaining
 use Rattle.worktable.specs.Table.{map_of, InOrder, Holds, Gives}
 use Rattle.worktable.specs.declared.Table.{Table}
 use Rattle.worktable.proofs.MapLaws.{put_other, size-put}
-use Rattle.opening.specs.Seeds.{seed_map, SeededIs}
-use Rattle.opening.specs.declared.Seeded.TheVariants.{At, NoRoom}
+use Rattle.directed.specs.Directed.{due_of}
+use Rattle.directed.specs.declared.Directed.{Directed}
+use Rattle.opening.specs.Seeds.{seed_map, SeedFits, PairFits, planted_if, one_or_two, SeededIs}
+use Rattle.opening.specs.declared.Seed.{Seed}
+use Rattle.opening.specs.declared.Pair.{Pair}
 
 -- ---- the seeds
 size-empty : (n : ℕ) → size_to n empty ≡ 0
@@ -40,6 +44,10 @@ pub after_first : (t r : Table) (b b1 : List ℕ) (u d n n' : ℕ) → n ≡ n' 
 after_first t r b b1 u d n n' q h g =
     record { order = g.holds.order; map = g.holds.map ∙ ap (λ (m : Map). put m u (known d 0 n)) h.map ∙ ap (λ (k : ℕ). put empty u (known d 0 k)) q }
 
+-- what the other seed has to be, if there is one
+pub other-fits : (n : ℕ) (p : Pair) {s : Seed} → PairFits n p → p.other ≡ Some s → SeedFits n s × (p.sure.vertex ≢ s.vertex)
+other-fits n p f e = subst (λ (o : Option Seed). IfSome o (λ s. SeedFits n s × (p.sure.vertex ≢ s.vertex))) e f.other
+
 pub second-seed : (r : Table) (b : List ℕ) (from x s k u d n : ℕ) → Holds r b (put empty from (known x s k)) → from < 65536 → from ≢ u → 2 ≤ r.room → u < 65536 → d ≤ 112000 → n < remaining_limit
     → InOrder r b × (u < 65536) × Figure d × (n < remaining_limit) × (map_of r b u ≡ absent) × (size (map_of r b) < r.room)
 unfolding empty
@@ -52,25 +60,26 @@ second-seed r b from x s k u d n h fl ne cap ul dl nl = (
   rw h.map (omega (arith, size-one from (known x s k) fl (one_known x s k))),
 )
 
-module _ (from : ℕ) (x : Entry) (to : ℕ) (y : Entry) (c : ℕ) where
-  pub seeded-none : (b : List ℕ) (two : Bool) → c < 1 → SeededIs b c (seed_map from x to y two) (cond two 2 1) NoRoom
-  unfolding SeededIs
-  seeded-none b true l = omega arith
-  seeded-none b false l = l
+module _ (v : List ℕ) (a : Directed) (m : Map) (c : ℕ) where
+  pub seeded-none : (b : List ℕ) (o : Option Seed) → c < 1 → SeededIs b c (planted_if v a m o) (one_or_two o) None
+  unfolding SeededIs one_or_two
+  seeded-none b (Some s) l = omega arith
+  seeded-none b None l = l
 
-  pub seeded-one : (r : Table) (b : List ℕ) (two : Bool) → two ≡ false → Holds r b (put empty from x) → r.room ≡ c → 1 ≤ c → SeededIs b c (seed_map from x to y two) (cond two 2 1) (At r)
-  unfolding SeededIs seed_map
-  seeded-one r b two e h q l = rw e (h, q, l)
+  pub seeded-one : (r : Table) (b : List ℕ) (o : Option Seed) → o ≡ None → Holds r b m → r.room ≡ c → 1 ≤ c → SeededIs b c (planted_if v a m o) (one_or_two o) (Some r)
+  unfolding SeededIs planted_if one_or_two
+  seeded-one r b o e h q l = rw e (h, q, l)
 
-  pub seeded-few : (b : List ℕ) (two : Bool) → two ≡ true → c < 2 → SeededIs b c (seed_map from x to y two) (cond two 2 1) NoRoom
-  unfolding SeededIs
-  seeded-few b two e l = rw e l
+  pub seeded-few : (b : List ℕ) (o : Option Seed) {s : Seed} → o ≡ Some s → c < 2 → SeededIs b c (planted_if v a m o) (one_or_two o) None
+  unfolding SeededIs one_or_two
+  seeded-few b o e l = rw e l
 
-  pub seeded-two : (r p : Table) (b b2 : List ℕ) (two : Bool) (z : Entry) → z ≡ y → two ≡ true → Holds r b (put empty from x) → Gives r p b b2 (put (map_of r b) to z) → r.room ≡ c → 2 ≤ c
-      → SeededIs b2 c (seed_map from x to y two) (cond two 2 1) (At p)
-  unfolding SeededIs seed_map
-  seeded-two r p b b2 two z k e h g q l =
-      rw e (record { order = g.holds.order; map = g.holds.map ∙ ap (λ (m : Map). put m to z) h.map ∙ ap (put (put empty from x) to) k }, g.room ∙ q, l)
+  pub seeded-two : (r p : Table) (b b2 : List ℕ) (o : Option Seed) {s : Seed} (n : ℕ) → n ≡ due_of v a s.vertex → o ≡ Some s → Holds r b m → Gives r p b b2 (put (map_of r b) s.vertex (known s.away.0 0 n))
+      → r.room ≡ c → 2 ≤ c → SeededIs b2 c (planted_if v a m o) (one_or_two o) (Some p)
+  unfolding SeededIs planted_if one_or_two
+  seeded-two r p b b2 o {s} n k e h g q l =
+      rw e
+      (record { order = g.holds.order; map = g.holds.map ∙ ap (λ (x : Map). put x s.vertex (known s.away.0 0 n)) h.map ∙ ap (λ (x : ℕ). put m s.vertex (known s.away.0 0 x)) k }, g.room ∙ q, l)
 
 -- there are one or two of them
 pub size-first : (from d n to e k : ℕ) → from < 65536 → to < 65536 → from ≢ to → (two : Bool) → size (seed_map from (known d 0 n) to (known e 0 k) two) ≡ cond two 2 1
@@ -80,6 +89,3 @@ size-first from d n to e k a b ne true =
     let m = put empty from (known d 0 n) in
     let gone : one (m to) ≡ 0 = ap one (put_other empty from (known d 0 n) to (λ z. ne (sym z))) in
     omega (arith, size-put 65536 m to (known e 0 k) b, size-one from (known d 0 n) a (one_known d 0 n), one_known e 0 k, gone)
-
-pub known_same : (d n n' : ℕ) → n ≡ n' → known d 0 n ≡ known d 0 n'
-known_same d n n' e = ap (λ (k : ℕ). known d 0 k) e

@@ -1,20 +1,21 @@
 -- The seeds in the working table, and step 0. Assumes nothing.
-use Rattle.std.specs.Prelude.{◌≡◌, ◌≢◌, Bool, not, cond, ◌||◌, List, ℕ, ◌+◌, ◌*◌, ◌/◌, ◌<◌, ◌≤◌, eqb, ltb, length}
+use Rattle.std.specs.Prelude.{◌≡◌, ◌≢◌, Bool, not, cond, ◌||◌, List, ℕ, Option, Some, None, IfSome, Result, Ok, Err, ◌+◌, ◌*◌, ◌/◌, ◌<◌, ◌≤◌, eqb, ltb, length}
+use Rattle.std.specs.Bool.{then_some}
 use Rattle.journeys.specs.Counting.{none}
 use Rattle.journeys.specs.Tables.{walk_at}
+use Rattle.words.specs.Told.{number_of}
+use Rattle.words.specs.declared.Refusal.{Refusal}
 use Rattle.words.specs.declared.Seconds.{Seconds}
 use Rattle.words.specs.declared.Ticks.{Ticks}
 use Rattle.directed.specs.Directed.{due_of}
 use Rattle.directed.specs.declared.Directed.{Directed}
+use Rattle.opening.specs.declared.Seed.{Seed}
 use Rattle.opening.specs.declared.Pair.{Pair}
 use Rattle.worktable.specs.Map.{Entry, known, Map, empty, put}
 use Rattle.worktable.specs.Table.{Holds}
+use Rattle.worktable.specs.declared.Table.{Table}
 use Rattle.parts.specs.declared.Road.{Road}
 use Rattle.stepping.specs.declared.Progress.{Progress}
-use Rattle.stepping.specs.declared.Stepped.{Stepped}
-use Rattle.stepping.specs.declared.Stepped.TheVariants.{Next, Full}
-use Rattle.opening.specs.declared.Seeded.{Seeded}
-use Rattle.opening.specs.declared.Seeded.TheVariants.{At, NoRoom}
 
 -- the seeds: the entry of "from", and that of "to" if it is one
 unfoldable pub seed_map : ℕ → Entry → ℕ → Entry → Bool → Map
@@ -59,35 +60,47 @@ pub record RoadFits (w : List ℕ) (e : Road) : Type 0 where
   pub back : sent_ticks w e.speed e.near.0 e.twin ≤ 112000
 
 -- the seeds are two vertices of n, and their ticks are few
+pub record SeedFits (n : ℕ) (s : Seed) : Type 0 where
+  pub vertex : s.vertex < n
+  pub away : s.away.0 ≤ 112000
+
 pub record PairFits (n : ℕ) (p : Pair) : Type 0 where
-  pub first : p.first < n
-  pub second : p.second < n
-  pub apart : p.first ≢ p.second
-  pub near : p.near.0 ≤ 112000
-  pub back : p.back.0 ≤ 112000
+  pub sure : SeedFits n p.sure
+  pub other : IfSome p.other (λ s. SeedFits n s × (p.sure.vertex ≢ s.vertex))
 
 -- the seeds of the road: "from" is sure, and for the courier "to"
 unfoldable pub pair_of : Bool → List ℕ → Road → Pair
 pair_of c w e =
     cond c
     (record {
-      first = (walk_at w e.walk).to;
-      near = record { 0 = sent_ticks w e.speed e.back.0 e.walk };
-      second = (walk_at w e.walk).from;
-      back = record { 0 = sent_ticks w e.speed e.near.0 e.twin };
-      two = from_is_seed e;
+      sure = record { vertex = (walk_at w e.walk).to; away = record { 0 = sent_ticks w e.speed e.back.0 e.walk } };
+      other = then_some (from_is_seed e) (record { vertex = (walk_at w e.walk).from; away = record { 0 = sent_ticks w e.speed e.near.0 e.twin } });
     })
     (record {
-      first = (walk_at w e.walk).from;
-      near = record { 0 = from_ticks_of e };
-      second = (walk_at w e.walk).to;
-      back = record { 0 = to_ticks_of e };
-      two = to_is_seed e;
+      sure = record { vertex = (walk_at w e.walk).from; away = record { 0 = from_ticks_of e } };
+      other = then_some (to_is_seed e) (record { vertex = (walk_at w e.walk).to; away = record { 0 = to_ticks_of e } });
     })
 
--- their map, where `a` tells what is due to a vertex
+-- the map m with a seed, where `a` tells what is due to a vertex
+abbrev pub planted : List ℕ → Directed → Map → Seed → Map
+planted v a m s = put m s.vertex (known s.away.0 0 (due_of v a s.vertex))
+
+-- and with another, if there is one
+unfoldable pub planted_if : List ℕ → Directed → Map → Option Seed → Map
+planted_if v a m None = m
+planted_if v a m (Some s) = planted v a m s
+
+-- their map
 abbrev pub pair_map : List ℕ → Directed → Pair → Map
-pair_map v a p = seed_map p.first (known p.near.0 0 (due_of v a p.first)) p.second (known p.back.0 0 (due_of v a p.second)) p.two
+pair_map v a p = planted_if v a (planted v a empty p.sure) p.other
+
+-- how many there are
+unfoldable pub one_or_two : Option Seed → ℕ
+one_or_two None = 1
+one_or_two (Some s) = 2
+
+abbrev pub seed_count : Pair → ℕ
+seed_count p = one_or_two p.other
 
 -- a row without records, over these tables
 abbrev pub no_records : Bool → ℕ → List ℕ → List ℕ → Seconds → ℕ → Ticks → Directed
@@ -100,9 +113,9 @@ no_records c size w h A speed D =
     }
 
 -- the table holds the seeds; or it has fewer slots than there are seeds
-unfoldable pub SeededIs : List ℕ → ℕ → Map → ℕ → Seeded → Type 0
-SeededIs b capacity m seeds (At t) = Holds t b m × (t.room ≡ capacity) × (seeds ≤ capacity)
-SeededIs b capacity m seeds NoRoom = capacity < seeds
+unfoldable pub SeededIs : List ℕ → ℕ → Map → ℕ → Option Table → Type 0
+SeededIs b capacity m seeds (Some t) = Holds t b m × (t.room ≡ capacity) × (seeds ≤ capacity)
+SeededIs b capacity m seeds None = capacity < seeds
 
 -- Step 0: m is the map of the seeds, of which there are so many.
 pub record Opens (capacity : ℕ) (m : Map) (seeds : ℕ) (held' : List ℕ) (p : Progress) : Type 0 where
@@ -115,6 +128,6 @@ pub record Opens (capacity : ℕ) (m : Map) (seeds : ℕ) (held' : List ℕ) (p 
 abbrev pub Shut : ℕ → ℕ → ℕ → Type 0
 Shut capacity seeds n = (n ≡ 8) × (capacity < seeds)
 
-unfoldable pub OpenIs : ℕ → Map → ℕ → List ℕ → Stepped → Type 0
-OpenIs capacity m seeds held' (Next p) = Opens capacity m seeds held' p
-OpenIs capacity m seeds held' (Full n) = Shut capacity seeds n
+unfoldable pub OpenIs : ℕ → Map → ℕ → List ℕ → Result Progress Refusal → Type 0
+OpenIs capacity m seeds held' (Ok p) = Opens capacity m seeds held' p
+OpenIs capacity m seeds held' (Err r) = Shut capacity seeds (number_of r.reason) × (r.place ≡ 0)

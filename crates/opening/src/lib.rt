@@ -3,56 +3,64 @@
 // Rests on: the working table (`worktable`), the query's road (`parts`), what is due to a vertex (`directed`), the readers of `records`.
 #![tactic(auto)]
 
-ghost use Rattle.std.specs.Prelude.{◌≡◌, cond, ◌/◌, ◌%◌, ◌<◌, ◌≤◌, min, length};
-ghost use Rattle.opening.specs.Seeds.{from_ticks_of, to_ticks_of, at_end, to_is_seed, wait_on, sent_ticks, from_is_seed, RoadFits, PairFits, pair_of, pair_map, no_records, SeededIs, OpenIs};
+ghost use Rattle.std.specs.Prelude.{◌≡◌, ◌/◌, ◌%◌, ◌<◌, ◌≤◌, min, length};
+ghost use Rattle.opening.specs.Seeds.{from_ticks_of, to_ticks_of, at_end, to_is_seed, wait_on, sent_ticks, from_is_seed, RoadFits, PairFits, pair_of, pair_map, seed_count, no_records, SeededIs, OpenIs};
 
 use directed::{Directed, due_at};
 use parts::Road;
 use passing::Arriving;
 use records::{Query, wait_ticks};
-use stepping::{Progress, Stepped};
-use words::{Offset, Ticks, walked, word_at};
+use stepping::Progress;
+use words::{Offset, Reason, Refusal, Ticks, walked, word_at};
 use worktable::Table;
 
-// The table with the seeds in it, or that it has too few slots.
+// A vertex at which the search starts, and the ticks that it is away.
 #[derive(Clone, Copy)]
-enum Seeded {
-    At(Table),
-    NoRoom,
+struct Seed {
+    vertex: u32,
+    away: Ticks,
 }
 
-// The two seeds of a road: one that is sure, and another, which is one too if `two` says so; and the ticks of both.
+// The seeds of a road: one that is sure, and another where it is one.
 #[derive(Clone, Copy)]
 struct Pair {
-    first: u32,
-    near: Ticks,
-    second: u32,
-    back: Ticks,
-    two: bool,
+    sure: Seed,
+    other: Option<Seed>,
 }
 
-// Before the first step: the sure seed, and the other where it is one. What is due to a vertex is what the direction of the row says.
-fn seeds(held: &mut [u8], vertices: &[u8], pair: Pair, row: Directed) -> Seeded
+// Before the first step: the sure seed, and the other where it is one; or the table has too few slots. What is due to a vertex is what the direction of the row says.
+fn seeds(held: &mut [u8], vertices: &[u8], pair: Pair, row: Directed) -> Option<Table>
     requires held_len { (length held.old % 16 ≡ 0) × (length vertices.now / 12 ≤ 65536) }
     requires pair_fits { PairFits (length vertices.now / 12) pair }
-    ensures { SeededIs held.new (min (length held.old / 16) (min (length vertices.now / 12) 65536)) (pair_map vertices.now row pair) (cond pair.two 2 1) result }
+    ensures { SeededIs held.new (min (length held.old / 16) (min (length vertices.now / 12) 65536)) (pair_map vertices.now row pair) (seed_count pair) result }
 {
     let empty = worktable::start(held, vertices.len() / 12);
     if worktable::room(empty) < 1 {
-        return Seeded::NoRoom;
+        return None;
     }
-    let first = pair.first as usize;
-    let near = pair.near;
-    let one = worktable::insert(held, empty, first, near.0, due_at(vertices, row, first));
-    if !pair.two {
-        return Seeded::At(one);
-    }
+    let sure = pair.sure;
+    let first = sure.vertex as usize;
+    let one = worktable::insert(
+        held,
+        empty,
+        first,
+        sure.away.0,
+        due_at(vertices, row, first),
+    );
+    let Some(other) = pair.other else {
+        return Some(one);
+    };
     if worktable::room(one) < 2 {
-        return Seeded::NoRoom;
+        return None;
     }
-    let second = pair.second as usize;
-    let back = pair.back;
-    Seeded::At(worktable::insert(held, one, second, back.0, due_at(vertices, row, second)))
+    let second = other.vertex as usize;
+    Some(worktable::insert(
+        held,
+        one,
+        second,
+        other.away.0,
+        due_at(vertices, row, second),
+    ))
 }
 
 // The ticks of the two seeds: what it takes to the query place, from "from" of its road and from "to" along the twin, the wait that the place is past
@@ -129,19 +137,25 @@ fn pair_of(walks: &[u8], e: Road, courier: bool) -> Pair
     let w = records::walk_at(walks, e.walk as usize);
     if courier {
         return Pair {
-            first: w.to,
-            near: sent_ticks(walks, e.back, e.walk, e.speed),
-            second: w.from,
-            back: sent_ticks(walks, e.near, e.twin, e.speed),
-            two: from_is_seed(e),
+            sure: Seed {
+                vertex: w.to,
+                away: sent_ticks(walks, e.back, e.walk, e.speed),
+            },
+            other: from_is_seed(e).then_some(Seed {
+                vertex: w.from,
+                away: sent_ticks(walks, e.near, e.twin, e.speed),
+            }),
         };
     }
     Pair {
-        first: w.from,
-        near: from_ticks(e),
-        second: w.to,
-        back: to_ticks(e),
-        two: to_is_seed(e),
+        sure: Seed {
+            vertex: w.from,
+            away: from_ticks(e),
+        },
+        other: to_is_seed(e).then_some(Seed {
+            vertex: w.to,
+            away: to_ticks(e),
+        }),
     }
 }
 
@@ -175,17 +189,21 @@ pub fn no_records(
 }
 
 // Step 0: the seeds in the table, or that it has no room for them.
-pub fn begin(vertices: &[u8], walks: &[u8], held: &mut [u8], road: Road, row: Directed) -> Stepped
+pub fn begin(
+    vertices: &[u8],
+    walks: &[u8],
+    held: &mut [u8],
+    road: Road,
+    row: Directed,
+) -> Result<Progress, Refusal>
     requires held_len { (length held.old % 16 ≡ 0) × (length vertices.now / 12 ≤ 65536) × RoadFits walks.now road }
     requires pair_fits { PairFits (length vertices.now / 12) (pair_of row.courier walks.now road) }
-    ensures { OpenIs (min (length held.old / 16) (min (length vertices.now / 12) 65536)) (pair_map vertices.now row (pair_of row.courier walks.now road)) (cond (pair_of row.courier walks.now road).two 2 1) held.new result }
+    ensures { OpenIs (min (length held.old / 16) (min (length vertices.now / 12) 65536)) (pair_map vertices.now row (pair_of row.courier walks.now road)) (seed_count (pair_of row.courier walks.now road)) held.new result }
 {
     let pair = pair_of(walks, road, row.courier);
-    let Seeded::At(table) = seeds(held, vertices, pair, row) else {
-        return Stepped::Full(8);
-    };
-    Stepped::Next(Progress {
-        table: table,
-        settled: 0,
-    })
+    let table = seeds(held, vertices, pair, row).ok_or(Refusal {
+        reason: Reason::HeldRoom,
+        place: 0,
+    })?;
+    Ok(Progress { table, settled: 0 })
 }

@@ -1,15 +1,14 @@
 -- What is asked of stops that are read is what the definitions ask. Assumes nothing.
-use mathlib.Core.Path.{◌≡◌, refl, sym, ap, ap₂, ◌∙◌}
+use mathlib.Core.Path.{◌≡◌, refl, sym, ap, ◌∙◌}
 use mathlib.Core.Logic.{◌⊎◌, inl, inr}
-use mathlib.Core.Bool.{Bool, true, false, not, cond, ◌&&◌, ◌||◌}
+use mathlib.Core.Bool.{Bool, true, false, not, ◌&&◌}
 use mathlib.Core.List.{List}
-use Prim.Native.Nat.{ℕ, zero, suc, ◌+◌, ◌≤◌, ◌<◌, min}
+use Prim.Native.Nat.{ℕ, ◌+◌, ◌≤◌, ◌<◌}
 use native.Mathlib.Omega.{arith}
 use native.Mathlib.Numerals.{add-one}
 use lib.Dec.{eqb, ltb}
 use lib.ListN.{length}
-use borrow.Author.Tests.{eq-eqb, ne_eqb, lt-ltb, le-ltb}
-use Rattle.journeys.specs.Counting.{none}
+use borrow.Author.Tests.{ne_eqb, lt-ltb, le-ltb}
 use Rattle.journeys.specs.Refusals.{Refusal, fine, unless}
 use Rattle.journeys.proofs.Tests.{last-or-below}
 use Rattle.journeys.proofs.Refusals.{unless-good, unless-bad, from-none, from_first}
@@ -17,8 +16,7 @@ use Rattle.feed.specs.Lines.{place}
 use Rattle.feed.specs.Stops.{Stop}
 use Rattle.feed.specs.Trips.{stop, some, earlier, between, next, repeats, once, too_soon, in_time, first_bad_stop}
 use Rattle.succession.proofs.SomeLaws.{some_at}
-use Rattle.relabelled.proofs.AlikeLaws.{some_same}
-use Rattle.pairwise.specs.Asked.{sooner, asked, good_by}
+use Rattle.pairwise.specs.Asked.{sooner, good_by}
 
 -- ---- a search that found nothing so far
 pub some-start : (f : ℕ → Bool) → some f 0 ≡ false
@@ -32,31 +30,14 @@ some_more f k e q = rw (add-one k) (rw (e, q) refl)
 pub some-found : (f : ℕ → Bool) (n k : ℕ) → k < n → f k ≡ true → true ≡ some f n
 some-found f n k h e = sym (some_at f n k h e)
 
--- ---- the four questions
-module _ (a b k : Stop) where
-  pub asked-zero : {q : ℕ} → q ≡ 0 → {r : Bool} → r ≡ asked 0 a b k → r ≡ asked q a b k
-  asked-zero e h = h ∙ ap (λ (x : ℕ). asked x a b k) (sym e)
-
-  pub asked-one : {q : ℕ} → q ≡ 1 → {r : Bool} → r ≡ sooner k a → r ≡ asked q a b k
-  unfolding asked
-  asked-one e h = rw e h
-
-  pub asked-two : {q : ℕ} → q ≡ 2 → {r : Bool} → r ≡ sooner a k → r ≡ asked q a b k
-  unfolding asked
-  asked-two e h = rw e h
-
-  pub asked-else : {q : ℕ} → (q ≡ 0 → ⊥) → (q ≡ 1 → ⊥) → (q ≡ 2 → ⊥) → {r : Bool} → r ≡ (eqb k.trip a.trip && eqb k.sequence a.sequence) → r ≡ asked q a b k
-  unfolding asked
-  asked-else {q} x y z h = rw (ne_eqb q 0 x, ne_eqb q 1 y, ne_eqb q 2 z) h
-
 module _ (S : List Stop) where
   -- p and i are read as a and b
   module _ (p i : ℕ) {a b : Stop} (s : a ≡ stop S p) (t : b ≡ stop S i) where
-    pub next-told : {n : ℕ} {r : Bool} → n ≡ length S → (a.timed && b.timed && sooner a b) ≡ true → r ≡ some (λ k. asked 0 a b (stop S k)) n → not r ≡ next S p i
-    unfolding next between earlier asked sooner
+    pub next-told : {n : ℕ} {r : Bool} → n ≡ length S → (a.timed && b.timed && sooner a b) ≡ true → r ≡ some (λ k. (stop S k).timed && sooner a (stop S k) && sooner (stop S k) b) n → not r ≡ next S p i
+    unfolding next between earlier sooner
     next-told {n} {r} l e h =
         let f : ((stop S p).timed && (stop S i).timed && (eqb (stop S p).trip (stop S i).trip && ltb (stop S p).sequence (stop S i).sequence)) ≡ true = rw (← s, ← t) e in
-        let g : some (λ k. asked 0 a b (stop S k)) n ≡ some (between S p i) (length S) = rw (l, s, t) refl in
+        let g : some (λ k. (stop S k).timed && sooner a (stop S k) && sooner (stop S k) b) n ≡ some (between S p i) (length S) = rw (l, s, t) refl in
         rw f (ap not (h ∙ g))
 
     pub next-none : (a.timed && b.timed && sooner a b) ≡ false → false ≡ next S p i
@@ -86,9 +67,9 @@ module _ (S : List Stop) where
         and_none false = refl
 
   module _ (i : ℕ) {h : Stop} (s : h ≡ stop S i) where
-    pub once-told : {r : Bool} → r ≡ some (λ k. asked 3 h h (stop S k)) i → not r ≡ once S i
-    unfolding once repeats asked
-    once-told e = let g : some (λ k. asked 3 h h (stop S k)) i ≡ some (repeats S i) i = rw s refl in ap not (e ∙ g)
+    pub once-told : {r : Bool} → r ≡ some (λ k. eqb (stop S k).trip h.trip && eqb (stop S k).sequence h.sequence) i → not r ≡ once S i
+    unfolding once repeats
+    once-told e = let g : some (λ k. eqb (stop S k).trip h.trip && eqb (stop S k).sequence h.sequence) i ≡ some (repeats S i) i = rw s refl in ap not (e ∙ g)
 
     timed-is : {b : Bool} → h.timed ≡ b → (stop S i).timed ≡ b
     timed-is t = ap (λ (x : Stop). x.timed) (sym s) ∙ t
@@ -105,19 +86,19 @@ module _ (S : List Stop) where
       unfolding in_time
       time-told t e q = let g : some (too_soon S i) n ≡ some (too_soon S i) (length S) = ap (some (too_soon S i)) l in rw (timed-is t, order_is (le-ltb h.departure h.arrival e)) (ap not (q ∙ g))
 
-      before-is : some (λ k. asked 1 h h (stop S k)) n ≡ some (λ p. earlier S p i) (length S)
-      unfolding asked sooner earlier
+      before-is : some (λ k. sooner (stop S k) h) n ≡ some (λ p. earlier S p i) (length S)
+      unfolding sooner earlier
       before-is = rw (l, s) refl
 
-      behind-is : some (λ k. asked 2 h h (stop S k)) n ≡ some (earlier S i) (length S)
-      unfolding asked sooner earlier
+      behind-is : some (λ k. sooner h (stop S k)) n ≡ some (earlier S i) (length S)
+      unfolding sooner earlier
       behind-is = rw (l, s) refl
 
-      pub untimed-told : h.timed ≡ false → {x r : Bool} → x ≡ some (λ k. asked 1 h h (stop S k)) n → x ≡ true → r ≡ some (λ k. asked 2 h h (stop S k)) n → r ≡ in_time S i
+      pub untimed-told : h.timed ≡ false → {x r : Bool} → x ≡ some (λ k. sooner (stop S k) h) n → x ≡ true → r ≡ some (λ k. sooner h (stop S k)) n → r ≡ in_time S i
       unfolding in_time
       untimed-told t p q e = rw (timed-is t, sym before-is ∙ sym p ∙ q) (e ∙ behind-is)
 
-      pub untimed-none : h.timed ≡ false → {x : Bool} → x ≡ some (λ k. asked 1 h h (stop S k)) n → x ≡ false → false ≡ in_time S i
+      pub untimed-none : h.timed ≡ false → {x : Bool} → x ≡ some (λ k. sooner (stop S k) h) n → x ≡ false → false ≡ in_time S i
       unfolding in_time
       untimed-none t p q = rw (timed-is t, sym before-is ∙ sym p ∙ q) refl
 
@@ -147,11 +128,3 @@ module _ (S : List Stop) where
     pub bad-nowhere : ((j : ℕ) → j < length S → good j ≡ true) → fine ≡ first_bad_stop S q good
     unfolding first_bad_stop
     bad-nowhere f = sym (from-none (λ i. unless (good i) q (place (stop S i).line)) (length S) 0 (λ k a l. ap (λ (r : Refusal). r.number) (unless-good (good k) q (place (stop S k).line) (f k (omega (arith, l))))))
-
-pub place-low : (x : ℕ) → x < 4294967295 → x ≡ place x
-unfolding place
-place-low x h = omega arith
-
-pub place-high : (x : ℕ) → 4294967295 ≤ x → 4294967295 ≡ place x
-unfolding place
-place-high x h = omega arith

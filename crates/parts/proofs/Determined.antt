@@ -5,8 +5,7 @@ use Prim.Native.Nat.{ℕ}
 use native.Mathlib.Omega.{arith}
 use Rattle.journeys.specs.Parts.{Part}
 use Rattle.parts.specs.Listing.{ListedIs}
-use Rattle.parts.specs.declared.Listed.{Listed}
-use Rattle.parts.specs.declared.Listed.TheVariants.{Fits, NoRoom}
+use Rattle.std.specs.Prelude.{Option, Some, None}
 use Rattle.parts.proofs.read_road.Reads as read-road
 use Rattle.parts.proofs.list_first.Reads as list-first
 use Rattle.parts.proofs.list_arriving.Reads as list-arriving
@@ -14,15 +13,15 @@ use Rattle.parts.proofs.list_ahead.Reads as list-ahead
 use Rattle.parts.proofs.list_departing.Reads as list-departing
 
 -- How many are listed, or that there is no room, follows from what is there and what is to be listed.
-listed-one : (count : ℕ) (ps : List Part) (b c d : List ℕ) (x y : Listed) → ListedIs count ps b c x → ListedIs count ps b d y → x ≡ y
+listed-one : (count : ℕ) (ps : List Part) (b c d : List ℕ) (x y : Option ℕ) → ListedIs count ps b c x → ListedIs count ps b d y → x ≡ y
 unfolding ListedIs
-listed-one count ps b c d (Fits r) (Fits q) h k = ap Fits (h.counted ∙ sym k.counted)
-listed-one count ps b c d (Fits r) NoRoom h k = absurd (omega (arith, h.counted, h.room, k.over))
-listed-one count ps b c d NoRoom (Fits q) h k = absurd (omega (arith, k.counted, k.room, h.over))
-listed-one count ps b c d NoRoom NoRoom h k = refl
+listed-one count ps b c d (Some r) (Some q) h k = ap Some (h.counted ∙ sym k.counted)
+listed-one count ps b c d (Some r) None h k = absurd (omega (arith, h.counted, h.room, k.over))
+listed-one count ps b c d None (Some q) h k = absurd (omega (arith, k.counted, k.room, h.over))
+listed-one count ps b c d None None h k = refl
 
 -- the bytes where all fit
-pub bytes_one : (count : ℕ) (ps : List Part) (b c d : List ℕ) (r q : ℕ) → ListedIs count ps b c (Fits r) → ListedIs count ps b d (Fits q) → c ≡ d
+pub bytes_one : (count : ℕ) (ps : List Part) (b c d : List ℕ) (r q : ℕ) → ListedIs count ps b c (Some r) → ListedIs count ps b d (Some q) → c ≡ d
 unfolding ListedIs
 bytes_one count ps b c d r q h k = h.bytes ∙ sym k.bytes
 

@@ -25,8 +25,7 @@ use Rattle.records.specs.declared.Walk as read
 use Rattle.records.proofs.RecordBytes.{length_part}
 use Rattle.words.proofs.Written.{length-written, written_next}
 use Rattle.parts.specs.Listing.{Behind, Overfull, ListedIs, past_on, road_of, near_on, pair_on, part_on, run_on, reach_on, ahead_on}
-use Rattle.parts.specs.declared.Listed.{Listed}
-use Rattle.parts.specs.declared.Listed.TheVariants.{Fits, NoRoom}
+use Rattle.std.specs.Prelude.{Option, Some, None}
 use Rattle.parts.specs.declared.Road.{Road}
 
 -- a part, or none
@@ -82,39 +81,39 @@ near_none e i n m = rw (ne_eqb i e.walk n, ne_eqb i e.twin m)
 
 -- ---- what listing one part answers
 module _ (count i a z : ℕ) (b : List ℕ) (h : count ≤ length b / 12) where
-  pub listed-none : a ≡ z → ListedIs count (part i a z) b b (Fits count)
+  pub listed-none : a ≡ z → ListedIs count (part i a z) b b (Some count)
   unfolding ListedIs
   listed-none e = rw (part_none i a z e) (behind-none count b h)
 
-  pub listed-full : (a ≡ z → ⊥) → count ≡ length b / 12 → ListedIs count (part i a z) b b NoRoom
+  pub listed-full : (a ≡ z → ⊥) → count ≡ length b / 12 → ListedIs count (part i a z) b b None
   unfolding ListedIs
   listed-full n e = rw (part-some i a z n) (record { over = omega arith; same = refl })
 
-  pub listed-one : (b' : List ℕ) → (a ≡ z → ⊥) → (count ≡ length b / 12 → ⊥) → b' ≡ written b (12 * count) (part_bytes (part_of i a z)) → ListedIs count (part i a z) b b' (Fits (count + 1))
+  pub listed-one : (b' : List ℕ) → (a ≡ z → ⊥) → (count ≡ length b / 12 → ⊥) → b' ≡ written b (12 * count) (part_bytes (part_of i a z)) → ListedIs count (part i a z) b b' (Some (count + 1))
   unfolding ListedIs flat_map
   listed-one b' n m e =
       rw (part-some i a z n)
       (record { counted = omega arith; room = omega arith; bytes = e ∙ ap (written b (12 * count)) (sym (append-nil (part_bytes (part_of i a z)))) })
 
 -- ---- one list behind another
-pub listed-over : (count : ℕ) (ps qs : List Part) (b b' : List ℕ) → ListedIs count ps b b' NoRoom → ListedIs count (ps ++ qs) b b' NoRoom
+pub listed-over : (count : ℕ) (ps qs : List Part) (b b' : List ℕ) → ListedIs count ps b b' None → ListedIs count (ps ++ qs) b b' None
 unfolding ListedIs
 listed-over count ps qs b b' x = over-later qs x
 
 module _ (count : ℕ) (ps : List Part) (b b' : List ℕ) (h : count ≤ length b / 12) where
-  pub listed_more : (c : ℕ) (qs : List Part) (b'' : List ℕ) (r : Listed) → ListedIs count ps b b' (Fits c) → ListedIs c qs b' b'' r → ListedIs count (ps ++ qs) b b'' r
+  pub listed_more : (c : ℕ) (qs : List Part) (b'' : List ℕ) (r : Option ℕ) → ListedIs count ps b b' (Some c) → ListedIs c qs b' b'' r → ListedIs count (ps ++ qs) b b'' r
   unfolding ListedIs
-  listed_more c qs b'' (Fits c') x y = behind_more h x y
-  listed_more c qs b'' NoRoom x y = over-more h x y
+  listed_more c qs b'' (Some c') x y = behind_more h x y
+  listed_more c qs b'' None x y = over-more h x y
 
-  pub listed-room : (c : ℕ) → ListedIs count ps b b' (Fits c) → c ≤ length b' / 12
+  pub listed-room : (c : ℕ) → ListedIs count ps b b' (Some c) → c ≤ length b' / 12
   unfolding ListedIs
   listed-room c x =
       let fit : 12 * count + length (flat_map part_bytes ps) ≤ length b = omega (arith, flat-length part_bytes 12 length_part ps, x.counted, x.room) in
       subst (λ (k : ℕ). c ≤ k / 12) (sym (ap length x.bytes ∙ length-written b (12 * count) (flat_map part_bytes ps) fit)) x.room
 
-  pub listed-end : (c : ℕ) → ListedIs count ps b b' (Fits c) → ListedIs count (ps ++ []) b b' (Fits c)
-  listed-end c x = subst (λ (q : List Part). ListedIs count q b b' (Fits c)) (sym (append-nil ps)) x
+  pub listed-end : (c : ℕ) → ListedIs count ps b b' (Some c) → ListedIs count (ps ++ []) b b' (Some c)
+  listed-end c x = subst (λ (q : List Part). ListedIs count q b b' (Some c)) (sym (append-nil ps)) x
 
 -- step 0 without and with a twin
 module _ (e : Road) (a z a' z' : ℕ) where
@@ -127,7 +126,7 @@ module _ (e : Road) (a z a' z' : ℕ) where
   first-both q = rw (ne_eqb e.twin none q)
 
   -- whatever comes behind, the first part alone is too much
-  pub first-over : (b b' : List ℕ) → ListedIs 0 (part e.walk a z) b b' NoRoom → ListedIs 0 (pair_on e a z a' z') b b' NoRoom
+  pub first-over : (b b' : List ℕ) → ListedIs 0 (part e.walk a z) b b' None → ListedIs 0 (pair_on e a z a' z') b b' None
   unfolding pair_on
   first-over b b' x = listed-over 0 (part e.walk a z) (cond (eqb e.twin none) [] (part e.twin a' z')) b b' x
 
@@ -160,7 +159,7 @@ parts-over g first i end h l = go (end - (i + 1)) (let z : (i + 1 - first) + (en
     go n e = let r = joined-add f (i + 1 - first) n in (r.0, ap (joined f) (sym e) ∙ r.1)
 
 -- ---- in the code's terms
-pub listed-as : (count : ℕ) (ps qs : List Part) (b b' : List ℕ) (r : Listed) → ps ≡ qs → ListedIs count ps b b' r → ListedIs count qs b b' r
+pub listed-as : (count : ℕ) (ps qs : List Part) (b b' : List ℕ) (r : Option ℕ) → ps ≡ qs → ListedIs count ps b b' r → ListedIs count qs b b' r
 listed-as count ps qs b b' r e x = subst (λ (z : List Part). ListedIs count z b b' r) e x
 
 pub part-on : (w : List ℕ) (e : Road) (left i bits : ℕ) (len : Offset) (wait rest a near start : ℕ) → bits ≡ be32 w (16 * i + 8) → len ≡ offset_of (len_of bits) → wait ≡ wait_of bits * e.speed → rest ≡ left - wait
@@ -169,50 +168,50 @@ unfolding part_on walk_at
 part-on w e left i bits len wait rest a near start b p t l q r s = rw (s, q, r, l, t, p, b)
 
 -- before the first
-pub parts-start : (g : ℕ → List Part) (first count : ℕ) (b : List ℕ) → count ≤ length b / 12 → ListedIs count (run_on g first (first - first)) b b (Fits count)
+pub parts-start : (g : ℕ → List Part) (first count : ℕ) (b : List ℕ) → count ≤ length b / 12 → ListedIs count (run_on g first (first - first)) b b (Some count)
 unfolding run_on joined ListedIs
 parts-start g first count b h = let z : first - first ≡ 0 = omega arith in rw z (behind-none count b h)
 
 -- too many with i are too many with all
 pub parts-full : (g : ℕ → List Part) (first i end count : ℕ) (b b' : List ℕ) → first ≤ i → i < end
-    → ListedIs count (run_on g first (i - first) ++ g i) b b' NoRoom → ListedIs count (run_on g first (end - first)) b b' NoRoom
+    → ListedIs count (run_on g first (i - first) ++ g i) b b' None → ListedIs count (run_on g first (end - first)) b b' None
 parts-full g first i end count b b' h l x =
     let o = parts-over g first i end h l in
-    let y = listed-as count _ _ b b' NoRoom (parts_more g first i h) x in
-    listed-as count _ _ b b' NoRoom (sym o.1) (listed-over count (run_on g first (i + 1 - first)) o.0 b b' y)
+    let y = listed-as count _ _ b b' None (parts_more g first i h) x in
+    listed-as count _ _ b b' None (sym o.1) (listed-over count (run_on g first (i + 1 - first)) o.0 b b' y)
 
-pub listed-is : (count : ℕ) (ps : List Part) (b b' : List ℕ) (r r' : Listed) → r ≡ r' → ListedIs count ps b b' r → ListedIs count ps b b' r'
-listed-is count ps b b' r r' e x = subst (λ (z : Listed). ListedIs count ps b b' z) e x
+pub listed-is : (count : ℕ) (ps : List Part) (b b' : List ℕ) (r r' : Option ℕ) → r ≡ r' → ListedIs count ps b b' r → ListedIs count ps b b' r'
+listed-is count ps b b' r r' e x = subst (λ (z : Option ℕ). ListedIs count ps b b' z) e x
 
 -- the buffer keeps its length
-pub listed-length : (count : ℕ) (ps : List Part) (b b' : List ℕ) (c : ℕ) → ListedIs count ps b b' (Fits c) → length b' ≡ length b
+pub listed-length : (count : ℕ) (ps : List Part) (b b' : List ℕ) (c : ℕ) → ListedIs count ps b b' (Some c) → length b' ≡ length b
 unfolding ListedIs
 listed-length count ps b b' c x =
     let fit : 12 * count + length (flat_map part_bytes ps) ≤ length b = omega (arith, flat-length part_bytes 12 length_part ps, x.counted, x.room) in
     ap length x.bytes ∙ length-written b (12 * count) (flat_map part_bytes ps) fit
 
 -- a part of the record is listed, or there is no room for it
-module _ (e : Road) (a z a' z' : ℕ) (b b' : List ℕ) (r : Listed) (one : ListedIs 0 (part e.walk a z) b b' r) where
-  pub first-full : r ≡ NoRoom → ListedIs 0 (pair_on e a z a' z') b b' NoRoom
-  first-full s = first-over e a z a' z' b b' (listed-is 0 _ b b' r NoRoom s one)
+module _ (e : Road) (a z a' z' : ℕ) (b b' : List ℕ) (r : Option ℕ) (one : ListedIs 0 (part e.walk a z) b b' r) where
+  pub first-full : r ≡ None → ListedIs 0 (pair_on e a z a' z') b b' None
+  first-full s = first-over e a z a' z' b b' (listed-is 0 _ b b' r None s one)
 
-  pub first_one : (c : ℕ) → r ≡ Fits c → e.twin ≡ none → ListedIs 0 (pair_on e a z a' z') b b' (Fits c)
+  pub first_one : (c : ℕ) → r ≡ Some c → e.twin ≡ none → ListedIs 0 (pair_on e a z a' z') b b' (Some c)
   first_one c s t =
-      listed-as 0 _ _ b b' (Fits c) (first_alone e a z a' z' t) (listed-end 0 _ b b' (omega arith) c (listed-is 0 _ b b' r (Fits c) s one))
+      listed-as 0 _ _ b b' (Some c) (first_alone e a z a' z' t) (listed-end 0 _ b b' (omega arith) c (listed-is 0 _ b b' r (Some c) s one))
 
-  pub first_two : (c : ℕ) → r ≡ Fits c → (e.twin ≡ none → ⊥) → (b'' : List ℕ) (r' : Listed) → ListedIs c (part e.twin a' z') b' b'' r' → ListedIs 0 (pair_on e a z a' z') b b'' r'
+  pub first_two : (c : ℕ) → r ≡ Some c → (e.twin ≡ none → ⊥) → (b'' : List ℕ) (r' : Option ℕ) → ListedIs c (part e.twin a' z') b' b'' r' → ListedIs 0 (pair_on e a z a' z') b b'' r'
   first_two c s t b'' r' two =
-      listed-as 0 _ _ b b'' r' (first-both e a z a' z' t) (listed_more 0 _ b b' (omega arith) c _ b'' r' (listed-is 0 _ b b' r (Fits c) s one) two)
+      listed-as 0 _ _ b b'' r' (first-both e a z a' z' t) (listed_more 0 _ b b' (omega arith) c _ b'' r' (listed-is 0 _ b b' r (Some c) s one) two)
 
-pub first-room : (i a z : ℕ) (b b' : List ℕ) (r : Listed) → ListedIs 0 (part i a z) b b' r → (c : ℕ) → r ≡ Fits c → c ≤ length b' / 12
-first-room i a z b b' r one c s = listed-room 0 _ b b' (omega arith) c (listed-is 0 _ b b' r (Fits c) s one)
+pub first-room : (i a z : ℕ) (b b' : List ℕ) (r : Option ℕ) → ListedIs 0 (part i a z) b b' r → (c : ℕ) → r ≡ Some c → c ≤ length b' / 12
+first-room i a z b b' r one c s = listed-room 0 _ b b' (omega arith) c (listed-is 0 _ b b' r (Some c) s one)
 
 -- the same pair by equal numbers
-pub pair-as : (e : Road) {a z a' z' x y x' y' : ℕ} (b b' : List ℕ) (r : Listed) → a ≡ x → z ≡ y → a' ≡ x' → z' ≡ y' → ListedIs 0 (pair_on e a z a' z') b b' r → ListedIs 0 (pair_on e x y x' y') b b' r
+pub pair-as : (e : Road) {a z a' z' x y x' y' : ℕ} (b b' : List ℕ) (r : Option ℕ) → a ≡ x → z ≡ y → a' ≡ x' → z' ≡ y' → ListedIs 0 (pair_on e a z a' z') b b' r → ListedIs 0 (pair_on e x y x' y') b b' r
 pair-as e {a} {z} {a'} {z'} {x} {y} {x'} {y'} b b' r p q p' q' l =
     listed-as 0 _ _ b b' r (ap₂ (λ (i j : ℕ). pair_on e i j a' z') p q ∙ ap₂ (pair_on e x y) p' q') l
 
-pub parts-end : (g : ℕ → List Part) (first i end count : ℕ) (b b' : List ℕ) (r : Listed) → i ≡ end → ListedIs count (run_on g first (i - first)) b b' r
+pub parts-end : (g : ℕ → List Part) (first i end count : ℕ) (b b' : List ℕ) (r : Option ℕ) → i ≡ end → ListedIs count (run_on g first (i - first)) b b' r
     → ListedIs count (run_on g first (end - first)) b b' r
 parts-end g first i end count b b' r q x = subst (λ (k : ℕ). ListedIs count (run_on g first (k - first)) b b' r) q x
 

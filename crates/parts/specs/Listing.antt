@@ -7,9 +7,13 @@ use Rattle.journeys.specs.Tables.{walk_at}
 use Rattle.journeys.specs.Query.{Query}
 use Rattle.journeys.specs.Parts.{Part, part, part_bytes}
 use Rattle.words.specs.Written.{written}
-use Rattle.parts.specs.declared.Listed.{Listed}
-use Rattle.parts.specs.declared.Listed.TheVariants.{Fits, NoRoom}
+use Rattle.std.specs.Prelude.{Option, Some, None}
+use Rattle.parts.specs.declared.Piece.{Piece}
 use Rattle.parts.specs.declared.Road.{Road}
+
+-- what a piece lists: a part, or none
+abbrev pub part_in : Piece → List Part
+part_in p = part p.walk p.start.0 p.end.0
 
 -- what is waited for a place on record i of the walks w, at a speed: `past_ticks` of that record
 unfoldable pub past_on : List ℕ → ℕ → ℕ → ℕ → ℕ
@@ -83,6 +87,6 @@ pub record Overfull (count : ℕ) (ps : List Part) (b b' : List ℕ) : Type 0 wh
   pub over : length b / 12 < count + length ps
   pub same : length b' ≡ length b
 
-unfoldable pub ListedIs : ℕ → List Part → List ℕ → List ℕ → Listed → Type 0
-ListedIs count ps b b' (Fits c) = Behind count ps b b' c
-ListedIs count ps b b' NoRoom = Overfull count ps b b'
+unfoldable pub ListedIs : ℕ → List Part → List ℕ → List ℕ → Option ℕ → Type 0
+ListedIs count ps b b' (Some c) = Behind count ps b b' c
+ListedIs count ps b b' None = Overfull count ps b b'

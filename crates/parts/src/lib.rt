@@ -3,12 +3,12 @@
 // Rests on: the readers and the part writer of `records`, which is lent the unfilled rest of the buffer.
 #![tactic(auto)]
 
-ghost use Rattle.std.specs.Prelude.{◌≡◌, ℕ, ◌+◌, ◌-◌, ◌*◌, ◌/◌, ◌<◌, ◌≤◌, max, min, length};
+ghost use Rattle.std.specs.Prelude.{◌≡◌, List, ℕ, ◌+◌, ◌-◌, ◌*◌, ◌/◌, ◌<◌, ◌≤◌, max, min, length};
 ghost use Rattle.journeys.specs.Bytes.{be32};
 ghost use Rattle.journeys.specs.Tables.{wait_of, walk_at};
-ghost use Rattle.journeys.specs.Parts.{part};
+ghost use Rattle.journeys.specs.Parts.{Part};
 ghost use Rattle.records.specs.Asked.{query_of};
-ghost use Rattle.parts.specs.Listing.{past_on, road_of, near_on, pair_on, first_on, part_on, parts_on, reach_on, first_ahead, ahead_on, aheads_on, ListedIs};
+ghost use Rattle.parts.specs.Listing.{part_in, past_on, road_of, near_on, pair_on, first_on, part_on, run_on, parts_on, reach_on, first_ahead, ahead_on, aheads_on, ListedIs};
 
 use records::{Query, length_of, wait_ticks};
 use words::{Offset, Ticks, word_at};
@@ -26,11 +26,12 @@ pub struct Road {
     pub speed: u32,
 }
 
-// How many parts are listed, or that there is no room for them.
+// A part of a walk record, from an offset to one: none where the two are the same.
 #[derive(Clone, Copy)]
-pub enum Listed {
-    Fits(usize),
-    NoRoom,
+struct Piece {
+    walk: u32,
+    start: Offset,
+    end: Offset,
 }
 
 // What is waited for a place on walk i: the place at its length is past the wait, and no other is. Where there is no such walk there is no wait.
@@ -68,41 +69,52 @@ pub fn read_road(walks: &[u8], q: Query) -> Road
     }
 }
 
-// A part behind `count` others, unless it is empty.
-fn list_part(parts: &mut [u8], count: usize, walk: u32, start: Offset, end: Offset) -> Listed
+// A part behind `count` others, unless it is empty: how many there are then, or none where there is no room for it.
+fn list_part(parts: &mut [u8], count: usize, p: Piece) -> Option<usize>
     requires { count ≤ length parts.old / 12 }
-    ensures { ListedIs count (part walk start.0 end.0) parts.old parts.new result }
+    ensures { ListedIs count (part_in p) parts.old parts.new result }
 {
-    if start.0 == end.0 {
-        return Listed::Fits(count);
+    if p.start.0 == p.end.0 {
+        return Some(count);
     }
     if count == parts.len() / 12 {
-        return Listed::NoRoom;
+        return None;
     }
-    records::add_part(parts, count, walk, start, end);
-    Listed::Fits(count + 1)
+    records::add_part(parts, count, p.walk, p.start, p.end);
+    Some(count + 1)
+}
+
+// The parts that `piece` gives for the numbers from `first` up to `end`, behind `count` others.
+fn list_each<F: Fn(usize) -> Piece>(
+    parts: &mut [u8],
+    count: usize,
+    first: usize,
+    end: usize,
+    piece: F,
+) -> Option<usize>
+    requires range { (count ≤ length parts.old / 12) × (first ≤ end) }
+    requires callable { (i : ℕ) → first ≤ i → i < end → F.pre piece i }
+    ensures { (g : ℕ → List Part) → ((i : ℕ) (p : Piece) → first ≤ i → i < end → F.post piece i p → part_in p ≡ g i) → ListedIs count (run_on g first (end - first)) parts.old parts.new result }
+{
+    let mut listed = count;
+    for i in first..end {
+        listed = list_part(parts, listed, piece(i))?;
+    }
+    Some(listed)
 }
 
 // So many ticks of walking back from a place, at most to the start of the record: a decimetre is walked in one.
 fn walked_back(place: Offset, spent: Ticks) -> Offset
     ensures { result.0 ≡ place.0 - spent.0 }
 {
-    if spent.0 < place.0 {
-        Offset(place.0 - spent.0)
-    } else {
-        Offset(0)
-    }
+    Offset(place.0.saturating_sub(spent.0))
 }
 
 // What is left of so many ticks after a wait: none where they do not reach it.
 fn after_wait(left: Ticks, wait: Ticks) -> Ticks
     ensures { result.0 ≡ left.0 - wait.0 }
 {
-    if wait.0 < left.0 {
-        Ticks(left.0 - wait.0)
-    } else {
-        Ticks(0)
-    }
+    Ticks(left.0.saturating_sub(wait.0))
 }
 
 // The same by the bits of a walk's length. Most walks have no wait, and need no product.
@@ -119,7 +131,7 @@ fn left_of(left: Ticks, bits: u32, speed: u32) -> Ticks
 fn larger(a: Offset, b: Offset) -> Offset
     ensures { result.0 ≡ max a.0 b.0 }
 {
-    if a.0 < b.0 { b } else { a }
+    Offset(a.0.max(b.0))
 }
 
 fn near_on(e: Road, i: u32) -> Offset
@@ -142,20 +154,34 @@ fn list_pair(
     end: Offset,
     start_back: Offset,
     end_back: Offset,
-) -> Listed
+) -> Option<usize>
     ensures { ListedIs 0 (pair_on e start.0 end.0 start_back.0 end_back.0) parts.old parts.new result }
 {
-    let Listed::Fits(count) = list_part(parts, 0, e.walk, start, end) else {
-        return Listed::NoRoom;
-    };
+    let count = list_part(
+        parts,
+        0,
+        Piece {
+            walk: e.walk,
+            start,
+            end,
+        },
+    )?;
     if e.twin == words::NONE {
-        return Listed::Fits(count);
+        return Some(count);
     }
-    list_part(parts, count, e.twin, start_back, end_back)
+    list_part(
+        parts,
+        count,
+        Piece {
+            walk: e.twin,
+            start: start_back,
+            end: end_back,
+        },
+    )
 }
 
 // Up to the query place.
-pub fn list_first(parts: &mut [u8], e: Road, allowed: Ticks) -> Listed
+pub fn list_first(parts: &mut [u8], e: Road, allowed: Ticks) -> Option<usize>
     ensures { ListedIs 0 (first_on e allowed.0) parts.old parts.new result }
 {
     let near = e.near;
@@ -173,20 +199,19 @@ pub fn list_first(parts: &mut [u8], e: Road, allowed: Ticks) -> Listed
 }
 
 // The part of walk i, at whose end `left` ticks are left, the wait among them.
-fn list_walk(parts: &mut [u8], count: usize, walks: &[u8], i: u32, e: Road, left: Ticks) -> Listed
-    requires { (count ≤ length parts.old / 12) × (i < length walks.now / 16) × (e.speed ≤ 100) }
-    ensures { ListedIs count (part_on walks.now e left.0 i) parts.old parts.new result }
+fn arriving(walks: &[u8], i: u32, e: Road, left: Ticks) -> Piece
+    requires { (i < length walks.now / 16) × (e.speed ≤ 100) }
+    ensures { part_in result ≡ part_on walks.now e left.0 i }
 {
     let bits = word_at(walks, 16 * (i as usize) + 8);
     let len = length_of(bits);
     let rest = left_of(left, bits, e.speed);
-    list_part(
-        parts,
-        count,
-        i,
-        larger(walked_back(len, rest), near_on(e, i)),
-        len,
-    )
+    let start = larger(walked_back(len, rest), near_on(e, i));
+    Piece {
+        walk: i,
+        start,
+        end: len,
+    }
 }
 
 // At a listed vertex: its arriving walks, ascending.
@@ -198,20 +223,17 @@ pub fn list_arriving(
     end: u32,
     e: Road,
     left: Ticks,
-) -> Listed
+) -> Option<usize>
     requires { (count ≤ length parts.old / 12) × (first ≤ end) × (end ≤ length walks.now / 16) × (e.speed ≤ 100) }
     ensures { ListedIs count (parts_on walks.now e left.0 first (end - first)) parts.old parts.new result }
 {
-    let mut listed = count;
-    let mut i = first;
-    while i < end {
-        let Listed::Fits(more) = list_walk(parts, listed, walks, i, e, left) else {
-            return Listed::NoRoom;
-        };
-        listed = more;
-        i += 1;
-    }
-    Listed::Fits(listed)
+    list_each(
+        parts,
+        count,
+        first as usize,
+        end as usize,
+        |i| arriving(walks, i as u32, e, left),
+    )
 }
 
 // So many ticks of walking on from a place, at most as far as there is room.
@@ -219,21 +241,17 @@ fn walked_on(place: Offset, room: Offset, spent: Ticks) -> Offset
     requires { place.0 + room.0 < 4294967296 }
     ensures { result.0 ≡ place.0 + min room.0 spent.0 }
 {
-    if spent.0 < room.0 {
-        Offset(place.0 + spent.0)
-    } else {
-        Offset(place.0 + room.0)
-    }
+    Offset(place.0 + room.0.min(spent.0))
 }
 
 fn smaller(a: Offset, b: Offset) -> Offset
     ensures { result.0 ≡ min a.0 b.0 }
 {
-    if b.0 < a.0 { b } else { a }
+    Offset(a.0.min(b.0))
 }
 
 // The courier's step 0: from the query place on, at most to the end of the road.
-pub fn list_ahead(parts: &mut [u8], e: Road, allowed: Ticks) -> Listed
+pub fn list_ahead(parts: &mut [u8], e: Road, allowed: Ticks) -> Option<usize>
     requires { e.near.0 + e.back.0 < 4294967296 }
     ensures { ListedIs 0 (first_ahead e allowed.0) parts.old parts.new result }
 {
@@ -260,20 +278,17 @@ fn reach_on(e: Road, i: u32, len: Offset) -> Offset
 }
 
 // The courier's part of walk i, at whose start `left` ticks are left.
-fn list_walk_ahead(
-    parts: &mut [u8],
-    count: usize,
-    walks: &[u8],
-    i: u32,
-    e: Road,
-    left: Ticks,
-) -> Listed
-    requires { (count ≤ length parts.old / 12) × (i < length walks.now / 16) }
-    ensures { ListedIs count (ahead_on walks.now e left.0 i) parts.old parts.new result }
+fn departing(walks: &[u8], i: u32, e: Road, left: Ticks) -> Piece
+    requires { i < length walks.now / 16 }
+    ensures { part_in result ≡ ahead_on walks.now e left.0 i }
 {
     let len = length_of(word_at(walks, 16 * (i as usize) + 8));
     let end = smaller(len, reach_on(e, i, len));
-    list_part(parts, count, i, Offset(0), walked_on(Offset(0), end, left))
+    Piece {
+        walk: i,
+        start: Offset(0),
+        end: walked_on(Offset(0), end, left),
+    }
 }
 
 // At a listed vertex: its departing walks, ascending, whose numbers stand in `records` from `first` up to `end`.
@@ -286,19 +301,15 @@ pub fn list_departing(
     end: usize,
     e: Road,
     left: Ticks,
-) -> Listed
+) -> Option<usize>
     requires { (count ≤ length parts.old / 12) × (first ≤ end) × (end ≤ length records.now / 4) × ((j : ℕ) → first ≤ j → j < end → be32 records.now (4 * j) < length walks.now / 16) }
     ensures { ListedIs count (aheads_on walks.now e left.0 records.now first (end - first)) parts.old parts.new result }
 {
-    let mut listed = count;
-    let mut j = first;
-    while j < end {
-        let i = word_at(records, 4 * j);
-        let Listed::Fits(more) = list_walk_ahead(parts, listed, walks, i, e, left) else {
-            return Listed::NoRoom;
-        };
-        listed = more;
-        j += 1;
-    }
-    Listed::Fits(listed)
+    list_each(
+        parts,
+        count,
+        first,
+        end,
+        |j| departing(walks, word_at(records, 4 * j), e, left),
+    )
 }

@@ -1,14 +1,14 @@
 -- One arrival: its order of settling, its run, and whom journeys reach. Assumes nothing.
 use mathlib.Core.Path.{◌≡◌, refl, sym, ap, ap₂, subst, ◌∙◌}
-use mathlib.Core.Logic.{◌⊎◌, inl, inr, ⊎_elim, ◌↔◌, ◌≢◌}
-use mathlib.Core.Bool.{Bool, true, false, cond, ◌||◌}
+use mathlib.Core.Logic.{◌⊎◌, inl, inr, ◌↔◌, ◌≢◌}
+use mathlib.Core.Bool.{Bool, true, false, ◌||◌}
 use mathlib.Core.List.{List, [], ◌∷◌, ◌++◌, flat_map}
 use Prim.Native.Nat.{ℕ, zero, suc, ◌+◌, ◌-◌, ◌*◌, ◌/◌, ◌≤◌, ◌<◌, min}
 use native.Mathlib.Omega.{arith}
-use lib.Dec.{eqb, leb}
-use lib.ListN.{length, take, drop, replicate}
+use lib.Dec.{eqb}
+use lib.ListN.{length, take, replicate}
 use lib.Seq.{take_at, take_all}
-use borrow.Author.Tests.{eqb-true, eqb-false, eq-eqb, ne_eqb, le-leb}
+use borrow.Author.Tests.{eqb-true, eqb-false, le-leb}
 use Rattle.journeys.specs.Counting.{none, one, count, joined, In}
 use Rattle.journeys.specs.Bytes.{be32, filled, cleared}
 use Rattle.journeys.specs.Tables.{Tables, vertex_count}
@@ -19,7 +19,7 @@ use Rattle.journeys.specs.Records.{network}
 use Rattle.journeys.specs.Lists.{vertex_in, distance_at, named, settled_in, list_refusal}
 use Rattle.journeys.specs.Refusals as refusals
 use Rattle.journeys.specs.Refusals.{or_else, first_from}
-use Rattle.journeys.specs.Answers.{Lent, Answer, Allowed, tables, early, settled_bytes, held_bytes, held_after, room_at, room_up_to, accepted_after, refused_late, answer_over, late_for, room_for, room_up_to_for, accepted_for, answer_for}
+use Rattle.journeys.specs.Answers.{Lent, Answer, Allowed, tables, early, settled_bytes, room_at, room_up_to, accepted_after, refused_late, answer_over, late_for, room_for, room_up_to_for, accepted_for, answer_for}
 use Rattle.journeys.specs.Valid.{Valid}
 use Rattle.journeys.proofs.Tests.{split, cond-true, cond-false}
 use Rattle.journeys.proofs.Counting.{in-joined, joined_in, count_most}

@@ -1,5 +1,5 @@
 -- Any two results that the contract allows are equal: the six numbers, every byte of both buffers and of the report. Assumes nothing.
-use mathlib.Core.Path.{◌≡◌, refl, sym, ap, ap₂, subst, ◌∙◌}
+use mathlib.Core.Path.{◌≡◌, refl, sym, ap, ap₂, ◌∙◌}
 use mathlib.Core.Logic.{◌⊎◌, inl, inr}
 use mathlib.Core.Bool.{Bool, true, false, cond}
 use mathlib.Core.List.{List, ◌++◌}
@@ -17,8 +17,7 @@ use Rattle.journeys.proofs.Counting.{count_same}
 use Rattle.journeys.proofs.Decoding.{vertex-count}
 use Rattle.journeys.proofs.Determined.{answer-unique}
 use Rattle.records.specs.declared.Answer as records
-use Rattle.search.specs.Outcome.{answer_of}
-use Rattle.evening.specs.Patients.{patients_of, all_patients, figures}
+use Rattle.evening.specs.Patients.{patients_of, all_patients}
 use Rattle.evening.specs.Asked.{arriving, evening_refusal}
 use Rattle.patients.specs.Evening.{Reaches, times_settled, covered, report_bytes}
 use Rattle.patients.specs.EveningAnswers.{first_late, Held, EveningAllowed}

@@ -1,14 +1,13 @@
 -- An evening from arrival to arrival, and its end. Assumes nothing.
-use mathlib.Core.Path.{◌≡◌, refl, sym, ap, ap₂, subst, ◌∙◌}
+use mathlib.Core.Path.{◌≡◌, refl, sym, ap, subst, ◌∙◌}
 use mathlib.Core.Logic.{◌⊎◌, inl, inr, ◌≢◌}
 use mathlib.Core.Bool.{Bool}
 use mathlib.Core.List.{List}
 use Prim.Native.Nat.{ℕ, ◌+◌, ◌-◌, ◌*◌, ◌/◌, ◌≤◌, ◌<◌}
 use native.Mathlib.Omega.{arith}
-use lib.ListN.{length, take, replicate}
+use lib.ListN.{length, replicate}
 use Rattle.journeys.specs.Counting.{none}
 use Rattle.journeys.specs.Bytes.{word, cleared}
-use Rattle.journeys.specs.Tables.{Tables}
 use Rattle.journeys.specs.Query.{Query}
 use Rattle.journeys.specs.Refusals.{Refusal}
 use Rattle.journeys.specs.Answers.{Lent, Answer, Allowed, tables, refused_early, refused_late}
@@ -21,17 +20,18 @@ use Rattle.words.specs.Written.{written}
 use Rattle.records.specs.declared.Answer as records
 use Rattle.intake.specs.Lending.{lent}
 use Rattle.search.specs.Outcome.{answer_of}
-use Rattle.evening.specs.Patients.{patients_of, all_patients, figures}
+use Rattle.evening.specs.Patients.{all_patients, figures}
 use Rattle.evening.specs.Asked.{arriving, evening_refusal}
-use Rattle.patients.specs.Evening.{report_bytes}
-use Rattle.words.specs.Told.{told}
+use Rattle.std.specs.Prelude.{⊤, Result, Ok, Err}
+use Rattle.words.specs.Told.{number_of, told}
+use Rattle.words.proofs.Chains as chains
 use Rattle.words.specs.declared.Refusal as words
 use Rattle.records.specs.Meaning.{refusal_of}
 use Rattle.patients.specs.EveningAnswers.{first_late, Held, EveningAllowed}
 use Rattle.evening.specs.Tallied.{reported}
 use Rattle.patients.specs.Reporting.{CanReport}
 use Rattle.evening.proofs.Judged.{lengths-fine, patients-long, report-long, patients-low, few-arrivals, early-at, valid-at}
-use Rattle.patients.proofs.Arrival.{the_list, the_order, reaches, reaches-exactly, entry-low, once, the_run, run-allowed, run_is, run-late, Own, own}
+use Rattle.patients.proofs.Arrival.{the_list, reaches, reaches-exactly, entry-low, once, the_run, run-allowed, run_is, run-late, Own, own}
 use Rattle.evening.proofs.Tallying.{names}
 use Rattle.patients.proofs.Stages.{stage, stage-start, stage-low, stage-next, stage-end}
 
@@ -149,23 +149,20 @@ pub allowed-as : {Q Q' : Query} (b : Lent) (a : Answer) → Q ≡ Q' → Allowed
 allowed-as b a e = subst (λ (x : Query). Allowed b x none a) e
 
 -- ---- the whole operation
-module _ (b : Lent) (Q : Query) (gap n : ℕ) (patients report : List ℕ) (fault : words.Refusal) (F : told fault ≡ evening_refusal b Q gap n patients report) where
-  number_of : (evening_refusal b Q gap n patients report).number ≡ fault.number
-  number_of = ap (λ (r : Refusal). r.number) (sym F)
-
-  pub passed : fault.number ≡ 0 → (evening_refusal b Q gap n patients report).number ≡ 0
-  passed z = number_of ∙ z
+module _ (b : Lent) (Q : Query) (gap n : ℕ) (patients report : List ℕ) (fault : Result ⊤ words.Refusal) (F : told fault ≡ evening_refusal b Q gap n patients report) where
+  pub passed : {x : ⊤} → fault ≡ Ok x → (evening_refusal b Q gap n patients report).number ≡ 0
+  passed f = chains.passes f F
 
   -- Refusals 1 to 7, 19 and 20: nothing lent is changed.
-  pub evening-refused : (r : records.Answer) → r ≡ refusal_of fault.number fault.place → fault.number ≢ 0 → EveningAllowed b Q gap n patients report (answer_of r b.held b.settled) report × (r.parts ≡ 0)
+  pub evening-refused : (why : words.Refusal) → fault ≡ Err why → (r : records.Answer) → r ≡ refusal_of (number_of why.reason) why.place → EveningAllowed b Q gap n patients report (answer_of r b.held b.settled) report × (r.parts ≡ 0)
   unfolding refused_early
-  evening-refused r e q = (
+  evening-refused why f r e = (
     record {
-      refused = λ _. (ap (λ (x : records.Answer). answer_of x b.held b.settled) e ∙ ap (refused_early b) F, refl);
-      accepted = λ z. absurd (q (sym number_of ∙ z));
+      refused = λ _. (ap (λ (x : records.Answer). answer_of x b.held b.settled) e ∙ ap (refused_early b) (sym (ap told f) ∙ F), refl);
+      accepted = λ z. absurd (chains.refuses f F z);
     },
     ap (λ (x : records.Answer). x.parts) e,
   )
 
-  pub evening-held : fault.number ≡ 0 → (a : Answer) (report' : List ℕ) → Held b Q gap n patients report a report' → EveningAllowed b Q gap n patients report a report'
-  evening-held z a report' H = record { refused = λ q. absurd (q (passed z)); accepted = λ _. H }
+  pub evening-held : {x : ⊤} → fault ≡ Ok x → (a : Answer) (report' : List ℕ) → Held b Q gap n patients report a report' → EveningAllowed b Q gap n patients report a report'
+  evening-held f a report' H = record { refused = λ q. absurd (q (passed f)); accepted = λ _. H }

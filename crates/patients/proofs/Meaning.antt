@@ -1,11 +1,10 @@
 -- What the report means to a manager. Each theorem says in one sentence what it means. Assumes nothing.
-use mathlib.Core.Path.{◌≡◌, refl, sym, ap, ap₂, ◌∙◌}
+use mathlib.Core.Path.{◌≡◌, refl, sym, ap, ◌∙◌}
 use mathlib.Core.Logic.{◌⊎◌, inl, inr, ◌↔◌}
 use mathlib.Core.Bool.{Bool, true, false, cond}
 use mathlib.Core.List.{List}
-use Prim.Native.Nat.{ℕ, ◌-◌, ◌*◌, ◌/◌, ◌<◌, ◌≤◌}
-use native.Mathlib.Omega.{arith}
-use native.Mathlib.Nat.{mul-one, one-mul}
+use Prim.Native.Nat.{ℕ, ◌*◌, ◌<◌, ◌≤◌}
+use native.Mathlib.Nat.{one-mul}
 use lib.Dec.{eqb}
 use lib.ListN.{length}
 use borrow.Author.Tests.{eq-eqb, eqb-true}
@@ -18,12 +17,10 @@ use Rattle.journeys.specs.Lists.{vertex_in}
 use Rattle.journeys.specs.Valid.{Valid}
 use Rattle.journeys.specs.Answers.{Lent, Answer, Allowed, tables}
 use Rattle.journeys.proofs.Counting.{count_same}
-use Rattle.journeys.proofs.Decoding.{vertex-count}
 use Rattle.journeys.proofs.Determined.{answer-unique}
-use Rattle.intake.specs.Lending.{lent}
-use Rattle.evening.specs.Patients.{sum, patients_of}
+use Rattle.evening.specs.Patients.{sum}
 use Rattle.evening.specs.Asked.{arriving, evening_refusal}
-use Rattle.patients.specs.Evening.{Reaches, times_settled, covered}
+use Rattle.patients.specs.Evening.{Reaches, times_settled}
 use Rattle.evening.proofs.Sums.{sum_same, sum-swap, sum_ones, count-sum, sum-by-name}
 use Rattle.evening.proofs.Judged.{early-at, valid-at}
 use Rattle.patients.proofs.Arrival.{the_list, the_order, reaches, reaches-exactly, entry-low, once, the_run, run-allowed, run-listed}

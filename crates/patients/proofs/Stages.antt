@@ -1,13 +1,13 @@
 -- The report from arrival to arrival. Assumes nothing.
-use mathlib.Core.Path.{◌≡◌, refl, sym, ap, ap₂, subst, ◌∙◌}
+use mathlib.Core.Path.{◌≡◌, refl, sym, ap, ap₂, ◌∙◌}
 use mathlib.Core.Logic.{◌⊎◌, inl, inr, ◌≢◌}
 use mathlib.Core.Bool.{Bool, true, false, cond}
-use mathlib.Core.List.{List, ◌++◌, append_assoc}
-use Prim.Native.Nat.{ℕ, zero, suc, ◌+◌, ◌-◌, ◌*◌, ◌/◌, ◌≤◌, ◌<◌}
+use mathlib.Core.List.{List, ◌++◌}
+use Prim.Native.Nat.{ℕ, suc, ◌+◌, ◌-◌, ◌*◌, ◌≤◌, ◌<◌}
 use native.Mathlib.Omega.{arith}
 use native.Mathlib.Nat.{mul-one, mul-zero}
 use lib.Dec.{eqb, ltb}
-use lib.ListN.{length, take, replicate}
+use lib.ListN.{take, replicate}
 use borrow.Author.Tests.{eq-eqb, eqb-true, eqb-false, ne_eqb, lt-ltb, le-ltb, ltb-true, ltb-false}
 use Rattle.journeys.specs.Counting.{one, count, joined}
 use Rattle.journeys.specs.Bytes.{word}
@@ -15,7 +15,7 @@ use Rattle.journeys.specs.Lists.{vertex_in}
 use Rattle.journeys.proofs.Tests.{split}
 use Rattle.journeys.proofs.Counting.{none-count, count_most}
 use Rattle.words.specs.Written.{written}
-use Rattle.evening.specs.Patients.{sum, patients_of, all_patients, figures}
+use Rattle.evening.specs.Patients.{patients_of, all_patients, figures}
 use Rattle.patients.specs.Evening.{times_settled, covered, report_bytes}
 use Rattle.evening.specs.Tallied.{tallied, listed_patients, reported}
 use Rattle.evening.proofs.Sums.{sum_same, sum-by-name}

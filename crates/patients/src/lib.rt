@@ -18,7 +18,7 @@ ghost use Rattle.patients.specs.Reporting.{CanReport};
 
 use evening::{all_patients, first_fault, later, tally};
 use records::{Answer, Query};
-use words::{NONE, Offset, Seconds, put_word};
+use words::{NONE, Seconds, put_word};
 
 // The run of one arrival, which has no step limit. Where room is found its list is tallied, and its patients go to the figure at `at`.
 fn one_arrival<'a>(
@@ -56,13 +56,7 @@ fn one_arrival<'a>(
 fn asked_at(q: Query, arrival: Seconds) -> Query
     ensures { query_of result ≡ record { walk = q.walk; offset = q.offset.0; arrival = clocked arrival.0; duration = q.duration; speed = q.speed } }
 {
-    Query {
-        walk: q.walk,
-        offset: Offset(q.offset.0),
-        arrival: arrival,
-        duration: q.duration,
-        speed: q.speed,
-    }
+    Query { arrival, ..q }
 }
 
 // The arrivals one after the other, for input that was judged.
@@ -87,9 +81,15 @@ fn hold<'a>(
 {
     words::zero(report);
     let n = vertices.len() / 12;
-    let mut a = records::refusal(0, 0);
-    let mut j = 0;
-    while j < arrivals {
+    let mut a = Answer {
+        refusal: 0,
+        place: 0,
+        settled: 0,
+        parts: 0,
+        held: 0,
+        finished: 0,
+    };
+    for j in 0..arrivals {
         let t = asked_at(q, later(q.arrival, gap * j));
         a = one_arrival(
             vertices,
@@ -108,7 +108,6 @@ fn hold<'a>(
             words::zero(report);
             return a;
         }
-        j += 1;
     }
     let total = all_patients(patients, n);
     put_word(report, 4 * (n + (arrivals as usize)), total);
@@ -133,7 +132,7 @@ pub fn evening<'a>(
     ensures parts_value { result.parts ≡ 0 }
 {
     let mut scratch = [0u16; 2048];
-    let fault = first_fault(
+    if let Err(r) = first_fault(
         vertices,
         walks,
         hops,
@@ -146,9 +145,8 @@ pub fn evening<'a>(
         gap,
         arrivals,
         &mut scratch,
-    );
-    if fault.number != 0 {
-        return records::refusal(fault.number, fault.place);
+    ) {
+        return records::refusal(r.reason, r.place);
     }
     hold(
         vertices,

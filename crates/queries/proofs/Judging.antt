@@ -17,6 +17,7 @@ use Rattle.intake.specs.Lending.{lent}
 use Rattle.journeys.specs.Bytes.{word}
 use Rattle.journeys.specs.Answers.{Allowed}
 use mathlib.Core.List.{◌++◌}
+use Rattle.std.specs.Prelude.{⊤, Result}
 use Rattle.words.specs.Told.{told}
 use Rattle.words.specs.declared.Refusal as words
 use Rattle.records.specs.declared.Answer as records
@@ -51,7 +52,7 @@ judged-once v w h size held held' share share' e p q =
     ap₂ (λ (m : ℕ) (t : Bool). or_else (table_lengths size v w h) (or_else (or_else (unless (eqb (m % 16) 0) 1 3) (unless t 1 4)) (contents (tables_of size v w h)))) e x
 
 -- ---- as the code has them
-pub judged-asked : (b : Lent) (Q : Query) (fault r : words.Refusal) → told fault ≡ judged b → told r ≡ or_else (told fault) (query_refusal (tables b) Q) → told r ≡ early b Q
+pub judged-asked : (b : Lent) (Q : Query) (fault r : Result ⊤ words.Refusal) → told fault ≡ judged b → told r ≡ or_else (told fault) (query_refusal (tables b) Q) → told r ≡ early b Q
 judged-asked b Q fault r e f = f ∙ ap (λ (x : Refusal). or_else x (query_refusal (tables b) Q)) e ∙ sym (early-but-for-the-query b Q)
 
 pub left-in-bytes : (b : Lent) (Q : Query) (limit : ℕ) (held settled bytes : List ℕ) (x : records.Answer) → Allowed b Q limit (answer_of x held settled) × (x.parts ≡ 0)

@@ -1,10 +1,10 @@
 -- One run more of those in turn: what lies before it is done, what lies behind it is still to come. Assumes nothing.
-use mathlib.Core.Path.{◌≡◌, refl, sym, ap, ap₂, subst, ◌∙◌}
+use mathlib.Core.Path.{◌≡◌, refl, sym, ap, subst, ◌∙◌}
 use mathlib.Core.List.{List, [], ◌∷◌, ◌++◌, append_assoc, append-nil}
-use Prim.Native.Nat.{ℕ, zero, suc, ◌+◌, ◌-◌, ◌*◌, ◌/◌, ◌%◌, ◌≤◌, ◌<◌}
+use Prim.Native.Nat.{ℕ, suc, ◌+◌, ◌-◌, ◌*◌, ◌/◌, ◌≤◌, ◌<◌}
 use native.Mathlib.Omega.{arith}
-use native.Mathlib.Nat.{div-le_self, div-mul-le_self, mul-suc, mul_assoc, mul_comm}
-use lib.ListN.{length, take, drop, length-append, length-drop, take-append-drop}
+use native.Mathlib.Nat.{div-le_self, div-mul-le_self, mul-suc, mul_assoc}
+use lib.ListN.{length, take, drop, length-append, take-append-drop}
 use lib.Seq.{take_at, drop_at, take_all, length-take-le}
 use borrow.Rule.Slice.PartMut.{mid_of, put_mid}
 use borrow.Rule.Slice.PartMut.{mid_len}
@@ -15,7 +15,7 @@ use Rattle.records.specs.declared.Query.{Query}
 use Rattle.records.specs.Asked.{query_of}
 use Rattle.intake.specs.Lending.{lent}
 use Rattle.queries.specs.Single.{Left, Single}
-use Rattle.queries.specs.InTurn.{Ask, asks_from, share_of, InTurn}
+use Rattle.queries.specs.InTurn.{Ask, asks_from, InTurn}
 
 -- a part that comes back: up to its end, and behind it
 module _ (at k : ℕ) (d y : List ℕ) (within : at + k ≤ length d) (same : length y ≡ k) where

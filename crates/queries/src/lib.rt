@@ -16,7 +16,24 @@ ghost use Rattle.queries.specs.Single.{Left, Single};
 use records::Query;
 use words::Refusal;
 
-// Refusals 1 to 6, which ask for no query: the lengths of the tables and of the buffers, then the contents. The scratch may hold anything at the call.
+// Refusals 1 to 6, which ask for no query: the lengths of the tables and of the buffers, then the contents.
+fn whole_fault(
+    vertices: &[u8],
+    walks: &[u8],
+    hops: &[u8],
+    hop_size: usize,
+    held: &[u8],
+    settled: &[u8],
+    scratch: &mut [u16; 2048],
+) -> Result<(), Refusal>
+    ensures { told result ≡ judged (lent vertices.now walks.now hops.now hop_size held.now settled.now) }
+{
+    audit::lengths(vertices, walks, hops, hop_size)?;
+    intake::buffer_fault(held, settled)?;
+    audit::contents(vertices, walks, hops, hop_size, scratch)
+}
+
+// The same, and the scratch is cleared behind it. It may hold anything at the call.
 fn tables_fault(
     vertices: &[u8],
     walks: &[u8],
@@ -25,30 +42,20 @@ fn tables_fault(
     held: &[u8],
     settled: &[u8],
     scratch: &mut [u16; 2048],
-) -> Refusal
+) -> Result<(), Refusal>
     ensures result_value { told result ≡ judged (lent vertices.now walks.now hops.now hop_size held.now settled.now) }
     ensures scratch_after { scratch.new ≡ replicate 2048 0 }
 {
-    let uneven = audit::lengths(vertices, walks, hops, hop_size);
-    if uneven.number != 0 {
-        departing::clear(scratch);
-        return uneven;
-    }
-    let cut = intake::buffer_fault(held, settled);
-    if cut.number != 0 {
-        departing::clear(scratch);
-        return cut;
-    }
-    audit::contents(vertices, walks, hops, hop_size, scratch)
+    let fault = whole_fault(vertices, walks, hops, hop_size, held, settled, scratch);
+    departing::clear(scratch);
+    fault
 }
 
 // The first reason against one query: that of the tables, which was found before, or its own.
-fn asked_fault(walks: &[u8], fault: Refusal, q: Query) -> Refusal
+fn asked_fault(walks: &[u8], fault: Result<(), Refusal>, q: Query) -> Result<(), Refusal>
     ensures { (size : ℕ) (v h : List ℕ) → told result ≡ or_else (told fault) (query_refusal (tables_of size v walks.now h) (query_of q)) }
 {
-    if fault.number != 0 {
-        return fault;
-    }
+    fault?;
     intake::query_fault(walks, q)
 }
 
@@ -62,7 +69,7 @@ fn answer_one<'a>(
     share: &mut [u8],
     answer: &mut [u8],
     scratch: &mut [u16],
-    fault: Refusal,
+    fault: Result<(), Refusal>,
     q: Query,
     limit: u32,
 )
@@ -71,9 +78,8 @@ fn answer_one<'a>(
     ensures left { Left (lent vertices.now walks.now hops.now hop_size held.old share.old) (query_of q) limit held.new share.new answer.new }
     ensures scratch_after { scratch.new ≡ replicate 2048 0 }
 {
-    let r = asked_fault(walks, fault, q);
-    if r.number != 0 {
-        calls::put_answer(answer, records::refusal(r.number, r.place));
+    if let Err(why) = asked_fault(walks, fault, q) {
+        calls::put_answer(answer, records::refusal(why.reason, why.place));
         return;
     }
     let a = search::run_judged(
@@ -94,7 +100,7 @@ fn answer_each<'a>(
     answers: &mut [u8],
     scratch: &mut [u16],
     share: usize,
-    fault: Refusal,
+    fault: Result<(), Refusal>,
 )
     requires queries_len { (length queries.now % 24 ≡ 0) × (length answers.old ≡ length queries.now) }
     requires queries_in_bounds { (share * (length queries.now / 24) ≤ length settled.old) × (share % 8 ≡ 0) }
@@ -103,9 +109,9 @@ fn answer_each<'a>(
     ensures { InTurn (Single vertices.now walks.now hops.now hop_size) share (asks_from queries.now (length queries.now / 24) 0) held.old settled.old held.new settled.new answers.new }
 {
     let n = queries.len() / 24;
-    let mut i = 0;
+    // `at` goes along with i: the product of share and i would be no plainer, since it would have to be shown to fit.
     let mut at = 0;
-    while i < n {
+    for i in 0..n {
         let from = 24 * i;
         let q = calls::query_at(queries, from);
         let limit = calls::limit_at(queries, from);
@@ -123,7 +129,6 @@ fn answer_each<'a>(
             limit,
         );
         at += share;
-        i += 1;
     }
 }
 

@@ -1,5 +1,5 @@
 -- A vertex that is in order and whose claim is met is good: each walk with a twin that leaves it stands for one that arrives. Assumes nothing.
-use Rattle.std.proofs.Common.{◌≡◌, ℕ, ◌+◌, ◌-◌, ◌/◌, ◌<◌, ◌≤◌, Bool, true, false, not, ◌&&◌, ◌||◌, eqb, List, length, sym, refl, ap, ◌∙◌, ap₂, ⊎_elim, arith, le-ltb, lt-ltb, eq-eqb, eqb-true}
+use Rattle.std.proofs.Common.{◌≡◌, ℕ, ◌+◌, ◌/◌, ◌<◌, ◌≤◌, Bool, true, false, not, ◌&&◌, ◌||◌, eqb, List, length, sym, refl, ap, ◌∙◌, ap₂, ⊎_elim, arith, le-ltb, lt-ltb, eq-eqb, eqb-true}
 use Rattle.journeys.specs.Counting.{none, one, count}
 use Rattle.journeys.specs.Tables.{Walk, vertex_at, walk_at, tables_of, walk}
 use Rattle.journeys.specs.Records.{departing}

@@ -5,7 +5,7 @@
 // Rests on: the counters of `tally`, the readers of `records`, the law of `twins`. It has no array of its own.
 #![tactic(auto)]
 
-ghost use Rattle.std.specs.Prelude.{◌≡◌, ℕ, ◌+◌, ◌-◌, ◌*◌, ◌/◌, ◌<◌, ◌≤◌, true, false, not, ◌≢◌, List, length, ◌==◌};
+ghost use Rattle.std.specs.Prelude.{IfSome, ◌≡◌, ℕ, ◌+◌, ◌-◌, ◌*◌, ◌/◌, ◌<◌, ◌≤◌, true, false, not, ◌≢◌, List, length, ◌==◌};
 ghost use Rattle.journeys.specs.Counting.{none, one, count};
 ghost use Rattle.journeys.specs.Tables.{tables_of};
 ghost use Rattle.journeys.specs.Refusals.{walk_ok, vertex_ok};
@@ -16,7 +16,7 @@ ghost use Rattle.tally.specs.Laid.{Same, Placed, listed};
 
 use records::{Kind, WALK_SIZE, end_arriving, first_arriving, first_ok, from_at, vertex_at};
 use tally::{LIST, drain, empty, lay};
-use words::{NONE, half_at, lesser, word_at};
+use words::{NONE, half_at, word_at};
 
 // More than any vertex can claim.
 const UNCLAIMED: usize = 65536;
@@ -81,15 +81,14 @@ fn sift_each(
     ensures same { Same 0 1984 scratch.old scratch.new }
 {
     let mut count = waiting;
-    let mut i = start;
-    while i < end {
+    for i in start..end {
         count = sift_one(table, size, pairs, i, base, len, scratch, count);
-        i += 1;
     }
     count
 }
 
 // With `pairs` written out: the loop is compiled for both, and reads no twin where none is asked for.
+// No const parameter: it is no plainer, since the proof must name what Rattle makes of a bool there.
 fn sift(
     table: &[u8],
     size: usize,
@@ -111,20 +110,21 @@ fn sift(
     sift_each(table, size, false, start, end, base, len, scratch, waiting)
 }
 
-// A list of more than 32 is drained. Answers how many wait still, or 64 if a counter would fall below zero.
-fn relieve(scratch: &mut [u16], waiting: usize) -> usize
+// A list of more than 32 is drained. Answers how many wait still, and nothing if a counter would fall below zero.
+fn relieve(scratch: &mut [u16], waiting: usize) -> Option<usize>
     requires waiting_bound { (waiting ≤ 64) × (length scratch.old ≡ 2048) }
     requires by_index { (j : ℕ) → j < waiting → Placed scratch.old (listed scratch.old j) }
-    ensures by_index_2 { (groups : ℕ) (all : ℕ → ℕ) (start : List ℕ) → result ≤ 32 → Waiting groups waiting all start scratch.old → Waiting groups result all start scratch.new }
+    ensures few { IfSome result (λ left. left ≤ 32) }
+    ensures by_index_2 { IfSome result (λ left. (groups : ℕ) (all : ℕ → ℕ) (start : List ℕ) → Waiting groups waiting all start scratch.old → Waiting groups left all start scratch.new) }
     ensures same { Same 1856 1984 scratch.old scratch.new }
 {
     if waiting <= 32 {
-        return waiting;
+        return Some(waiting);
     }
     if drain(scratch, waiting) {
-        return 0;
+        return Some(0);
     }
-    64
+    None
 }
 
 // Every record of a table that leaves a vertex of the groups from `base` on, and is counted there, takes one off. False if a counter would fall below zero.
@@ -143,8 +143,9 @@ fn drain_table(
     let n = table.len() / size;
     let mut waiting = 0;
     let mut i = 0;
+    // A while: tried by steps of 32, and the proof did not close, as it is not told where such a loop ends.
     while i < n {
-        let end = lesser(i + 32, n);
+        let end = (i + 32).min(n);
         let listed = sift(
             table,
             size,
@@ -156,10 +157,10 @@ fn drain_table(
             scratch,
             waiting,
         );
-        waiting = relieve(scratch, listed);
-        if 32 < waiting {
+        let Some(left) = relieve(scratch, listed) else {
             return false;
-        }
+        };
+        waiting = left;
         i = end;
     }
     drain(scratch, waiting)
@@ -171,10 +172,8 @@ fn paired(walks: &[u8], first: usize, end: usize, v: usize) -> usize
     ensures { result ≡ arriving true walks.now v }
 {
     let mut found = 0;
-    let mut i = first;
-    while i < end {
+    for i in first..end {
         found = more(found, !alone(walks, i));
-        i += 1;
     }
     found
 }
@@ -229,14 +228,12 @@ fn claims(
     ensures claims { result ≡ true → Claims (λ j. claim_of pairs vertices.now walks.now limit (v + j)) 64 scratch.new }
     ensures same { Same 0 1984 scratch.old scratch.new }
 {
-    let mut j = 0;
-    while j < 64 {
+    for j in 0..64 {
         let claimed = claim(vertices, walks, alone, pairs, limit, v + j);
         if UNCLAIMED <= claimed {
             return false;
         }
         scratch[LIST + j] = claimed as u16;
-        j += 1;
     }
     true
 }
@@ -289,24 +286,20 @@ fn lay_claims(
     requires base_le_limit { (base ≤ limit) × (limit ≤ 65536) × (length scratch.old ≡ 2048) }
     ensures { Claimed (λ k. claim_of pairs vertices.now walks.now limit (base + k)) result.groups result.words scratch.new }
 {
-    let mut groups = 0;
+    let most = (limit - base).div_ceil(64);
     let mut words = 0;
-    while base + 64 * groups < limit {
+    for groups in 0..most {
         let laid = lay_group(
             vertices, walks, alone, pairs, limit, base, groups, words, scratch,
         );
         if laid == words {
-            return Counters {
-                groups: groups,
-                words: words,
-            };
+            return Counters { groups, words };
         }
         words = laid;
-        groups += 1;
     }
     Counters {
-        groups: groups,
-        words: words,
+        groups: most,
+        words,
     }
 }
 
@@ -358,7 +351,7 @@ fn stretch(
     if !empty(scratch, laid.words) {
         return 0;
     }
-    lesser(64 * groups, limit - base)
+    (64 * groups).min(limit - base)
 }
 
 // Whether the firsts and the zero field of v are right.
@@ -381,7 +374,7 @@ fn in_order(vertices: &[u8], walks: &[u8], hops: &[u8], hop_size: usize, v: u32)
 fn whole_before(v: usize) -> usize
     ensures { result ≡ (v - 1) / 64 * 64 }
 {
-    if v == 0 { 0 } else { (v - 1) / 64 * 64 }
+    v.saturating_sub(1) / 64 * 64
 }
 
 // Up to which vertex all are in order, with the next one: its first is where the run ends.
@@ -391,12 +384,10 @@ fn ordered(vertices: &[u8], walks: &[u8], hops: &[u8], hop_size: usize) -> usize
     ensures { Ordered hop_size vertices.now walks.now hops.now result }
 {
     let n = vertices.len() / 12;
-    let mut v = 0;
-    while v < n {
+    for v in 0..n {
         if !in_order(vertices, walks, hops, hop_size, v as u32) {
             return whole_before(v);
         }
-        v += 1;
     }
     n
 }
@@ -422,8 +413,9 @@ fn advance(
 {
     let pairs = 2 * alone <= walks.len() / 16;
     let mut base = start;
+    // A while: each stretch begins where the one before it ends.
     while base < limit {
-        let end = lesser(base + most, limit);
+        let end = (base + most).min(limit);
         let len = stretch(
             vertices, walks, hops, hop_size, alone, pairs, end, base, scratch,
         );

@@ -22,14 +22,15 @@ use Rattle.records.specs.Asked.{query_of}
 use Rattle.records.specs.declared.Query as asked
 use Rattle.search.specs.Outcome.{answer_of}
 use Rattle.records.specs.declared.Answer as search
-use Rattle.covering.specs.Lending.{parts_lent, parts_answer_of}
-use Rattle.covering.specs.declared.PartsAnswer as covering
-use Rattle.job.specs.Job.{Read, job, faulty, Question, body, table_of, job_of, taken, question, told}
+use Rattle.std.specs.Prelude.{Result, Ok, Err}
+use Rattle.std.specs.Result.{result_unwrap_or}
+use Rattle.words.specs.declared.Refusal.{Refusal}
+use Rattle.covering.specs.Lending.{parts_lent, count_in, parts_answer_of}
+use Rattle.job.specs.Job.{Read, job, Question, body, table_of, job_of, taken, question, told}
 use Rattle.job.specs.Steps.{bodies, Laid, LaidOut}
 use Rattle.report.specs.Text.{given, printed, fault, fits, report, fault_in}
 use Rattle.copying.specs.Write.{over}
 use Rattle.job.specs.declared.Job.{Job}
-use Rattle.job.specs.declared.Job.TheVariants.{Good, Faulty}
 use Rattle.job.proofs.Long.{long-job}
 use Rattle.job.proofs.Bodies.{length-body, bodies-next, no-bodies, laid_of}
 use Rattle.reach.specs.Says.{roomy, part_room, parts_of, both, Texts, SaysOf, Says, RunTold, Answered}
@@ -57,34 +58,42 @@ few v w h Q limit a A =
     let c = counts-within (roomy v w h) Q limit a A in
     (omega (arith, c.0, length-replicate {A = ℕ} 4096 0), omega (arith, c.1, length-replicate {A = ℕ} 8192 0))
 
-module _ (v w h : List ℕ) (Q : Query) (held settled parts : List ℕ) (x : search.Answer) (p : covering.PartsAnswer) (A : Allowed (roomy v w h) Q none (answer_of x held settled))
+-- the code's way to count them
+pub count-is : (p : Result ℕ Refusal) → result_unwrap_or p 0 ≡ count_in p
+count-is (Ok n) = refl
+count-is (Err r) = refl
+
+module _ (v w h : List ℕ) (Q : Query) (held settled parts : List ℕ) (x : search.Answer) (p : Result ℕ Refusal) (k : ℕ) (m : k ≡ count_in p) (A : Allowed (roomy v w h) Q none (answer_of x held settled))
     (P : parts_answer_of p parts ≡ parts_of v w h Q (answer_of x held settled)) (out : List ℕ) (room : 100548 ≤ length out) (eh : length held ≡ 8192) (es : length settled ≡ 4096) (ep : length parts ≡ 12312) where
   abbrev a : Answer
   a = answer_of x held settled
 
   abbrev o : OneAnswer
-  o = given (record { refusal = x.refusal; place = x.place; settled = x.settled; parts = p.parts; held = x.held; finished = x.finished }) settled parts held
+  o = given (record { refusal = x.refusal; place = x.place; settled = x.settled; parts = k; held = x.held; finished = x.finished }) settled parts held
 
-  few-parts : p.parts ≤ 1026
-  few-parts = omega (arith, parts_within (parts_lent v w h 16 (own_list a) part_room) Q, ap (λ (y : PartsAnswer). y.part_count) P, length-replicate {A = ℕ} 12312 0)
+  few-parts : k ≤ 1026
+  few-parts = omega (arith, m, parts_within (parts_lent v w h 16 (own_list a) part_room) Q, ap (λ (y : PartsAnswer). y.part_count) P, length-replicate {A = ℕ} 12312 0)
 
   all-fits : fits o (length out) ≡ true
   unfolding fits
   all-fits =
       let n = few v w h Q none a A in
-      and-true (and-true (and-true (le-leb x.settled (length settled / 8) (omega (arith, n))) (le-leb p.parts (length parts / 12) (omega (arith, few-parts)))) (le-leb x.held (length held / 16) (omega (arith, n))))
-      (le-leb (49 * (x.settled + p.parts + x.held + 2)) (length out) (omega (arith, n, few-parts)))
+      and-true (and-true (and-true (le-leb x.settled (length settled / 8) (omega (arith, n))) (le-leb k (length parts / 12) (omega (arith, few-parts)))) (le-leb x.held (length held / 16) (omega (arith, n))))
+      (le-leb (49 * (x.settled + k + x.held + 2)) (length out) (omega (arith, n, few-parts)))
 
   whole-text : report o (length out) ≡ printed (both v w h Q a)
   unfolding report together
-  whole-text = cond-true (printed o) [] all-fits ∙ ap (λ (y : PartsAnswer). printed (together a y)) P
+  whole-text =
+      cond-true (printed o) [] all-fits
+      ∙ ap (λ (n : ℕ). printed (given (record { refusal = x.refusal; place = x.place; settled = x.settled; parts = n; held = x.held; finished = x.finished }) settled parts held)) m
+      ∙ ap (λ (y : PartsAnswer). printed (together a y)) P
 
   pub ran-text : (out' : List ℕ) (r : ℕ) → out' ≡ over (report o (length out)) out → r ≡ length (report o (length out)) → RunTold v w h Q out out' r
   unfolding RunTold
   ran-text out' r e f = (printed (both v w h Q a), (a, A, refl), record { bytes = e ∙ ap (λ (t : List ℕ). over t out) whole-text; count = f ∙ ap length whole-text })
 
 -- ---- a faulty job
-pub fault-text : (s out out' : List ℕ) (n r : ℕ) (j : Job) → j ≡ Faulty n → told j ≡ job_of s → 100548 ≤ length out
+pub fault-text : (s out out' : List ℕ) (n r : ℕ) (j : Result Job ℕ) → j ≡ Err n → told j ≡ job_of s → 100548 ≤ length out
     → out' ≡ over (fault_in n (length out)) out → r ≡ length (fault_in n (length out)) → Answered s out out' r
 unfolding Answered Says SaysOf fault_in
 fault-text s out out' n r j e t room b c =
@@ -113,7 +122,19 @@ unfolding over
 front-taken s t d d' n v w h q e l b =
     ap (take n) (b ∙ ap (λ (z : Read). over (taken z t) d) e) ∙ take_at t (drop (length t) d) n l
 
-module _ (s : List ℕ) (j : Job) (v w h : ℕ) (q : asked.Query) (e : j ≡ Good v w h q) (t : told j ≡ job_of s) (L : LaidOut s j) where
+module _ (s : List ℕ) (r : Result Job ℕ) (j : Job) (e : r ≡ Ok j) (t : told r ≡ job_of s) (L : LaidOut s r) where
+  abbrev v : ℕ
+  v = j.counts.vertices
+
+  abbrev w : ℕ
+  w = j.counts.walks
+
+  abbrev h : ℕ
+  h = j.counts.hops
+
+  abbrev q : asked.Query
+  q = j.asked
+
   pub laid : Laid s v w h
   laid = laid_of e L
 
@@ -130,11 +151,11 @@ module _ (s : List ℕ) (j : Job) (v w h : ℕ) (q : asked.Query) (e : j ≡ Goo
   hops-long = ap length laid.hop_table ∙ length-bodies s 16 (v + w) h (omega arith) (omega (arith, laid.whole))
 
   -- the run has the tables of the job, and its query
-  pub run-answered : (vs vs' ws ws' hs hs' out out' : List ℕ) (r : ℕ) → vs' ≡ over (taken (job_of s) (table_of s 1 12)) vs → ws' ≡ over (taken (job_of s) (table_of s 2 16)) ws
+  pub run-answered : (vs vs' ws ws' hs hs' out out' : List ℕ) (n : ℕ) → vs' ≡ over (taken (job_of s) (table_of s 1 12)) vs → ws' ≡ over (taken (job_of s) (table_of s 2 16)) ws
       → hs' ≡ over (taken (job_of s) (table_of s 3 16)) hs
-      → RunTold (take (12 * v) vs') (take (16 * w) ws') (take (16 * h) hs') (query_of q) out out' r → Answered s out out' r
+      → RunTold (take (12 * v) vs') (take (16 * w) ws') (take (16 * h) hs') (query_of q) out out' n → Answered s out out' n
   unfolding RunTold Answered Says SaysOf
-  run-answered vs vs' ws ws' hs hs' out out' r a b c R = (R.0, subst (λ (y : Read). SaysOf s y R.0) (sym is-job) as-told, R.2)
+  run-answered vs vs' ws ws' hs hs' out out' n a b c R = (R.0, subst (λ (y : Read). SaysOf s y R.0) (sym is-job) as-told, R.2)
     where
       as-told : Texts (table_of s 1 12) (table_of s 2 16) (table_of s 3 16) (query_of q) R.0
       as-told =

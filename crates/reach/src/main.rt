@@ -9,7 +9,6 @@ ghost use Rattle.io.specs.Counts.{IsPrefixLen};
 ghost use Rattle.records.specs.Asked.{query_of};
 ghost use Rattle.reach.specs.Says.{RunTold, Answered};
 
-use job::Job;
 use records::Query;
 use std::io::{ErrorKind, Read, Write};
 
@@ -46,7 +45,7 @@ fn run_text<'a>(vertices: &[u8], walks: &'a [u8], hops: &'a [u8], q: Query, out:
         &mut parts,
         q,
     );
-    a.parts = p.parts;
+    a.parts = p.unwrap_or(0);
     report::report(a, &settled, &parts, &held, out)
 }
 
@@ -60,18 +59,14 @@ fn answer(input: &[u8], out: &mut [u8]) -> usize
     let mut walks = [0u8; 16384];
     let mut hops = [0u8; 16384];
     match job::load(input, &mut vertices, &mut walks, &mut hops) {
-        Job::Good {
-            vertices: v,
-            walks: w,
-            hops: h,
-            asked,
-        } => {
-            let a = 12 * v;
-            let b = 16 * w;
-            let c = 16 * h;
-            run_text(&vertices[..a], &walks[..b], &hops[..c], asked, out)
+        Ok(job) => {
+            let n = job.counts;
+            let a = 12 * n.vertices;
+            let b = 16 * n.walks;
+            let c = 16 * n.hops;
+            run_text(&vertices[..a], &walks[..b], &hops[..c], job.asked, out)
         }
-        Job::Faulty(n) => report::fault_line(n, out),
+        Err(n) => report::fault_line(n, out),
     }
 }
 
@@ -85,6 +80,7 @@ fn answer_read(input: &[u8], n: usize, out: &mut [u8]) -> usize
 }
 
 // So many bytes at the front of a buffer, and whether every read was made without a failure.
+// A flag beside the count: what stands before a failed read is answered all the same, so a Result would be taken apart where it comes in.
 #[derive(Drop)]
 struct Filled {
     count: usize,

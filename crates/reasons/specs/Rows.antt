@@ -5,7 +5,7 @@ use Rattle.journeys.specs.Counting.{none}
 use Rattle.journeys.specs.Network.{Network, within}
 use Rattle.journeys.specs.Records as records
 use Rattle.journeys.specs.Refusals.{Refusal, unless, chain, first_bad}
-use Rattle.journeys.specs.VendorLists.{size, no_better, backs, is_new, in_time, backed, from_place, to_place}
+use Rattle.journeys.specs.VendorLists.{no_better, backs, is_new, in_time, backed, from_place, to_place}
 use Rattle.entries.specs.Noted.{heard}
 use Rattle.passing.specs.Row.{asking, passes, record_of, from_of}
 use Rattle.passing.specs.declared.Arriving.{Arriving}

@@ -15,7 +15,7 @@ ghost use Rattle.passing.specs.Row.{passes, Counted};
 ghost use Rattle.reasons.specs.Rows.{seed_of, farther, to_of, net_of, Led, Figures, Gives, entry_good, good_by, fair_by, offer_refusal};
 
 use passing::Arriving;
-use words::{NONE, Refusal, Ticks, refused, word_at};
+use words::{NONE, Reason, Refusal, Ticks, refused, word_at};
 
 // The vertices of the query's road with the distances that they have as seeds; `back` is none where "to" is no seed.
 #[derive(Clone, Copy)]
@@ -42,16 +42,9 @@ fn seed_at(ends: Seeds, v: u32) -> u32
 fn at_distance(all: Arriving, distance: u32) -> Arriving
     ensures { result ≡ farther all distance }
 {
-    let arrival = all.arrival;
-    let allowed = all.allowed;
     Arriving {
-        walks: all.walks,
-        hops: all.hops,
-        size: all.size,
         distance: Ticks(distance),
-        arrival: arrival,
-        speed: all.speed,
-        allowed: allowed,
+        ..all
     }
 }
 
@@ -139,8 +132,8 @@ fn first_wrong(
     ensures first { First (entry_good (net_of vertices walks.now hops.now all ends) all.allowed.0 list.now) (size list.now) result }
     ensures figures { Figures far.new × Gives far.new (far_before list.now result) }
 {
-    let mut i = 0;
-    while i < list.len() / 12 {
+    let n = list.len() / 12;
+    for i in 0..n {
         let v = word_at(list, 12 * i);
         let d = word_at(list, 12 * i + 4);
         if !entry_ok(
@@ -157,9 +150,8 @@ fn first_wrong(
             return i;
         }
         far[v as usize] = d;
-        i += 1;
     }
-    i
+    n
 }
 
 // What is offered is no better than what is listed, or than D where nothing is. It does not branch, since nothing tells beforehand whether a vertex is listed.
@@ -203,18 +195,23 @@ fn first_unfair(
     requires led { Led walks.now hops.now all }
     ensures { First (fair_by (net_of 65536 walks.now hops.now all ends) most (heard far.now)) (passes all) result }
 {
-    let mut r = 0;
-    while r < all.walks + all.hops {
+    let n = all.walks + all.hops;
+    for r in 0..n {
         if !record_fair(walks, hops, all, ends, most, far, r) {
             return r;
         }
-        r += 1;
     }
-    r
+    n
 }
 
 // 28 by what `far` lists: the seed of "from", that of "to", and only then the lowest record.
-fn offer_fault(walks: &[u8], hops: &[u8], all: Arriving, ends: Seeds, far: &[u32]) -> Refusal
+fn offer_fault(
+    walks: &[u8],
+    hops: &[u8],
+    all: Arriving,
+    ends: Seeds,
+    far: &[u32],
+) -> Result<(), Refusal>
     requires sound { row.Sound walks.now hops.now all × Figures far.now × (passes all ≤ 524288) }
     requires led { Led walks.now hops.now all }
     requires from_bound { (ends.from < 65536) × (ends.to < 65536) × (ends.from ≢ ends.to) }
@@ -222,16 +219,16 @@ fn offer_fault(walks: &[u8], hops: &[u8], all: Arriving, ends: Seeds, far: &[u32
 {
     let most = all.allowed.0;
     if !no_better(most, far[ends.from as usize], ends.near.0) {
-        return refused(28, 4294967294);
+        return refused(Reason::BoughtOffer, 4294967294);
     }
     if !no_better(most, far[ends.to as usize], ends.back.0) {
-        return refused(28, 4294967295);
+        return refused(Reason::BoughtOffer, 4294967295);
     }
     let r = first_unfair(walks, hops, all, ends, most, far);
     if r < all.walks + all.hops {
-        return refused(28, r as u32);
+        return refused(Reason::BoughtOffer, r as u32);
     }
-    words::fine()
+    Ok(())
 }
 
 // 25 to 28 of any list.
@@ -242,7 +239,7 @@ pub fn list_fault(
     ends: Seeds,
     list: &[u8],
     vertices: usize,
-) -> Refusal
+) -> Result<(), Refusal>
     requires sound { row.Sound walks.now hops.now all × (passes all ≤ 524288) × (vertices ≤ 65536) }
     requires led { Led walks.now hops.now all }
     requires from_bound { (ends.from < 65536) × (ends.to < 65536) × (ends.from ≢ ends.to) }

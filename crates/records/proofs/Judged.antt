@@ -3,6 +3,7 @@ use mathlib.Core.Path.{◌≡◌, refl, ◌∙◌}
 use mathlib.Core.Bool.{Bool, true, false, ◌&&◌}
 use mathlib.Core.List.{List, []}
 use Prim.Native.Nat.{ℕ, ◌+◌, ◌/◌, ◌<◌}
+use Rattle.std.specs.Prelude.{Ok, Err}
 use native.Mathlib.Omega.{arith}
 use borrow.Author.Tests.{leb-true, le-leb}
 use lib.Dec.{eqb, leb}
@@ -15,9 +16,6 @@ use Rattle.journeys.specs.Refusals.{ends_ok, length_ok, wait_ok, twin_ok, times_
 use Rattle.journeys.proofs.Tests.{and_left, and_right, same_test}
 use Rattle.journeys.proofs.Decoding.{vertex-at, walk_at_lem, hop-at, vertex-count}
 use Rattle.records.specs.Columns.{records_in, arriving_below}
-use Rattle.records.specs.declared.VertexRead.TheVariants as vertices
-use Rattle.records.specs.declared.WalkRead.TheVariants as walks
-use Rattle.records.specs.declared.HopRead.TheVariants as hops
 use Rattle.records.specs.Meaning.{vertex_of, walk_of, hop_of}
 use Rattle.records.specs.Readings.{told_vertex, told_walk, told_hop, vertex_reading, walk_reading, hop_reading}
 use Rattle.records.proofs.Columns.{walks-below, hops-below}
@@ -68,26 +66,26 @@ module _ (size : ℕ) (v w h : List ℕ) where
   vertex-ok x l = rw (vertex-at size v w h x l, walks-below size v w h x, hops-below size v w h x)
 
   -- the two answers of each reader
-  pub walk-good : (i : ℕ) → i < records_in 16 w → walk_ok (tables_of size v w h) i ≡ true → told_walk (walks.Good (walk_of (walk_at w i))) ≡ walk_reading (tables_of size v w h) i
+  pub walk-good : (i : ℕ) → i < records_in 16 w → walk_ok (tables_of size v w h) i ≡ true → told_walk (Ok (walk_of (walk_at w i))) ≡ walk_reading (tables_of size v w h) i
   unfolding told_walk walk_reading
   walk-good i l e = rw (e, walk_at_lem size v w h i l)
 
-  pub walk-bad : (i : ℕ) → walk_ok (tables_of size v w h) i ≡ false → told_walk (walks.Bad i) ≡ walk_reading (tables_of size v w h) i
+  pub walk-bad : (i : ℕ) → walk_ok (tables_of size v w h) i ≡ false → told_walk (Err i) ≡ walk_reading (tables_of size v w h) i
   unfolding told_walk walk_reading
   walk-bad i e = rw e
 
-  pub hop-good : (j : ℕ) → j < records_in size h → hop_ok (tables_of size v w h) j ≡ true → told_hop (hops.Good (hop_of (hop_at size h j))) ≡ hop_reading (tables_of size v w h) j
+  pub hop-good : (j : ℕ) → j < records_in size h → hop_ok (tables_of size v w h) j ≡ true → told_hop (Ok (hop_of (hop_at size h j))) ≡ hop_reading (tables_of size v w h) j
   unfolding told_hop hop_reading
   hop-good j l e = rw (e, hop-at size v w h j l)
 
-  pub hop-bad : (j : ℕ) → hop_ok (tables_of size v w h) j ≡ false → told_hop (hops.Bad j) ≡ hop_reading (tables_of size v w h) j
+  pub hop-bad : (j : ℕ) → hop_ok (tables_of size v w h) j ≡ false → told_hop (Err j) ≡ hop_reading (tables_of size v w h) j
   unfolding told_hop hop_reading
   hop-bad j e = rw e
 
-  pub vertex-good : (x : ℕ) → x < length v / 12 → vertex_ok (tables_of size v w h) x ≡ true → told_vertex (vertices.Good (vertex_of (vertex_at v x))) ≡ vertex_reading (tables_of size v w h) x
+  pub vertex-good : (x : ℕ) → x < length v / 12 → vertex_ok (tables_of size v w h) x ≡ true → told_vertex (Ok (vertex_of (vertex_at v x))) ≡ vertex_reading (tables_of size v w h) x
   unfolding told_vertex vertex_reading
   vertex-good x l e = rw (e, vertex-at size v w h x l)
 
-  pub vertex-bad : (x : ℕ) → vertex_ok (tables_of size v w h) x ≡ false → told_vertex (vertices.Bad x) ≡ vertex_reading (tables_of size v w h) x
+  pub vertex-bad : (x : ℕ) → vertex_ok (tables_of size v w h) x ≡ false → told_vertex (Err x) ≡ vertex_reading (tables_of size v w h) x
   unfolding told_vertex vertex_reading
   vertex-bad x e = rw e

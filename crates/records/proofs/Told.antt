@@ -1,14 +1,12 @@
--- The definitions that give the rules' numbers for each case of an enum (RULES 18.6) tell different answers apart. Assumes nothing.
+-- The definitions that give the rules' numbers for each case of an answer (RULES 18.6) tell different answers apart. Assumes nothing.
 use mathlib.Core.Path.{◌≡◌, ap}
 use Prim.Native.Nat.{ℕ}
+use Rattle.std.specs.Prelude.{Result, Ok, Err}
 use lib.IntN.{ℤ, pos}
 use lib.ListN.{get_or}
-use Rattle.records.specs.declared.VertexRead.{VertexRead}
-use Rattle.records.specs.declared.VertexRead.TheVariants as vertices
-use Rattle.records.specs.declared.WalkRead.{WalkRead}
-use Rattle.records.specs.declared.WalkRead.TheVariants as walks
-use Rattle.records.specs.declared.HopRead.{HopRead}
-use Rattle.records.specs.declared.HopRead.TheVariants as hops
+use Rattle.records.specs.declared.Vertex.{Vertex}
+use Rattle.records.specs.declared.Walk.{Walk}
+use Rattle.records.specs.declared.Hop.{Hop}
 use Rattle.records.specs.Readings.{Reading, good, refused, told_vertex, told_walk, told_hop}
 
 -- the place of a refusal, and a field of a good record
@@ -31,29 +29,29 @@ five : {A B C D E F : Type 0} (f : A → B → C → D → E → F) {a a' : A} {
     → f a b c d e ≡ f a' b' c' d' e'
 five f p q r s t = cc
 
-pub vertex-injective : (a b : VertexRead) → told_vertex a ≡ told_vertex b → a ≡ b
+pub vertex-injective : (a b : Result Vertex ℕ) → told_vertex a ≡ told_vertex b → a ≡ b
 unfolding told_vertex place field
-vertex-injective (vertices.Good a) (vertices.Good b) e =
-    four (λ (x y z w : ℕ). vertices.Good (record { first_walk = x; first_hop = y; departing = z; zeros = w }))
+vertex-injective (Ok a) (Ok b) e =
+    four (λ (x y z w : ℕ). Ok (record { first_walk = x; first_hop = y; departing = z; zeros = w }))
     (number (ap (field 0) e)) (number (ap (field 1) e)) (number (ap (field 2) e)) (number (ap (field 3) e))
-vertex-injective (vertices.Good a) (vertices.Bad b) e = cc
-vertex-injective (vertices.Bad a) (vertices.Good b) e = cc
-vertex-injective (vertices.Bad a) (vertices.Bad b) e = ap vertices.Bad (ap place e)
+vertex-injective (Ok a) (Err b) e = cc
+vertex-injective (Err a) (Ok b) e = cc
+vertex-injective (Err a) (Err b) e = ap Err (ap place e)
 
-pub walk-injective : (a b : WalkRead) → told_walk a ≡ told_walk b → a ≡ b
+pub walk-injective : (a b : Result Walk ℕ) → told_walk a ≡ told_walk b → a ≡ b
 unfolding told_walk place field
-walk-injective (walks.Good a) (walks.Good b) e =
-    five (λ (x y z : ℕ) (t : ℤ) (w : ℕ). walks.Good (record { from = x; to = y; len = record { 0 = z }; wait = record { 0 = t }; twin = w }))
+walk-injective (Ok a) (Ok b) e =
+    five (λ (x y z : ℕ) (t : ℤ) (w : ℕ). Ok (record { from = x; to = y; len = record { 0 = z }; wait = record { 0 = t }; twin = w }))
     (number (ap (field 0) e)) (number (ap (field 1) e)) (number (ap (field 2) e)) (ap (field 3) e) (number (ap (field 4) e))
-walk-injective (walks.Good a) (walks.Bad b) e = cc
-walk-injective (walks.Bad a) (walks.Good b) e = cc
-walk-injective (walks.Bad a) (walks.Bad b) e = ap walks.Bad (ap place e)
+walk-injective (Ok a) (Err b) e = cc
+walk-injective (Err a) (Ok b) e = cc
+walk-injective (Err a) (Err b) e = ap Err (ap place e)
 
-pub hop-injective : (a b : HopRead) → told_hop a ≡ told_hop b → a ≡ b
+pub hop-injective : (a b : Result Hop ℕ) → told_hop a ≡ told_hop b → a ≡ b
 unfolding told_hop place field
-hop-injective (hops.Good a) (hops.Good b) e =
-    four (λ (x y : ℕ) (z w : ℤ). hops.Good (record { from = x; to = y; departure = record { 0 = z }; arrival = record { 0 = w } }))
+hop-injective (Ok a) (Ok b) e =
+    four (λ (x y : ℕ) (z w : ℤ). Ok (record { from = x; to = y; departure = record { 0 = z }; arrival = record { 0 = w } }))
     (number (ap (field 0) e)) (number (ap (field 1) e)) (ap (field 2) e) (ap (field 3) e)
-hop-injective (hops.Good a) (hops.Bad b) e = cc
-hop-injective (hops.Bad a) (hops.Good b) e = cc
-hop-injective (hops.Bad a) (hops.Bad b) e = ap hops.Bad (ap place e)
+hop-injective (Ok a) (Err b) e = cc
+hop-injective (Err a) (Ok b) e = cc
+hop-injective (Err a) (Err b) e = ap Err (ap place e)

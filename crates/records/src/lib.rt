@@ -15,11 +15,12 @@ ghost use Rattle.records.specs.Readings.{told_vertex, told_walk, told_hop, verte
 ghost use Rattle.records.specs.Columns.{records_in, from_at, to_at, Ascending, arriving_below};
 ghost use Rattle.records.specs.Arriving.{table_of, size_of, first_of, end_of, run};
 ghost use Rattle.records.specs.Fields.{settled_of, part_of};
+ghost use Rattle.words.specs.Told.{number_of};
 ghost use Rattle.words.specs.Written.{written};
 
 use words::{
-    NONE, Offset, Seconds, Ticks, half_at, not_after, put_word, seconds_of, ticks_of, walked,
-    word_at,
+    NONE, Offset, Reason, Seconds, Ticks, half_at, not_after, put_word, seconds_of, ticks_of,
+    walked, word_at,
 };
 
 #[derive(Clone, Copy)]
@@ -45,25 +46,6 @@ pub struct Hop {
     pub to: u32,
     pub departure: Seconds,
     pub arrival: Seconds,
-}
-
-// What a reader answers: the good record, or the refusal of it with its place.
-#[derive(Clone, Copy)]
-pub enum VertexRead {
-    Good(Vertex),
-    Bad(u32),
-}
-
-#[derive(Clone, Copy)]
-pub enum WalkRead {
-    Good(Walk),
-    Bad(u32),
-}
-
-#[derive(Clone, Copy)]
-pub enum HopRead {
-    Good(Hop),
-    Bad(u32),
 }
 
 // The two tables that hold arriving records.
@@ -98,12 +80,12 @@ pub struct Answer {
 pub const WALK_SIZE: usize = 16;
 
 // An answer that refuses: nothing is listed.
-pub fn refusal(number: u32, place: u32) -> Answer
-    ensures { result ≡ refusal_of number place }
+pub fn refusal(reason: Reason, place: u32) -> Answer
+    ensures { result ≡ refusal_of (number_of reason) place }
 {
     Answer {
-        refusal: number,
-        place: place,
+        refusal: u32::from(reason),
+        place,
         settled: 0,
         parts: 0,
         held: 0,
@@ -111,7 +93,7 @@ pub fn refusal(number: u32, place: u32) -> Answer
     }
 }
 
-// The record at a number, as it stands.
+// The record at a number, as it stands. Each kind has a reader of its own, here and below: they share no field, and each is told other things.
 pub fn vertex_at(vertices: &[u8], v: usize) -> Vertex
     requires { v < length vertices.now / 12 }
     ensures { result ≡ vertex_of (vertex_at vertices.now v) }
@@ -190,7 +172,7 @@ pub fn hop_start(size: usize, i: usize) -> usize
     size * i
 }
 
-// "from" and "to" of the record i of records of a size.
+// "from" and "to" of the record i of records of a size. Two functions of a line: a parameter for the byte would be no plainer.
 pub fn from_at(table: &[u8], size: usize, i: usize) -> u32
     requires { (4 ≤ size) × (i < records_in size table.now) }
     ensures { result ≡ from_at size table.now i }
@@ -227,7 +209,7 @@ fn wait_ok(wait: Seconds) -> bool
 fn pair_ok(i: u32, w: Walk, t: Walk) -> bool
     ensures { result ≡ pair_ok i (walk_in w) (walk_in t) }
 {
-    (t.twin == i) & (t.from == w.to) & (t.to == w.from) & (t.len.0 == w.len.0)
+    (t.twin == i) & (t.from == w.to) & (t.to == w.from) & (t.len == w.len)
 }
 
 fn twin_ok(walks: &[u8], i: u32, w: Walk) -> bool
@@ -273,7 +255,7 @@ pub fn first_ok(table: &[u8], size: usize, first: u32, v: u32) -> bool
     true
 }
 
-// The record at a number, or the refusal of it. For a vertex both tables ascend by "to", and `departs` is the number of its departing records.
+// The record at a number, or the place of a refusal of it. For a vertex both tables ascend by "to", and `departs` is the number of its departing records.
 pub fn read_vertex(
     vertices: &[u8],
     walks: &[u8],
@@ -281,7 +263,7 @@ pub fn read_vertex(
     hop_size: usize,
     v: u32,
     departs: u32,
-) -> VertexRead
+) -> Result<Vertex, u32>
     requires v_in_bounds { (v < length vertices.now / 12) × (16 ≤ hop_size) }
     requires ascending { Ascending 16 walks.now }
     requires ascending_2 { Ascending hop_size hops.now }
@@ -294,9 +276,9 @@ pub fn read_vertex(
         & (x.departing == departs)
         & (x.zeros == 0)
     {
-        VertexRead::Good(x)
+        Ok(x)
     } else {
-        VertexRead::Bad(v)
+        Err(v)
     }
 }
 
@@ -325,19 +307,19 @@ fn walk_ok(vertices: &[u8], walks: &[u8], i: u32) -> bool
 }
 
 // Of a walk those before it are good.
-pub fn read_walk(vertices: &[u8], walks: &[u8], i: u32) -> WalkRead
+pub fn read_walk(vertices: &[u8], walks: &[u8], i: u32) -> Result<Walk, u32>
     requires i_bound { (i < records_in 16 walks.now) × (records_in 16 walks.now ≤ 262144) }
     requires by_index { (k : ℕ) → k < i → walk_ok (tables_of 16 vertices.now walks.now []) k ≡ true }
     ensures { told_walk result ≡ walk_reading (tables_of 16 vertices.now walks.now []) i }
 {
     if walk_ok(vertices, walks, i) {
-        WalkRead::Good(walk_at(walks, i as usize))
+        Ok(walk_at(walks, i as usize))
     } else {
-        WalkRead::Bad(i)
+        Err(i)
     }
 }
 
-pub fn read_hop(vertices: &[u8], hops: &[u8], size: usize, j: u32) -> HopRead
+pub fn read_hop(vertices: &[u8], hops: &[u8], size: usize, j: u32) -> Result<Hop, u32>
     requires { (16 ≤ size) × (j < records_in size hops.now) }
     ensures { told_hop result ≡ hop_reading (tables_of size vertices.now [] hops.now) j }
 {
@@ -345,9 +327,9 @@ pub fn read_hop(vertices: &[u8], hops: &[u8], size: usize, j: u32) -> HopRead
     let departure = h.departure;
     let arrival = h.arrival;
     if ends_ok(vertices.len() / 12, h.from, h.to) & times_ok(departure, arrival) {
-        HopRead::Good(h)
+        Ok(h)
     } else {
-        HopRead::Bad(j)
+        Err(j)
     }
 }
 
@@ -398,7 +380,8 @@ pub fn arriving<'a>(
     }
 }
 
-// A record at the front of what is lent: the unfilled rest of a buffer.
+// A record at the front of what is lent: the unfilled rest of a buffer. Each kind has its own fields: a writer of any number of words would need a
+// loop, and say less.
 pub fn put_settled(out: &mut [u8], vertex: u32, distance: Ticks)
     requires { 8 ≤ length out.old }
     ensures { out.new ≡ settled_bytes (settled_of vertex distance.0) ++ drop 8 out.old }

@@ -62,11 +62,9 @@ fn record_line(
     ensures upper_bound { result ≤ at + 49 }
 {
     let mut to = put(out, at, label);
-    let mut j = 0;
-    while j < n {
+    for j in 0..n {
         let x = word_at(table, from + 4 * j);
         to = field(out, to, x);
-        j += 1;
     }
     newline(out, to)
 }
@@ -79,10 +77,8 @@ fn lines(out: &mut [u8], at: usize, label: &[u8], table: &[u8], n: usize, count:
 {
     let size = 4 * n;
     let mut to = at;
-    let mut i = 0;
-    while i < count {
+    for i in 0..count {
         to = record_line(out, to, label, table, size * i, n);
-        i += 1;
     }
     to
 }

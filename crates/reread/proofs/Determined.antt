@@ -1,5 +1,5 @@
 -- The contracts settle their answers. Assumes nothing.
-use mathlib.Core.Path.{◌≡◌, refl, sym, ap, ◌∙◌}
+use mathlib.Core.Path.{◌≡◌, sym, ap, ◌∙◌}
 use Rattle.feed.specs.Stops.{Stop}
 use Rattle.reread.specs.declared.Halt.{Halt}
 use Rattle.reread.specs.Read.{stop_is}

@@ -1,11 +1,10 @@
 -- Stops read one by one. Assumes nothing.
 use mathlib.Core.Path.{◌≡◌, refl, sym, ap, ◌∙◌}
 use mathlib.Core.Logic.{⊎_elim}
-use mathlib.Core.Bool.{Bool, true, false, cond, ◌||◌}
+use mathlib.Core.Bool.{Bool, true, false}
 use mathlib.Core.List.{List, [], ◌∷◌}
 use Prim.Native.Nat.{ℕ, zero, suc, ◌+◌, ◌-◌, ◌≤◌, ◌<◌}
 use native.Mathlib.Omega.{arith}
-use native.Mathlib.Numerals.{add-one}
 use lib.ListN.{length, drop, drop_of_length-le}
 use Rattle.journeys.specs.Refusals.{fine}
 use Rattle.journeys.proofs.Tests.{split}
@@ -14,7 +13,7 @@ use Rattle.feed.specs.Fields.{row_of, field}
 use Rattle.feed.specs.Values.{value_of}
 use Rattle.feed.specs.Ids.{number_of}
 use Rattle.feed.specs.Stops.{Stop, or_other}
-use Rattle.feed.specs.Trips.{stop, no_stop}
+use Rattle.feed.specs.Trips.{stop}
 use Rattle.lines.specs.Spans.{bytes_in}
 use Rattle.rows.specs.Placed.{field_span}
 use Rattle.naming.specs.Named.{line_at, next_at, found_from}
@@ -23,8 +22,7 @@ use Rattle.naming.proofs.Meaning.{lines_step, all-good, or-rest}
 use Rattle.halts.specs.Halts.{timed_in}
 use Rattle.stoplist.specs.declared.Columns.{Columns}
 use Rattle.stoplist.specs.Made.{entry_good}
-use Rattle.reread.specs.declared.Halt.{Halt}
-use Rattle.reread.specs.Read.{stop_is, stop_read, stops_read, stops_here, many_lines, Lined}
+use Rattle.reread.specs.Read.{stop_read, stops_read, many_lines, Lined}
 
 module _ (C : Columns) (stops trips : List ℕ) where
   pub read_as_lem : (i : ℕ) (l : List ℕ) {v t o s a d : ℕ} {w : Bool} → v ≡ number_of stops (field (row_of l) C.stop) → t ≡ found_from trips 0 (bytes_in l (field_span l C.trip)) → o ≡ number_of trips (field (row_of l) C.trip)

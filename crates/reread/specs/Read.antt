@@ -10,7 +10,6 @@ use Rattle.feed.specs.Stops.{Stop, or_other}
 use Rattle.lines.specs.Spans.{bytes_in}
 use Rattle.rows.specs.Placed.{field_span}
 use Rattle.naming.specs.Named.{found_from}
-use Rattle.known.specs.Counted.{Slots, Listed}
 use Rattle.halts.specs.Halts.{timed_in}
 use Rattle.stoplist.specs.declared.Columns.{Columns}
 use Rattle.stoplist.specs.Made.{entry_good, Inside}
@@ -57,14 +56,10 @@ unfoldable pub many_lines : List (List ℕ) → ℕ
 many_lines [] = 0
 many_lines (l ∷ ls) = cond (empty l) (many_lines ls) (suc (many_lines ls))
 
--- the lists are good, and their ids are found by the tables
-pub record Ready (C : Columns) (stops trips bs : List ℕ) (ns ms : ℕ) (bt : List ℕ) (nt mt : ℕ) : Type 0 where
+-- the lists are good
+pub record Ready (C : Columns) (stops trips : List ℕ) : Type 0 where
   pub inside : Inside C
-  pub stop_nodes : Slots ns bs
-  pub stops_listed : Listed stops ns ms bs
   pub stops_good : ids_refusal 65535 stops ≡ fine
-  pub trip_nodes : Slots nt bt
-  pub trips_listed : Listed trips nt mt bt
   pub trips_good : ids_refusal none trips ≡ fine
 
 -- line 2 begins inside the text, and 13 and 14 let its lines pass

@@ -9,8 +9,10 @@ ghost use Rattle.feed.specs.Trips.{stop};
 ghost use Rattle.stoplist.specs.Made.{entry_good};
 ghost use Rattle.reread.specs.Read.{stop_is, stop_read, stops_here, many_lines, Ready, Lined};
 
+use idtable::Ids;
 use stoplist::Columns;
 
+// No Option of the two times: the definitions read those of a stop without times, too.
 #[derive(Clone, Copy)]
 pub struct Halt {
     pub line: usize,
@@ -23,26 +25,14 @@ pub struct Halt {
     pub departure: u32,
 }
 
-fn halt_of(
-    number: usize,
-    line: &[u8],
-    c: Columns,
-    bs: &[u8],
-    ns: usize,
-    ms: usize,
-    stops: &[u8],
-    bt: &[u8],
-    nt: usize,
-    mt: usize,
-    trips: &[u8],
-) -> Halt
-    requires { Ready c stops.now trips.now bs.now ns ms bt.now nt mt × (entry_good c stops.now trips.now line.now ≡ true) }
+fn halt_of(number: usize, line: &[u8], c: Columns, stops: &Ids, trips: &Ids) -> Halt
+    requires { Ready c stops.now trips.now × (entry_good c stops.now trips.now line.now ≡ true) }
     ensures { stop_is result ≡ stop_read c stops.now trips.now number line.now }
 {
-    let p = stoplist::places_in(line, c);
-    let vertex = stoplist::vertex_of(bs, ns, ms, stops, line, c.stop, p.stop);
-    let trip = known::listed_from(bt, nt, mt, trips, line, c.trip, p.trip);
-    let own = spelling::number_at(trips, trip - 1);
+    let p = stoplist::places_in(line, c).unwrap();
+    let vertex = stoplist::vertex_of(stops, line, c.stop, p.stop);
+    let trip = known::listed_from(trips, line, c.trip, p.trip);
+    let own = spelling::number_at(trips.list, trip - 1);
     let sequence = halts::number_from(line, c.sequence, p.sequence);
     let times = halts::times_of(line, c.arrival, c.departure, p.arrival, p.departure);
     Halt {
@@ -63,64 +53,32 @@ fn halt_in(
     at: usize,
     stop: usize,
     c: Columns,
-    bs: &[u8],
-    ns: usize,
-    ms: usize,
-    stops: &[u8],
-    bt: &[u8],
-    nt: usize,
-    mt: usize,
-    trips: &[u8],
+    stops: &Ids,
+    trips: &Ids,
 ) -> Halt
     requires at_le_stop { (at ≤ stop) × (stop ≤ length text.now) }
-    requires ready { Ready c stops.now trips.now bs.now ns ms bt.now nt mt × (entry_good c stops.now trips.now (take (stop - at) (drop at text.now)) ≡ true) }
+    requires ready { Ready c stops.now trips.now × (entry_good c stops.now trips.now (take (stop - at) (drop at text.now)) ≡ true) }
     ensures { stop_is result ≡ stop_read c stops.now trips.now number (take (stop - at) (drop at text.now)) }
 {
-    halt_of(
-        number,
-        &text[at..stop],
-        c,
-        bs,
-        ns,
-        ms,
-        stops,
-        bt,
-        nt,
-        mt,
-        trips,
-    )
+    halt_of(number, &text[at..stop], c, stops, trips)
 }
 
 // Stop i of the lines from a place on, where line 2 begins.
-pub fn stop_at(
-    i: usize,
-    text: &[u8],
-    from: usize,
-    c: Columns,
-    bs: &[u8],
-    ns: usize,
-    ms: usize,
-    stops: &[u8],
-    bt: &[u8],
-    nt: usize,
-    mt: usize,
-    trips: &[u8],
-) -> Halt
-    requires ready { Ready c stops.now trips.now bs.now ns ms bt.now nt mt × Lined c stops.now trips.now text.now from }
+pub fn stop_at(i: usize, text: &[u8], from: usize, c: Columns, stops: &Ids, trips: &Ids) -> Halt
+    requires ready { Ready c stops.now trips.now × Lined c stops.now trips.now text.now from }
     requires i_in_bounds { i < length (stops_here c stops.now trips.now text.now from) }
     ensures { stop_is result ≡ stop (stops_here c stops.now trips.now text.now from) i }
 {
     let mut at = from;
     let mut line = 2;
     let mut left = i;
+    // A while: each turn goes on where the line ends, so there is no range to go over.
     while at < text.len() {
         let stop = lines::line_stop(text, at);
         let next = lines::line_next(text, stop);
         if at < stop {
             if left == 0 {
-                return halt_in(
-                    line, text, at, stop, c, bs, ns, ms, stops, bt, nt, mt, trips,
-                );
+                return halt_in(line, text, at, stop, c, stops, trips);
             }
             left -= 1;
             line += 1;
@@ -130,16 +88,7 @@ pub fn stop_at(
             at = next;
         }
     }
-    Halt {
-        line: 0,
-        trip: 0,
-        number: 0,
-        sequence: 0,
-        vertex: 0,
-        timed: false,
-        arrival: 0,
-        departure: 0,
-    }
+    unreachable!()
 }
 
 // How many stops the lines from a place on have.
@@ -149,6 +98,7 @@ pub fn count_stops(text: &[u8], from: usize) -> usize
 {
     let mut at = from;
     let mut n = 0;
+    // A while: each turn goes on where the line ends, so there is no range to go over.
     while at < text.len() {
         let stop = lines::line_stop(text, at);
         let next = lines::line_next(text, stop);

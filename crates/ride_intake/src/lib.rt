@@ -12,16 +12,16 @@ ghost use Rattle.boarding.specs.RideAnswers.{ride_early};
 ghost use Rattle.ride_intake.specs.Lending.{ride_lent};
 
 use records::Query;
-use words::{Refusal, refused};
+use words::{Reason, Refusal, refused};
 
 // Refusal 1, place 4: the list's buffer is a whole number of records.
-fn list_fault(settled: &[u8]) -> Refusal
+fn list_fault(settled: &[u8]) -> Result<(), Refusal>
     ensures { told result ≡ unless (whole_of 8 settled.now) 1 4 }
 {
     if settled.len() % 8 != 0 {
-        return refused(1, 4);
+        return refused(Reason::Length, 4);
     }
-    words::fine()
+    Ok(())
 }
 
 // Refusal 7, place 5, and 18: the boarding time is at most 600 s, and the scratch has 4 bytes for each hop.
@@ -32,18 +32,18 @@ fn mode_fault(
     hop_size: usize,
     scratch: &[u8],
     boarding: u32,
-) -> Refusal
+) -> Result<(), Refusal>
     requires { (table_lengths hop_size vertices.now walks.now hops.now).number ≡ 0 }
     ensures { told result ≡ chain (unless (leb boarding 600) 7 5 ∷ unless (leb (4 * hop_count (tables_of hop_size vertices.now walks.now hops.now)) (length scratch.now)) 18 0 ∷ []) }
 {
     let enough = 4 * (hops.len() / hop_size) <= scratch.len();
     if 600 < boarding {
-        return refused(7, 5);
+        return refused(Reason::Query, 5);
     }
     if !enough {
-        return refused(18, 0);
+        return refused(Reason::Scratch, 0);
     }
-    words::fine()
+    Ok(())
 }
 
 // The whole chain.
@@ -56,25 +56,13 @@ pub fn ride_fault(
     scratch: &[u8],
     q: Query,
     boarding: u32,
-) -> Refusal
+) -> Result<(), Refusal>
     ensures { told result ≡ ride_early (ride_lent vertices.now walks.now hops.now hop_size settled.now scratch.now) (query_of q) boarding }
 {
-    let uneven = audit::lengths(vertices, walks, hops, hop_size);
-    if uneven.number != 0 {
-        return uneven;
-    }
-    let cut = list_fault(settled);
-    if cut.number != 0 {
-        return cut;
-    }
+    audit::lengths(vertices, walks, hops, hop_size)?;
+    list_fault(settled)?;
     let mut counts = [0u16; 2048];
-    let bad = audit::contents(vertices, walks, hops, hop_size, &mut counts);
-    if bad.number != 0 {
-        return bad;
-    }
-    let other = intake::query_fault(walks, q);
-    if other.number != 0 {
-        return other;
-    }
+    audit::contents(vertices, walks, hops, hop_size, &mut counts)?;
+    intake::query_fault(walks, q)?;
     mode_fault(vertices, walks, hops, hop_size, scratch, boarding)
 }

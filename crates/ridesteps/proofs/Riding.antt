@@ -1,4 +1,6 @@
 -- Where the steps with a boarding time stand after some of them, for the order of settling whichever list that is: what a step asks, what it leads to, and how they end. Assumes nothing.
+use Rattle.std.specs.Prelude.{Bool, true, false, not, Option, Some, None, Result, Ok, Err, is_some}
+use Rattle.words.specs.declared.Reason.TheVariants.{SettledRoom}
 use mathlib.Core.Path.{◌≡◌, refl, sym, ap, subst, ◌∙◌}
 use mathlib.Core.Logic.{inr, ⊎_elim}
 use mathlib.Core.List.{List, [], ◌∷◌, ◌++◌, flat_map}
@@ -13,7 +15,7 @@ use Rattle.journeys.specs.Query.{Query, allowed}
 use Rattle.journeys.specs.Settled.{Settled, settled}
 use Rattle.journeys.specs.Answers.{settled_bytes}
 use Rattle.journeys.specs.Valid.{Valid}
-use Rattle.journeys.proofs.Tests.{cond-true, cond-false, le-or-lt}
+use Rattle.journeys.proofs.Tests.{never, le-or-lt}
 use Rattle.journeys.proofs.Counting.{flat-snoc}
 use Rattle.journeys.proofs.Document as document
 use Rattle.words.specs.Written.{written}
@@ -31,7 +33,6 @@ use Rattle.marking.specs.Pends.{State, figures_of}
 use Rattle.stepping.specs.Taken.{NextIs}
 use Rattle.ridesteps.specs.Between.{Between, Opened, Steps, Stepped}
 use Rattle.ridesteps.specs.Ended.{Lists, RiddenIs, RidesEnd}
-use Rattle.ridesteps.specs.declared.Ridden.TheVariants.{Done, Full}
 use Rattle.ridesteps.proofs.OneStep.{first-figure}
 
 -- what stands at the front when one entry more is listed
@@ -73,11 +74,11 @@ module _ (N : Tables) (Q : Query) (M : Mode) (ok : Valid N Q) (long n : ℕ) (se
       (omega (arith, stand.1.room n (omega arith), e, long-is), omega (arith, m, most, ok.tables.vertices_few))
 
   -- Nothing waits within D: the whole order is settled.
-  pub whole : (limit : ℕ) → n ≤ limit → NextIs s.numbers.table s.table (allowed Q) Nearest.Nothing → RidesEnd N Q M long limit list (Done n 1)
+  pub whole : (limit : ℕ) → n ≤ limit → NextIs s.numbers.table s.table (allowed Q) None → RidesEnd N Q M long limit list (Ok (record { settled = n; finished = true }))
   unfolding RiddenIs NextIs
   whole limit below w l O =
       let all : length l ≤ n = ends N Q M ok O ((R l O).0.searching ok O) above in
-      record { lists = (R l O).1; steps = omega (arith, made O); finished_is = sym (cond-true 1 0 (le-leb (length l) n all)) }
+      record { lists = (R l O).1; steps = omega (arith, made O); finished_is = sym (le-leb (length l) n all) }
     where
       small : allowed Q < none
       small = document.allowed-low N Q ok
@@ -91,7 +92,7 @@ module _ (N : Tables) (Q : Query) (M : Mode) (ok : Valid N Q) (long n : ℕ) (se
           (λ (q : allowed Q < figures_of s u). q)
           (le-or-lt (figures_of s u) (allowed Q))
 
-  module _ (slot x d : ℕ) (w : NextIs s.numbers.table s.table (allowed Q) (Nearest.At slot x d)) where
+  module _ (slot x d : ℕ) (w : NextIs s.numbers.table s.table (allowed Q) (Some record { slot = slot; vertex = x; distance = d })) where
     place : Place s.numbers.table s.table x slot
     unfolding NextIs
     place = w.0
@@ -117,24 +118,26 @@ module _ (N : Tables) (Q : Query) (M : Mode) (ok : Valid N Q) (long n : ℕ) (se
     next-long {l} O = omega (arith, length-take (suc n) l, (further O).0)
 
     -- The limit is reached while a vertex waits within D.
-    pub more_left : (limit : ℕ) → n ≡ limit → RidesEnd N Q M long limit list (Done n 0)
+    pub more_left : (limit : ℕ) → n ≡ limit → RidesEnd N Q M long limit list (Ok (record { settled = n; finished = false }))
     unfolding RiddenIs
     more_left limit e l O =
         let f = (further O).0 in
-        record { lists = (R l O).1; steps = omega arith; finished_is = sym (cond-false 1 0 (lt-leb (length l) n f)) }
+        record { lists = (R l O).1; steps = omega arith; finished_is = sym (lt-leb (length l) n f) }
 
     -- The list has no room for it.
-    pub stops : (limit : ℕ) → n < limit → n ≡ length list / 8 → RidesEnd N Q M long limit list (Full (n + 1))
+    pub stops : (limit : ℕ) → n < limit → n ≡ length list / 8 → RidesEnd N Q M long limit list (Err (record { reason = SettledRoom; place = n + 1 }))
     unfolding RiddenIs
     stops limit below e l O =
         let f = (further O).0 in
-        let g : length (take (n + 1) l) ≡ suc n = ap (λ (m : ℕ). length (take m l)) (let z : n + 1 ≡ suc n = omega arith in z) ∙ next-long O in
-        record {
-          length_is = long-is;
-          made = omega arith;
-          lacks = omega (arith, g, long-is);
-          before = λ j h. (R l O).1.room j (omega arith);
-        }
+        let g : length (take (n + 1) l) ≡ suc n = ap (λ (m : ℕ). length (take m l)) (let z : n + 1 ≡ suc n = omega arith in z) ∙ next-long O in (
+          refl,
+          record {
+            length_is = long-is;
+            made = omega arith;
+            lacks = omega (arith, g, long-is);
+            before = λ j h. (R l O).1.room j (omega arith);
+          },
+        )
 
     -- the step may begin
     pub may-step : Steps N Q M set s x slot d
@@ -170,3 +173,13 @@ module _ (N : Tables) (Q : Query) (M : Mode) (ok : Valid N Q) (long n : ℕ) (se
 
           room_next : (j : ℕ) → j ≤ suc n → length (take j l) ≤ long / 8
           room_next j h = ⊎_elim (λ (o : j ≤ n). (R l O).1.room j o) (λ (o : n < j). omega (arith, length-take j l, room, long-is)) (le-or-lt j n)
+
+  -- The limit is reached, and it is asked whether a vertex waits within D.
+  pub at_limit : (limit : ℕ) → n ≡ limit → {D : ℕ} → D ≡ allowed Q → (r : Option Nearest) → NextIs s.numbers.table s.table D r → (finished : Bool) → is_some r ≡ not finished → RidesEnd N Q M long limit list (Ok (record { settled = limit; finished = finished }))
+  at_limit limit e q r w finished f = subst (λ (k : ℕ). RidesEnd N Q M long limit list (Ok (record { settled = k; finished = finished }))) e (go r finished (subst (λ (D : ℕ). NextIs s.numbers.table s.table D r) q w) f)
+    where
+      go : (r : Option Nearest) (b : Bool) → NextIs s.numbers.table s.table (allowed Q) r → is_some r ≡ not b → RidesEnd N Q M long limit list (Ok (record { settled = n; finished = b }))
+      go (Some x) true w f = never refl f
+      go (Some x) false w f = more_left x.slot x.vertex x.distance w limit e
+      go None true w f = whole limit (omega arith) w
+      go None false w f = never refl (sym f)

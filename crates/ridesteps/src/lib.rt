@@ -14,14 +14,13 @@ use bitset::put;
 use marking::{Asked, Pending, alight};
 use offering::pass;
 use spreading::spread;
-use words::Ticks;
-use worktable::Nearest;
+use words::{Reason, Refusal, Ticks};
 
-// How many vertices are listed, and whether that is all (1 or 0); or the step after which the list is larger than lent.
+// How many vertices are listed, and whether that is all.
 #[derive(Clone, Copy)]
-pub enum Ridden {
-    Done(usize, u32),
-    Full(usize),
+pub struct Ridden {
+    pub settled: usize,
+    pub finished: bool,
 }
 
 // One step: x, at its slot, is the next vertex, with the distance d. It is in the set before any record to it offers: an offer to a settled vertex is none, and a hop to x offers only where x is settled.
@@ -58,7 +57,7 @@ fn step(
     )
 }
 
-// Steps up to the limit: as many as it and the order allow, or the first for which the list has no room.
+// Steps up to the limit: as many as it and the order allow, or the first after which the list is larger than lent.
 pub fn steps(
     vertices: &[u8],
     walks: &[u8],
@@ -72,28 +71,34 @@ pub fn steps(
     settled: &mut [u8],
     start: Pending,
     limit: u32,
-) -> Ridden
+) -> Result<Ridden, Refusal>
     requires judged { Judged vertices.now walks.now hops.now a × Sorted vertices.now hops.now a scratch.now }
     requires opened { Opened (tables vertices.now walks.now hops.now a) (query a) (mode hops.now a) set.old (state start table.old marks.old stack.old) }
     ensures { RidesEnd (tables vertices.now walks.now hops.now a) (query a) (mode hops.now a) (length settled.old) limit settled.new result }
 {
     let mut p = start;
-    let mut n: usize = 0;
-    while n < limit as usize {
-        let Nearest::At(slot, x, d) = stepping::next(table, p.table, a.allowed) else {
-            return Ridden::Done(n, 1);
+    for n in 0..limit as usize {
+        let Some(next) = stepping::next(table, p.table, a.allowed) else {
+            return Ok(Ridden {
+                settled: n,
+                finished: true,
+            });
         };
         if n == settled.len() / 8 {
-            return Ridden::Full(n + 1);
+            return Err(Refusal {
+                reason: Reason::SettledRoom,
+                place: (n + 1) as u32,
+            });
         }
+        let x = next.vertex;
+        let d = next.distance;
         records::add_settled(settled, n, x as u32, Ticks(d));
         p = step(
-            vertices, walks, hops, a, set, table, marks, stack, scratch, p, x, slot, d,
+            vertices, walks, hops, a, set, table, marks, stack, scratch, p, x, next.slot, d,
         );
-        n += 1;
     }
-    match stepping::next(table, p.table, a.allowed) {
-        Nearest::At(_, _, _) => Ridden::Done(n, 0),
-        Nearest::Nothing => Ridden::Done(n, 1),
-    }
+    Ok(Ridden {
+        settled: limit as usize,
+        finished: stepping::next(table, p.table, a.allowed).is_none(),
+    })
 }

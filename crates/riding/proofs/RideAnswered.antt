@@ -1,7 +1,8 @@
 -- What the steps and the end leave is the answer that the rules give. Assumes nothing.
+use Rattle.std.specs.Prelude.{Result, Ok, Err}
 use mathlib.Core.Path.{◌≡◌, refl, subst, sym, ap, ◌∙◌}
 use mathlib.Core.Logic.{◌≢◌}
-use mathlib.Core.Bool.{true, false}
+use mathlib.Core.Bool.{Bool, true, false}
 use mathlib.Core.List.{List, ◌++◌, flat_map}
 use Prim.Native.Nat.{ℕ, ◌+◌, ◌-◌, ◌*◌, ◌/◌, ◌≤◌, ◌<◌, min}
 use native.Mathlib.Omega.{arith}
@@ -9,6 +10,7 @@ use lib.Dec.{eqb, leb}
 use lib.ListN.{length, take, replicate, length-take}
 use borrow.Author.Tests.{eq-eqb, ne_eqb, le-leb, lt-leb}
 use Rattle.journeys.specs.Bytes.{filled, cleared}
+use Rattle.journeys.specs.Counting.{one}
 use Rattle.journeys.specs.Tables.{Tables, hop_count}
 use Rattle.journeys.specs.Query.{Query}
 use Rattle.journeys.specs.Settled.{Settled}
@@ -24,13 +26,14 @@ use Rattle.boarding.specs.RideOrder.{IsRideOrder}
 use Rattle.boarding.specs.RideAnswers.{RideLent, RideAnswer, ride_tables, mode_of, ride_early, ride_refused, list_room, ride_accepted, ride_over, RideAllowed}
 use Rattle.boarding.proofs.RideAnswers.{ride-links}
 use Rattle.boarding.proofs.RideOrder.{order_of, order_is, order-size}
-use Rattle.words.specs.Told.{told}
-use Rattle.words.specs.declared.Refusal as words
+use Rattle.words.specs.Told.{number_of, told}
+use Rattle.words.specs.declared.Reason.TheVariants.{SettledRoom}
+use Rattle.words.specs.declared.Refusal.{Refusal}
+use Rattle.words.proofs.Chains as chains
 use Rattle.records.specs.Meaning.{refusal_of}
 use Rattle.records.specs.declared.Answer.{Answer}
 use Rattle.ending.specs.Left.{GivenUp}
 use Rattle.ridesteps.specs.declared.Ridden.{Ridden}
-use Rattle.ridesteps.specs.declared.Ridden.TheVariants.{Done, Full}
 use Rattle.ridesteps.specs.Ended.{RidesOver, RidesShort, RiddenIs, RidesEnd}
 use Rattle.riding.specs.Lending.{ride_answer_of}
 use Rattle.riding.specs.Left.{Listed, Answered}
@@ -44,29 +47,26 @@ unfolding cleared
 cleared-as d d' e = ap (λ (n : ℕ). replicate n 0) e
 
 -- ---- the refusals of the input
-module _ (b : RideLent) (Q : Query) (boarding limit : ℕ) (fault : words.Refusal) (F : told fault ≡ ride_early b Q boarding) where
-  number_is : (ride_early b Q boarding).number ≡ fault.number
-  number_is = ap (λ (r : refusals.Refusal). r.number) (sym F)
-
+module _ (b : RideLent) (Q : Query) (boarding limit : ℕ) {T : Type 0} (fault : Result T Refusal) (F : told fault ≡ ride_early b Q boarding) where
   -- Nothing lent is changed.
-  pub refused-early : (r : Answer) → r ≡ refusal_of fault.number fault.place → fault.number ≢ 0 → RideAllowed b Q boarding limit (ride_answer_of r b.settled b.scratch)
+  pub refused-early : (why : Refusal) → fault ≡ Err why → (r : Answer) → r ≡ refusal_of (number_of why.reason) why.place → RideAllowed b Q boarding limit (ride_answer_of r b.settled b.scratch)
   unfolding ride_refused
-  refused-early r e n =
+  refused-early why f r e =
       record {
-        refused = λ z. ap (λ (x : Answer). ride_answer_of x b.settled b.scratch) e ∙ ap (λ (x : refusals.Refusal). ride_refused x b.settled b.scratch) F;
-        accepted = λ z. absurd (n (sym number_is ∙ z));
+        refused = λ z. ap (λ (x : Answer). ride_answer_of x b.settled b.scratch) e ∙ ap (λ (x : refusals.Refusal). ride_refused x b.settled b.scratch) (sym (ap told f) ∙ F);
+        accepted = λ z. absurd (chains.refuses f F z);
       }
 
   -- What the steps ask.
-  pub passes : fault.number ≡ 0 → Valid (ride_tables b) Q × (boarding ≤ 600) × (4 * hop_count (ride_tables b) ≤ length b.scratch)
-  passes fine = ride-links b Q boarding (number_is ∙ fine)
+  pub passes : {x : T} → fault ≡ Ok x → Valid (ride_tables b) Q × (boarding ≤ 600) × (4 * hop_count (ride_tables b) ≤ length b.scratch)
+  passes fine = ride-links b Q boarding (chains.passes fine F)
 
-  pub wide : fault.number ≡ 0 → 16 ≤ b.hop_size
+  pub wide : {x : T} → fault ≡ Ok x → 16 ≤ b.hop_size
   unfolding ride_early
-  wide fine = size_fits b.hop_size b.vertices b.walks b.hops (or-fine (table_lengths b.hop_size b.vertices b.walks b.hops) _ (number_is ∙ fine)).0
+  wide fine = size_fits b.hop_size b.vertices b.walks b.hops (or-fine (table_lengths b.hop_size b.vertices b.walks b.hops) _ (chains.passes fine F)).0
 
-  pub allow : fault.number ≡ 0 → (a : RideAnswer) → Answered b Q boarding limit a → RideAllowed b Q boarding limit a
-  allow fine a x = record { refused = λ n. absurd (n (number_is ∙ fine)); accepted = λ z. x }
+  pub allow : {x : T} → fault ≡ Ok x → (a : RideAnswer) → Answered b Q boarding limit a → RideAllowed b Q boarding limit a
+  allow fine a x = record { refused = λ n. absurd (n (chains.passes fine F)); accepted = λ z. x }
 
 -- ---- the end of the steps
 module _ (b : RideLent) (Q : Query) (boarding limit : ℕ) (ok : Valid (ride_tables b) Q) where
@@ -88,9 +88,15 @@ module _ (b : RideLent) (Q : Query) (boarding limit : ℕ) (ok : Valid (ride_tab
   abbrev lacking : ℕ → refusals.Refusal
   lacking j = unless (leb (length (take j order)) (length b.settled / 8)) 9 j
 
-  module _ (settled : List ℕ) (end : Ridden) (S : RidesEnd N Q M (length b.settled) limit settled end) where
+  module _ (settled : List ℕ) (end : Result Ridden Refusal) (S : RidesEnd N Q M (length b.settled) limit settled end) where
     -- Room was found for every step.
-    module _ (n finished : ℕ) (done : end ≡ Done n finished) where
+    module _ (ridden : Ridden) (done : end ≡ Ok ridden) where
+      abbrev n : ℕ
+      n = ridden.settled
+
+      abbrev finished : Bool
+      finished = ridden.finished
+
       over : RidesOver order (length b.settled) limit n finished settled
       unfolding RiddenIs
       over = subst (RiddenIs order (length b.settled) limit settled) done (S order order-here)
@@ -112,7 +118,7 @@ module _ (b : RideLent) (Q : Query) (boarding limit : ℕ) (ok : Valid (ride_tab
           (from-none lacking (last + 1) 0
           (λ j _ c. ap (λ (r : refusals.Refusal). r.number) (unless-good _ 9 j (le-leb _ _ (over.lists.room j (omega (arith, c, over.steps))))))))
 
-      pub concluded : {scratch settled' scratch' : List ℕ} {r : Answer} → Listed n finished settled scratch settled' scratch' r → length scratch ≡ length b.scratch
+      pub concluded : {scratch settled' scratch' : List ℕ} {r : Answer} → Listed ridden settled scratch settled' scratch' r → length scratch ≡ length b.scratch
           → Answered b Q boarding limit (ride_answer_of r settled' scratch')
       unfolding ride_over ride_accepted
       concluded {scratch} {settled'} {scratch'} {r} C e = (
@@ -130,7 +136,7 @@ module _ (b : RideLent) (Q : Query) (boarding limit : ℕ) (ok : Valid (ride_tab
           scratch-end : scratch' ≡ cleared b.scratch
           scratch-end = C.scratch_is ∙ cleared-as scratch b.scratch e
 
-          fields : ride_answer_of (record { refusal = 0; place = 0; settled = n; parts = 0; held = 0; finished = finished }) settled' scratch' ≡ ride_accepted b order n
+          fields : ride_answer_of (record { refusal = 0; place = 0; settled = n; parts = 0; held = 0; finished = one finished }) settled' scratch' ≡ ride_accepted b order n
           fields i =
               record {
                 refusal = 0;
@@ -138,19 +144,22 @@ module _ (b : RideLent) (Q : Query) (boarding limit : ℕ) (ok : Valid (ride_tab
                 settled_count = sym all_listed i;
                 part_count = 0;
                 held_count = 0;
-                finished = over.finished_is i;
+                finished = one (over.finished_is i);
                 settled = list-end i;
                 scratch = scratch-end i;
               }
 
     -- The list is larger than lent after one step.
-    module _ (step : ℕ) (full : end ≡ Full step) where
-      short : RidesShort order (length b.settled) limit step settled
-      unfolding RiddenIs
-      short = subst (RiddenIs order (length b.settled) limit settled) full (S order order-here)
+    module _ (why : Refusal) (full : end ≡ Err why) where
+      abbrev step : ℕ
+      step = why.place
 
-      pub step-low : step ≤ limit
-      step-low = omega (arith, short.made)
+      told-short : (why.reason ≡ SettledRoom) × RidesShort order (length b.settled) limit step settled
+      unfolding RiddenIs
+      told-short = subst (RiddenIs order (length b.settled) limit settled) full (S order order-here)
+
+      short : RidesShort order (length b.settled) limit step settled
+      short = told-short.1
 
       lacks : lacking step ≡ record { number = 9; place = step }
       lacks = unless-bad _ 9 step (lt-leb _ _ short.lacks)
@@ -165,13 +174,13 @@ module _ (b : RideLent) (Q : Query) (boarding limit : ℕ) (ok : Valid (ride_tab
       no_room : eqb (list_room b order last).number 0 ≡ false
       no_room = ne_eqb (list_room b order last).number 0 (λ z. let q : ⊥ = omega (arith, z, ap (λ (r : refusals.Refusal). r.number) first_short) in q)
 
-      pub given-up : {scratch settled' scratch' : List ℕ} {r : Answer} → GivenUp 9 step scratch settled scratch' settled' r → length scratch ≡ length b.scratch
+      pub given-up : {m : ℕ} → m ≡ number_of why.reason → {scratch settled' scratch' : List ℕ} {r : Answer} → GivenUp m step scratch settled scratch' settled' r → length scratch ≡ length b.scratch
           → Answered b Q boarding limit (ride_answer_of r settled' scratch')
       unfolding ride_over ride_refused
-      given-up {scratch} {settled'} {scratch'} {r} C e = (
+      given-up {m} em {scratch} {settled'} {scratch'} {r} C e = (
         order,
         order-here,
-        ap (λ (x : Answer). ride_answer_of x settled' scratch') C.answer
+        ap (λ (x : Answer). ride_answer_of x settled' scratch') (C.answer ∙ ap (λ (x : ℕ). refusal_of x step) (em ∙ ap number_of told-short.0))
             ∙ buffers
             ∙ ap (λ (x : refusals.Refusal). ride_refused x (cleared b.settled) (cleared b.scratch)) (sym first_short)
             ∙ sym (cond-false (ride_accepted b order last) (ride_refused (list_room b order last) (cleared b.settled) (cleared b.scratch)) no_room),

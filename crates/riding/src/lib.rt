@@ -15,6 +15,7 @@ ghost use Rattle.riding.specs.Left.{Listed, Answered};
 use marking::{Asked, Pending};
 use records::{Answer, Query, refusal};
 use ridesteps::Ridden;
+use words::Refusal;
 
 // The hops are arranged, the seeds stand in the map, and the steps are made. No hop is pending at first, so the cursor is behind the last.
 fn search_in(
@@ -26,7 +27,7 @@ fn search_in(
     settled: &mut [u8],
     scratch: &mut [u8],
     limit: u32,
-) -> Ridden
+) -> Result<Ridden, Refusal>
     requires { Judged vertices.now walks.now hops.now a × (4 * records_in a.size hops.now ≤ length scratch.old) × (length map.old ≡ 1048576) }
     ensures { RidesEnd (tables vertices.now walks.now hops.now a) (query a) (mode hops.now a) (length settled.old) limit settled.new result }
 {
@@ -65,7 +66,7 @@ fn search(
     settled: &mut [u8],
     scratch: &mut [u8],
     limit: u32,
-) -> Ridden
+) -> Result<Ridden, Refusal>
     requires { Judged vertices.now walks.now hops.now a × (4 * records_in a.size hops.now ≤ length scratch.old) }
     ensures { RidesEnd (tables vertices.now walks.now hops.now a) (query a) (mode hops.now a) (length settled.old) limit settled.new result }
 {
@@ -83,20 +84,20 @@ fn search(
 }
 
 // Room was found for every step: what is not filled of the list becomes zero, and so does the scratch.
-fn listed(settled: &mut [u8], scratch: &mut [u8], n: usize, finished: u32) -> Answer
-    requires { (8 * n ≤ length settled.old) × (n < 4294967296) }
-    ensures { Listed n finished settled.old scratch.old settled.new scratch.new result }
+fn listed(settled: &mut [u8], scratch: &mut [u8], ridden: Ridden) -> Answer
+    requires { (8 * ridden.settled ≤ length settled.old) × (ridden.settled < 4294967296) }
+    ensures { Listed ridden settled.old scratch.old settled.new scratch.new result }
 {
     words::zero(scratch);
-    let filled = 8 * n;
+    let filled = 8 * ridden.settled;
     words::zero(&mut settled[filled..]);
     Answer {
         refusal: 0,
         place: 0,
-        settled: n as u32,
+        settled: ridden.settled as u32,
         parts: 0,
         held: 0,
-        finished: finished,
+        finished: u32::from(ridden.finished),
     }
 }
 
@@ -114,8 +115,8 @@ fn judged(
     ensures { Answered (ride_lent vertices.now walks.now hops.now a.size settled.old scratch.old) (query a) a.boarding limit (ride_answer_of result settled.new scratch.new) }
 {
     match search(vertices, walks, hops, a, settled, scratch, limit) {
-        Ridden::Done(n, finished) => listed(settled, scratch, n, finished),
-        Ridden::Full(step) => ending::give_up(scratch, settled, 9, step as u32),
+        Ok(ridden) => listed(settled, scratch, ridden),
+        Err(why) => ending::give_up(scratch, settled, u32::from(why.reason), why.place),
     }
 }
 
@@ -133,11 +134,10 @@ pub fn run_rides(
 ) -> Answer
     ensures { RideAllowed (ride_lent vertices.now walks.now hops.now hop_size settled.old scratch.old) (query_of q) boarding limit (ride_answer_of result settled.new scratch.new) }
 {
-    let fault = ride_intake::ride_fault(
+    if let Err(fault) = ride_intake::ride_fault(
         vertices, walks, hops, hop_size, settled, scratch, q, boarding,
-    );
-    if fault.number != 0 {
-        return refusal(fault.number, fault.place);
+    ) {
+        return refusal(fault.reason, fault.place);
     }
     let allowed = intake::allowed(q);
     let a = Asked {

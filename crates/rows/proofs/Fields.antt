@@ -3,18 +3,18 @@ use Prim.Native.Nat.{ℕ, ◌+◌, ◌-◌, ◌≤◌, ◌<◌}
 use native.Mathlib.Omega.{arith}
 use mathlib.Core.Path.{◌≡◌, refl, sym, ap, subst, ◌∙◌}
 use mathlib.Core.Bool.{Bool, true, false, ◌&&◌}
-use mathlib.Core.List.{List, [], ◌∷◌}
+use mathlib.Core.List.{List}
 use lib.Dec.{eqb}
 use lib.ListN.{length, take, drop}
 use borrow.Author.Tests.{eq-eqb, ne_eqb, eqb-true}
-use Rattle.journeys.proofs.Tests.{never, and_left, and_right, same_test}
-use Rattle.feed.specs.Fields.{Row, row_of, field}
+use Rattle.journeys.proofs.Tests.{and_left, and_right, same_test}
+use Rattle.feed.specs.Fields.{row_of, field}
 use Rattle.lines.specs.declared.Stand.{Stand}
 use Rattle.lines.specs.declared.Stand.TheVariants.{Begins, Ended, Broken}
 use Rattle.lines.specs.declared.Span.{Span}
 use Rattle.lines.specs.Passing.{stand}
 use Rattle.lines.specs.Rows.{row_at, Stood, undoubled}
-use Rattle.lines.specs.Spans.{span_at, bytes_in, paired}
+use Rattle.lines.specs.Spans.{bytes_in, paired}
 use Rattle.lines.proofs.Reading.{stand-row}
 use Rattle.lines.proofs.Spans.{whole, field-value, span-paired, span-within}
 use Rattle.feed.specs.Lines.{empty}

@@ -1,5 +1,5 @@
 -- Places of columns, gathered field by field. Assumes nothing.
-use Prim.Native.Nat.{ℕ, ◌+◌, ◌≤◌, ◌<◌}
+use Prim.Native.Nat.{ℕ, ◌+◌, ◌<◌}
 use native.Mathlib.Omega.{arith}
 use native.Mathlib.Decide.{ℕ_discrete}
 use mathlib.Core.Path.{◌≡◌, refl, sym, ap, ◌∙◌}
@@ -14,8 +14,10 @@ use Rattle.lines.specs.declared.Stand.TheVariants.{Begins}
 use Rattle.lines.specs.Passing.{stand}
 use Rattle.lines.specs.Onward.{onward}
 use Rattle.lines.proofs.Onward.{stand-more}
+use Rattle.std.specs.Prelude.{Some, None}
+use Rattle.std.proofs.lemmas.Option.{cond_some}
 use Rattle.rows.specs.declared.Places.{Places}
-use Rattle.rows.specs.Placed.{place_in, place_of, nowhere, places_of}
+use Rattle.rows.specs.Placed.{place_in, place_of, places_of}
 
 -- field k begins at a place: the next one, and what is picked for a column so far
 module _ (s : List ℕ) (k at : ℕ) (b : stand s k 0 ≡ Begins at) where
@@ -32,33 +34,45 @@ module _ (s : List ℕ) (k at : ℕ) (b : stand s k 0 ≡ Begins at) where
 
 -- what is told at the line's end
 module _ (n trip arrival departure stop sequence : ℕ) (s : List ℕ) where
-  pub broken-nowhere : (row_of s).sound ≡ false → nowhere ≡ places_of n trip arrival departure stop sequence s
-  unfolding places_of
-  broken-nowhere e = sym (cond-false _ nowhere (and_left (eqb (length (row_of s).fields) n) e))
+  abbrev places : Places
+  places = record { trip = place_of s trip; arrival = place_of s arrival; departure = place_of s departure; stop = place_of s stop; sequence = place_of s sequence }
 
-  pub other-nowhere : (length (row_of s).fields ≡ n → ⊥) → nowhere ≡ places_of n trip arrival departure stop sequence s
+  abbrev counted : Bool
+  counted = (row_of s).sound && eqb (length (row_of s).fields) n
+
+  broken : counted ≡ false → None ≡ places_of n trip arrival departure stop sequence s
   unfolding places_of
-  other-nowhere e = sym (cond-false _ nowhere (and_right (row_of s).sound (ne_eqb _ _ e)))
+  broken e = sym (cond-false (Some places) None e)
+
+  pub broken-nowhere : (row_of s).sound ≡ false → None ≡ places_of n trip arrival departure stop sequence s
+  broken-nowhere e = broken (and_left (eqb (length (row_of s).fields) n) e)
+
+  pub other-nowhere : (length (row_of s).fields ≡ n → ⊥) → None ≡ places_of n trip arrival departure stop sequence s
+  other-nowhere e = broken (and_right (row_of s).sound (ne_eqb _ _ e))
 
   pub all_placed : {t a d p q : ℕ} → (row_of s).sound ≡ true → length (row_of s).fields ≡ n → t ≡ place_of s trip → a ≡ place_of s arrival → d ≡ place_of s departure → p ≡ place_of s stop
-      → q ≡ place_of s sequence → record { fits = true; trip = t; arrival = a; departure = d; stop = p; sequence = q } ≡ places_of n trip arrival departure stop sequence s
+      → q ≡ place_of s sequence → Some (record { trip = t; arrival = a; departure = d; stop = p; sequence = q }) ≡ places_of n trip arrival departure stop sequence s
   unfolding places_of
   all_placed g e t a d p q = rw (g, eq-eqb _ _ e, t, a, d, p, q) refl
 
 -- what places tell of their line
-module _ (n trip arrival departure stop sequence : ℕ) (s : List ℕ) {r : Places} (e : r ≡ places_of n trip arrival departure stop sequence s) where
-  pub fits-counted : r.fits ≡ ((row_of s).sound && eqb (length (row_of s).fields) n)
+module _ (n trip arrival departure stop sequence : ℕ) (s : List ℕ) where
+  pub nowhere-uncounted : None ≡ places_of n trip arrival departure stop sequence s → ((row_of s).sound && eqb (length (row_of s).fields) n) ≡ false
   unfolding places_of
-  fits-counted = ap (λ (x : Places). x.fits) e ∙ told ((row_of s).sound && eqb (length (row_of s).fields) n)
+  nowhere-uncounted e = told ((row_of s).sound && eqb (length (row_of s).fields) n) (sym e)
     where
-      told : (b : Bool) → (cond b (record { fits = true; trip = place_of s trip; arrival = place_of s arrival; departure = place_of s departure; stop = place_of s stop; sequence = place_of s sequence }) nowhere).fits ≡ b
-      told true = refl
-      told false = refl
+      told : (b : Bool) → cond b (Some (places n trip arrival departure stop sequence s)) None ≡ None → b ≡ false
+      told true p = cc
+      told false p = refl
 
-  module _ (g : r.fits ≡ true) where
-    placed : r ≡ record { fits = true; trip = place_of s trip; arrival = place_of s arrival; departure = place_of s departure; stop = place_of s stop; sequence = place_of s sequence }
+  module _ {r : Places} (e : Some r ≡ places_of n trip arrival departure stop sequence s) where
+    pub fits-counted : ((row_of s).sound && eqb (length (row_of s).fields) n) ≡ true
     unfolding places_of
-    placed = e ∙ cond-true _ nowhere (sym fits-counted ∙ g)
+    fits-counted = (cond_some _ (places n trip arrival departure stop sequence s) r (sym e)).0
+
+    placed : r ≡ places n trip arrival departure stop sequence s
+    unfolding places_of
+    placed = sym (cond_some ((row_of s).sound && eqb (length (row_of s).fields) n) _ r (sym e)).1
 
     pub trip-placed : r.trip ≡ place_of s trip
     trip-placed = ap (λ (x : Places). x.trip) placed

@@ -6,7 +6,7 @@ use mathlib.Core.Path.{◌≡◌, refl, sym, ap, subst, ◌∙◌}
 use mathlib.Core.Logic.{⊎_elim}
 use mathlib.Core.Bool.{Bool, true, false, cond, ◌&&◌, ◌||◌}
 use mathlib.Core.List.{List, [], ◌∷◌, ◌++◌}
-use lib.Dec.{eqb, leb, eqb-suc-zero}
+use lib.Dec.{eqb, eqb-suc-zero}
 use lib.ListN.{length, get_or, take, drop, take-append-drop, length-take, length-drop, drop_of_length-le}
 use borrow.Author.Tests.{eqb-true, eq-eqb}
 use Rattle.journeys.proofs.Tests.{split, never, and_both, and_left, and_right, or_cases, or-none, same_test}
@@ -15,8 +15,7 @@ use Rattle.feed.specs.Values.{digit, digits, value_of, number, time, seconds_of}
 use lib.Seq.{drop-cons, drop-drop}
 use Rattle.lines.specs.Rows.{undoubled}
 use Rattle.lines.specs.Spans.{quotes, paired}
-use Rattle.values.specs.declared.Number.TheVariants.{Value, Bad}
-use Rattle.values.specs.declared.Time.TheVariants.{Seconds, Bad as None}
+use Rattle.std.specs.Prelude.{Some, None}
 use Rattle.values.specs.Readings.{number_read, time_read}
 use Rattle.lines.proofs.Spans.{quoteless, plain-test}
 
@@ -52,7 +51,7 @@ pub number_read_lem : (most : ℕ) (f : List ℕ) → paired f ≡ true → numb
 unfolding number_read
 number_read_lem most f p =
     ⊎_elim
-    (λ (e : number most f ≡ true). ap (λ g. cond (number most g) (Value (value_of g)) Bad) (quoteless f (number-quoteless most f e)))
+    (λ (e : number most f ≡ true). ap (λ g. cond (number most g) (Some (value_of g)) None) (quoteless f (number-quoteless most f e)))
     (λ (e : number most f ≡ false). rw (number-bytes most f p ∙ e, e) refl)
     (split (number most f))
 
@@ -111,7 +110,7 @@ pub time-read : (f : List ℕ) → paired f ≡ true → time_read (undoubled f)
 unfolding time_read
 time-read f p =
     ⊎_elim
-    (λ (e : time f ≡ true). ap (λ g. cond (time g) (Seconds (seconds_of g)) None) (quoteless f (time-quoteless f e)))
+    (λ (e : time f ≡ true). ap (λ g. cond (time g) (Some (seconds_of g)) None) (quoteless f (time-quoteless f e)))
     (λ (e : time f ≡ false). rw (time-bytes f p ∙ e, e) refl)
     (split (time f))
 

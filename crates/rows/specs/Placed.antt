@@ -1,5 +1,5 @@
 -- A field of a line by its number: where it begins, and its bytes. Assumes nothing.
-use Rattle.std.specs.Prelude.{true, false, cond, ◌&&◌, List, ℕ, eqb, length}
+use Rattle.std.specs.Prelude.{cond, ◌&&◌, List, ℕ, eqb, length, Option, Some, None}
 use Rattle.feed.specs.Fields.{row_of}
 use Rattle.lines.specs.declared.Stand.{Stand}
 use Rattle.lines.specs.declared.Stand.TheVariants.{Begins, Ended, Broken}
@@ -21,11 +21,8 @@ unfoldable pub field_span : List ℕ → ℕ → Span
 field_span s k = span_at s (place_of s k)
 
 -- where five columns begin, in a line of n fields with its quotes in order
-abbrev pub nowhere : Places
-nowhere = record { fits = false; trip = 0; arrival = 0; departure = 0; stop = 0; sequence = 0 }
-
-unfoldable pub places_of : ℕ → ℕ → ℕ → ℕ → ℕ → ℕ → List ℕ → Places
+unfoldable pub places_of : ℕ → ℕ → ℕ → ℕ → ℕ → ℕ → List ℕ → Option Places
 places_of n trip arrival departure stop sequence s =
     cond ((row_of s).sound && eqb (length (row_of s).fields) n)
-    (record { fits = true; trip = place_of s trip; arrival = place_of s arrival; departure = place_of s departure; stop = place_of s stop; sequence = place_of s sequence })
-    nowhere
+    (Some (record { trip = place_of s trip; arrival = place_of s arrival; departure = place_of s departure; stop = place_of s stop; sequence = place_of s sequence }))
+    None

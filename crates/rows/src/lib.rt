@@ -6,15 +6,13 @@
 ghost use Rattle.std.specs.Prelude.{◌≡◌, cond, ◌&&◌, ◌+◌, ◌-◌, ◌<◌, ◌≤◌, eqb, length, take, drop};
 ghost use Rattle.feed.specs.Fields.{row_of, field};
 ghost use Rattle.values.specs.Readings.{number_read};
-ghost use Rattle.rows.specs.Placed.{place_of, field_span, nowhere, places_of};
+ghost use Rattle.rows.specs.Placed.{place_of, field_span, places_of};
 
 use lines::{Span, Stand};
-use values::Number;
 
-// Where the five columns of a line begin, if it has as many fields as are wanted and its quotes are in order.
+// Where the five columns of a line begin.
 #[derive(Clone, Copy)]
 pub struct Places {
-    pub fits: bool,
     pub trip: usize,
     pub arrival: usize,
     pub departure: usize,
@@ -64,24 +62,17 @@ pub fn field_span(line: &[u8], k: usize) -> Span
     span_from(line, k, at)
 }
 
-fn number_between(line: &[u8], start: usize, stop: usize, most: u32) -> Number
-    requires { (start ≤ stop) × (stop ≤ length line.now) }
-    ensures { result ≡ number_read most (take (stop - start) (drop start line.now)) }
-{
-    values::read_number(&line[start..stop], most)
-}
-
 // A field that begins at a place, as a number up to a greatest.
-pub fn number_from(line: &[u8], k: usize, at: usize, most: u32) -> Number
+pub fn number_from(line: &[u8], k: usize, at: usize, most: u32) -> Option<u32>
     requires { (k < length (row_of line.now).fields) × (at ≡ place_of line.now k) }
     ensures { result ≡ number_read most (field (row_of line.now) k) }
 {
     let span = span_from(line, k, at);
-    number_between(line, span.start, span.stop, most)
+    values::read_number(span.bytes(line), most)
 }
 
 // The same for a field that is looked for from the line's start.
-pub fn number_in(line: &[u8], k: usize, most: u32) -> Number
+pub fn number_in(line: &[u8], k: usize, most: u32) -> Option<u32>
     requires { k < length (row_of line.now).fields }
     ensures { result ≡ number_read most (field (row_of line.now) k) }
 {
@@ -95,20 +86,7 @@ fn pick(k: usize, c: usize, at: usize, old: usize) -> usize
     if k == c { at } else { old }
 }
 
-fn no_places() -> Places
-    ensures { result ≡ nowhere }
-{
-    Places {
-        fits: false,
-        trip: 0,
-        arrival: 0,
-        departure: 0,
-        stop: 0,
-        sequence: 0,
-    }
-}
-
-// Where five columns begin in a line of so many fields.
+// Where five columns begin in a line, if it has as many fields as are wanted and its quotes are in order.
 pub fn places_of(
     line: &[u8],
     count: usize,
@@ -117,7 +95,7 @@ pub fn places_of(
     departure: usize,
     stop: usize,
     sequence: usize,
-) -> Places
+) -> Option<Places>
     requires { (trip < count) × (arrival < count) × (departure < count) × (stop < count) × (sequence < count) }
     ensures { result ≡ places_of count trip arrival departure stop sequence line.now }
 {
@@ -128,6 +106,7 @@ pub fn places_of(
     let mut d = 0;
     let mut p = 0;
     let mut q = 0;
+    // A loop: each turn goes on where a field ends, and the last field ends it.
     loop {
         t = pick(k, trip, at, t);
         a = pick(k, arrival, at, a);
@@ -142,19 +121,18 @@ pub fn places_of(
             }
             Stand::Ended(_) => {
                 if k + 1 != count {
-                    return no_places();
+                    return None;
                 }
-                return Places {
-                    fits: true,
+                return Some(Places {
                     trip: t,
                     arrival: a,
                     departure: d,
                     stop: p,
                     sequence: q,
-                };
+                });
             }
             Stand::Broken(_) => {
-                return no_places();
+                return None;
             }
         }
     }

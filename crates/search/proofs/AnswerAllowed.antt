@@ -1,4 +1,5 @@
 -- The answer at the end of a run is one that the rules allow. Assumes nothing.
+use Rattle.std.specs.Prelude.{Result, Ok, Err}
 use mathlib.Core.Path.{◌≡◌, refl, subst, sym, ap, ap₂, ◌∙◌}
 use mathlib.Core.Logic.{◌≢◌}
 use mathlib.Core.Bool.{Bool, true, false}
@@ -15,6 +16,7 @@ use Rattle.journeys.specs.Order.{Settled}
 use Rattle.journeys.specs.Network.{Network, Held, distance_in}
 use Rattle.journeys.specs.Refusals as refusals
 use Rattle.journeys.specs.Refusals.{unless, whole_of, table_lengths, buffer_lengths}
+use Rattle.journeys.specs.Counting.{one}
 use Rattle.journeys.specs.Answers as answers
 use Rattle.journeys.specs.Answers.{Lent, tables, early, refused_early, held_bytes, settled_bytes, Allowed}
 use Rattle.journeys.specs.RunAnswers.{late_for, held_for, RoomFor, room_for, room_up_to_for, accepted_for, answer_for}
@@ -30,8 +32,9 @@ use Rattle.journeys.proofs.Refusals.{or-fine, unless-fine, room_for-is, room_for
 use Rattle.journeys.proofs.Told.{order_of, order_is, order-size}
 use Rattle.worktable.specs.Map.{Map, size, rows}
 use Rattle.worktable.specs.Table.{map_of, InOrder}
-use Rattle.words.specs.Told.{told}
-use Rattle.words.specs.declared.Refusal as audit
+use Rattle.words.specs.Told.{number_of, told}
+use Rattle.words.specs.declared.Refusal.{Refusal}
+use Rattle.words.proofs.Chains as chains
 use Rattle.heldmap.specs.Directions.{network_in, distance_for}
 use Rattle.heldmap.specs.RowsOfTables.{Lists}
 use Rattle.steps.specs.Running.{Over, Short, EndedIs, OrderIn, Ends}
@@ -41,7 +44,6 @@ use Rattle.records.specs.Meaning.{refusal_of}
 use Rattle.records.specs.declared.Answer.{Answer}
 use Rattle.stepping.specs.declared.Progress.{Progress}
 use Rattle.steps.specs.declared.Ended.{Ended}
-use Rattle.steps.specs.declared.Ended.TheVariants.{Done, Refused}
 use Rattle.heldmap.proofs.HeldMap.{Bounded, size-held, rows-held}
 use Rattle.heldmap.proofs.StepIsNext.{Searched}
 use Rattle.heldmap.proofs.Directions.{ways_in, searched}
@@ -55,23 +57,20 @@ held_whole : (held settled : List ℕ) → (buffer_lengths held settled).number 
 unfolding buffer_lengths whole_of
 held_whole held settled e = eqb-true _ 0 (unless-fine (whole_of 16 held) 1 3 (omega arith) (or-fine (unless (whole_of 16 held) 1 3) _ e).0)
 
-module _ (b : Lent) (Q : Query) (limit : ℕ) (fault : audit.Refusal) (F : told fault ≡ early b Q) where
-  number_is : (early b Q).number ≡ fault.number
-  number_is = ap (λ (r : refusals.Refusal). r.number) (sym F)
-
+module _ (b : Lent) (Q : Query) (limit : ℕ) {T : Type 0} (fault : Result T Refusal) (F : told fault ≡ early b Q) where
   -- Refusals 1 to 7: nothing lent is changed.
-  pub refused-early : (r : Answer) → r ≡ refusal_of fault.number fault.place → fault.number ≢ 0 → Allowed b Q limit (answer_of r b.held b.settled) × (r.parts ≡ 0)
+  pub refused-early : (why : Refusal) → fault ≡ Err why → (r : Answer) → r ≡ refusal_of (number_of why.reason) why.place → Allowed b Q limit (answer_of r b.held b.settled) × (r.parts ≡ 0)
   unfolding refused_early
-  refused-early r e n = (
+  refused-early why f r e = (
     record {
-      refused = λ z. ap (λ (x : Answer). answer_of x b.held b.settled) e ∙ ap (refused_early b) F;
-      accepted = λ z. absurd (n (sym number_is ∙ z));
+      refused = λ z. ap (λ (x : Answer). answer_of x b.held b.settled) e ∙ ap (refused_early b) (sym (ap told f) ∙ F);
+      accepted = λ z. absurd (chains.refuses f F z);
     },
     ap (λ (x : Answer). x.parts) e,
   )
 
-  pub passed : fault.number ≡ 0 → (early b Q).number ≡ 0
-  passed fine = number_is ∙ fine
+  pub passed : {x : T} → fault ≡ Ok x → (early b Q).number ≡ 0
+  passed f = chains.passes f F
 
 module _ (b : Lent) (Q : Query) (limit : ℕ) (passes : (early b Q).number ≡ 0) where
   pub valid : Valid (tables b) Q
@@ -91,24 +90,21 @@ module _ (b : Lent) (Q : Query) (limit : ℕ) (passes : (early b Q).number ≡ 0
   allow a x = record { refused = λ n. absurd (n passes); accepted = λ z. (x.0, x.1, x.2) }
 
 -- ---- the courier's run
-module _ (b : CourierLent) (Q : Query) (limit : ℕ) (fault : audit.Refusal) (F : told fault ≡ courier_early b Q) where
-  courier-number : (courier_early b Q).number ≡ fault.number
-  courier-number = ap (λ (r : refusals.Refusal). r.number) (sym F)
-
+module _ (b : CourierLent) (Q : Query) (limit : ℕ) {T : Type 0} (fault : Result T Refusal) (F : told fault ≡ courier_early b Q) where
   -- Its refusals before the steps: nothing lent is changed.
-  pub courier-refused : (r : Answer) → r ≡ refusal_of fault.number fault.place → fault.number ≢ 0 → CourierAllowed b Q limit (answer_of r b.lent.held b.lent.settled) × (r.parts ≡ 0)
+  pub courier-refused : (why : Refusal) → fault ≡ Err why → (r : Answer) → r ≡ refusal_of (number_of why.reason) why.place → CourierAllowed b Q limit (answer_of r b.lent.held b.lent.settled) × (r.parts ≡ 0)
   unfolding refused_early
-  courier-refused r e n = (
+  courier-refused why f r e = (
     record {
-      refused = λ z. ap (λ (x : Answer). answer_of x b.lent.held b.lent.settled) e ∙ ap (refused_early b.lent) F;
-      accepted = λ z. absurd (n (sym courier-number ∙ z));
+      refused = λ z. ap (λ (x : Answer). answer_of x b.lent.held b.lent.settled) e ∙ ap (refused_early b.lent) (sym (ap told f) ∙ F);
+      accepted = λ z. absurd (chains.refuses f F z);
     },
     ap (λ (x : Answer). x.parts) e,
   )
 
-  module _ (none : fault.number ≡ 0) where
+  module _ {x : T} (f : fault ≡ Ok x) where
     passes : (courier_early b Q).number ≡ 0
-    passes = courier-number ∙ none
+    passes = chains.passes f F
 
     hop-wide : 16 ≤ b.lent.hop_size
     unfolding courier_early
@@ -161,13 +157,19 @@ module _ (c : Bool) (N : Tables) (Q : Query) (ok : Valid N Q) (limit : ℕ) (hel
   unfolding AnsweredIn
   answered a e = (order, order-here, e)
 
-  module _ (held settled : List ℕ) (end : Ended) (S : Ends c N (length held_lent) (length settled_lent) Q limit held settled end) where
+  module _ (held settled : List ℕ) (end : Result Ended Refusal) (S : Ends c N (length held_lent) (length settled_lent) Q limit held settled end) where
     ended : EndedIs G held_lent settled_lent order limit held settled end
     unfolding Ends
     ended = S held_lent settled_lent refl refl order order-here
 
     -- Room was found for every step.
-    module _ (p : Progress) (finished : ℕ) (done : end ≡ Done p finished) where
+    module _ (r : Ended) (done : end ≡ Ok r) where
+      abbrev p : Progress
+      p = r.progress
+
+      abbrev finished : Bool
+      finished = r.finished
+
       over : Over G held_lent settled_lent order limit p finished held settled
       unfolding EndedIs
       over = subst (EndedIs G held_lent settled_lent order limit held settled) done ended
@@ -187,11 +189,11 @@ module _ (c : Bool) (N : Tables) (Q : Query) (ok : Valid N Q) (limit : ℕ) (hel
           let few = order-size G (ways_in c N Q) (distance_for c N Q) network-searched.told order-here in
           (over.running.table.order, omega (arith, here.1, S-long, over.running.long), omega (arith, over.steps, few, ok.tables.vertices_few))
 
-      pub concluded : (held' settled' : List ℕ) (r : Answer) → Concluded p finished held settled held' settled' r → length held ≡ length held_lent
-          → AnsweredIn c N Q limit held_lent settled_lent (answer_of r held' settled') × (r.parts ≡ 0)
+      pub concluded : {m : ℕ} → m ≡ one finished → (held' settled' : List ℕ) (a : Answer) → Concluded p m held settled held' settled' a → length held ≡ length held_lent
+          → AnsweredIn c N Q limit held_lent settled_lent (answer_of a held' settled') × (a.parts ≡ 0)
       unfolding answer_for accepted_for
-      concluded held' settled' r C eh = (
-        answered (answer_of r held' settled') (
+      concluded {m} em held' settled' a C eh = (
+        answered (answer_of a held' settled') (
             ap (λ (x : Answer). answer_of x held' settled') C.answer ∙ fields ∙ ap (accepted_for G held_lent settled_lent order) over.steps
             ∙ sym (cond-true (accepted_for G held_lent settled_lent order k) (late_for held_lent settled_lent (room_up_to_for G held_lent settled_lent order k)) room)),
         ap (λ (x : Answer). x.parts) C.answer,
@@ -216,7 +218,7 @@ module _ (c : Bool) (N : Tables) (Q : Query) (ok : Valid N Q) (limit : ℕ) (hel
           settled-end : settled' ≡ filled settled_lent (flat_map settled_bytes (take p.settled order))
           settled-end = C.settled_is ∙ ap (filled settled) over.running.listed ∙ filled-as settled settled_lent _ over.running.long
 
-          fields : answer_of (record { refusal = 0; place = 0; settled = p.settled; parts = 0; held = size (map_of p.table held); finished = finished }) held' settled'
+          fields : answer_of (record { refusal = 0; place = 0; settled = p.settled; parts = 0; held = size (map_of p.table held); finished = m }) held' settled'
               ≡ accepted_for G held_lent settled_lent order p.settled
           fields i =
               record {
@@ -224,19 +226,22 @@ module _ (c : Bool) (N : Tables) (Q : Query) (ok : Valid N Q) (limit : ℕ) (hel
                 place = 0;
                 settled_count = sym S-long i;
                 held_count = held-count i;
-                finished = over.finished_is i;
+                finished = (em ∙ ap one over.finished_is) i;
                 held = held-end i;
                 settled = settled-end i;
               }
 
     -- One step lacks room.
-    module _ (n step : ℕ) (full : end ≡ Refused n step) where
+    module _ (why : Refusal) (full : end ≡ Err why) where
+      abbrev n : ℕ
+      n = number_of why.reason
+
+      abbrev step : ℕ
+      step = why.place
+
       short : Short G held_lent settled_lent order limit n step
       unfolding EndedIs
       short = subst (EndedIs G held_lent settled_lent order limit held settled) full ended
-
-      pub step-low : step ≤ limit
-      step-low = omega (arith, short.made)
 
       number_short : (room_for G held_lent settled_lent order step).number ≡ n
       number_short = ap (λ (r : refusals.Refusal). r.number) short.refusal
@@ -249,12 +254,12 @@ module _ (c : Bool) (N : Tables) (Q : Query) (ok : Valid N Q) (limit : ℕ) (hel
           room_for-first G held_lent settled_lent order (min limit (length order)) step short.made (λ r. omega (arith, (room_for-is G held_lent settled_lent order step).1 r, number_short, short.some)) short.before
           ∙ short.refusal
 
-      pub late : (held' settled' : List ℕ) (r : Answer) → GivenUp n step held settled held' settled' r
+      pub late : {m : ℕ} → m ≡ n → (held' settled' : List ℕ) (r : Answer) → GivenUp m step held settled held' settled' r
           → length held ≡ length held_lent → length settled ≡ length settled_lent → AnsweredIn c N Q limit held_lent settled_lent (answer_of r held' settled') × (r.parts ≡ 0)
       unfolding answer_for late_for cleared
-      late held' settled' r C eh es = (
+      late {m} em held' settled' r C eh es = (
         answered (answer_of r held' settled') (
-            ap (λ (x : Answer). answer_of x held' settled') C.answer ∙ buffers ∙ ap (late_for held_lent settled_lent) (sym first_short)
+            ap (λ (x : Answer). answer_of x held' settled') (C.answer ∙ ap (λ (x : ℕ). refusal_of x step) em) ∙ buffers ∙ ap (late_for held_lent settled_lent) (sym first_short)
             ∙ sym (cond-false (accepted_for G held_lent settled_lent order (min limit (length order))) (late_for held_lent settled_lent last) lacks)),
         ap (λ (x : Answer). x.parts) C.answer,
       )

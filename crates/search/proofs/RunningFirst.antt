@@ -1,6 +1,7 @@
 -- Step 0: the seeds are entered, and the run stands at its beginning. Assumes nothing.
+use Rattle.std.specs.Prelude.{Result, Ok, Err}
 use mathlib.Core.Path.{◌≡◌, refl, sym, ap, ap₂, subst, ◌∙◌}
-use mathlib.Core.Bool.{Bool, cond}
+use mathlib.Core.Bool.{Bool}
 use mathlib.Core.List.{List, [], flat_map}
 use Prim.Native.Nat.{ℕ, ◌/◌, ◌%◌, ◌≤◌, ◌<◌, min}
 use native.Mathlib.Omega.{arith}
@@ -24,17 +25,16 @@ use Rattle.heldmap.proofs.RowsInDirection.{due_in}
 use Rattle.parts.specs.declared.Road.{Road}
 use Rattle.intake.proofs.FirstFault.{failed}
 use Rattle.stepping.specs.declared.Progress.{Progress}
-use Rattle.stepping.specs.declared.Stepped.{Stepped}
-use Rattle.stepping.specs.declared.Stepped.TheVariants.{Next, Full}
-use Rattle.opening.specs.Seeds.{RoadFits, PairFits, pair_of, pair_map, no_records, Opens, Shut, OpenIs}
+use Rattle.words.specs.Told.{number_of}
+use Rattle.words.specs.declared.Refusal.{Refusal}
+use Rattle.opening.specs.Seeds.{RoadFits, PairFits, pair_of, pair_map, seed_count, no_records, Opens, Shut, OpenIs}
 use Rattle.opening.proofs.FirstHeld as first
 use Rattle.opening.proofs.FirstHeld.{vertices-as, first-held, seeds-sized, road-needs}
-use Rattle.steps.specs.Running.{Running, EndedIs, Stands, Ends}
+use Rattle.steps.specs.Running.{Running, Short, EndedIs, Stands, Ends}
 use Rattle.steps.specs.declared.Ended.{Ended}
-use Rattle.steps.specs.declared.Ended.TheVariants.{Refused}
 
 -- the end of the steps, with the length of the held buffer as it was lent
-pub ends_as : (c : Bool) (N : Tables) (m m' n : ℕ) (Q : Query) (limit : ℕ) (held settled : List ℕ) (r : Ended) → m ≡ m' → Ends c N m n Q limit held settled r → Ends c N m' n Q limit held settled r
+pub ends_as : (c : Bool) (N : Tables) (m m' n : ℕ) (Q : Query) (limit : ℕ) (held settled : List ℕ) (r : Result Ended Refusal) → m ≡ m' → Ends c N m n Q limit held settled r → Ends c N m' n Q limit held settled r
 ends_as c N m m' n Q limit held settled r e = subst (λ (k : ℕ). Ends c N k n Q limit held settled r) e
 
 module _ (c : Bool) (b : Lent) (Q : Query) (ok : Valid (tables b) Q) (A : Seconds) (D : Ticks) where
@@ -58,7 +58,7 @@ module _ (c : Bool) (b : Lent) (Q : Query) (ok : Valid (tables b) Q) (A : Second
   M = pair_map b.vertices blank (pair_of c b.walks road)
 
   abbrev many : ℕ
-  many = cond (pair_of c b.walks road).two 2 1
+  many = seed_count (pair_of c b.walks road)
 
   due : (u : ℕ) → u < vertex_count N → due_of b.vertices blank u ≡ departs G u
   due = due_in c b.hop_size b.vertices b.walks b.hops Q ok blank refl refl refl
@@ -87,10 +87,14 @@ module _ (c : Bool) (b : Lent) (Q : Query) (ok : Valid (tables b) Q) (A : Second
           }
 
   -- There is no room for step 0.
-  shut : (limit n : ℕ) (held settled : List ℕ) → Shut capacity many n → Ends c N (length b.held) (length b.settled) Q limit held settled (Refused n 0)
+  shut : (limit : ℕ) (why : Refusal) (held settled : List ℕ) → Shut capacity many (number_of why.reason) → why.place ≡ 0 → Ends c N (length b.held) (length b.settled) Q limit held settled (Err why)
   unfolding Ends EndedIs room_for
-  shut limit n held settled h x y same-held same-settled l O = record { made = omega arith; refusal = refused; some = omega (arith, h.0); before = λ j z. absurd (omega arith) }
+  shut limit why held settled h first x y same-held same-settled l O =
+      subst (λ (j : ℕ). Short G x y l limit n j) (sym first) (record { made = omega arith; refusal = refused; some = omega (arith, h.0); before = λ j z. absurd (omega arith) })
     where
+      n : ℕ
+      n = number_of why.reason
+
       few : length (held_for G l 0) ≤ min (length b.vertices / 12) 65536
       few = omega (arith, held-most G (distance_in []), ok.tables.vertices_few, vertices-as b Q ok)
 
@@ -106,16 +110,18 @@ module _ (c : Bool) (b : Lent) (Q : Query) (ok : Valid (tables b) Q) (A : Second
         → ((length b.held % 16 ≡ 0) × (length b.vertices / 12 ≤ 65536) × RoadFits b.walks r) × PairFits (length b.vertices / 12) (pair_of a.courier b.walks r)
     needs-as h = road-needs b Q ok r e a.courier h
 
-    module _ (held' : List ℕ) (y : Stepped) (T : OpenIs capacity (pair_map b.vertices a (pair_of a.courier b.walks r)) (cond (pair_of a.courier b.walks r).two 2 1) held' y) where
+    module _ (held' : List ℕ) (y : Result Progress Refusal) (T : OpenIs capacity (pair_map b.vertices a (pair_of a.courier b.walks r)) (seed_count (pair_of a.courier b.walks r)) held' y) where
       open-as : OpenIs capacity M many held' y
       open-as =
-          subst (λ (z : Road). OpenIs capacity (pair_map b.vertices blank (pair_of c b.walks z)) (cond (pair_of c b.walks z).two 2 1) held' y) e
-          (subst (λ (z : Directed). OpenIs capacity (pair_map b.vertices z (pair_of z.courier b.walks r)) (cond (pair_of z.courier b.walks r).two 2 1) held' y) f T)
+          subst (λ (z : Road). OpenIs capacity (pair_map b.vertices blank (pair_of c b.walks z)) (seed_count (pair_of c b.walks z)) held' y) e
+          (subst (λ (z : Directed). OpenIs capacity (pair_map b.vertices z (pair_of z.courier b.walks r)) (seed_count (pair_of z.courier b.walks r)) held' y) f T)
 
-      pub opens_as : (p : Progress) → y ≡ Next p → Opens capacity M many held' p
+      pub opens_as : (p : Progress) → y ≡ Ok p → Opens capacity M many held' p
       unfolding OpenIs
       opens_as p q = subst (OpenIs capacity M many held') q open-as
 
-      pub shut-as : (limit n : ℕ) (held settled : List ℕ) → y ≡ Full n → Ends c N (length b.held) (length b.settled) Q limit held settled (Refused n 0)
+      pub shut-as : (limit : ℕ) (why : Refusal) (held settled : List ℕ) → y ≡ Err why → Ends c N (length b.held) (length b.settled) Q limit held settled (Err why)
       unfolding OpenIs
-      shut-as limit n held settled q = shut limit n held settled (subst (OpenIs capacity M many held') q open-as)
+      shut-as limit why held settled q =
+          let s = subst (OpenIs capacity M many held') q open-as in
+          shut limit why held settled s.0 s.1

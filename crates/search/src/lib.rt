@@ -19,8 +19,8 @@ ghost use Rattle.search.specs.Outcome.{answer_of, AnsweredIn};
 ghost use Rattle.journeys.specs.Valid.{Valid};
 
 use records::{Answer, Query, refusal};
-use stepping::Stepped;
 use steps::Ended;
+use words::Refusal;
 
 // Before step 0 the held buffer may hold anything. For the courier it is noted there where the records of some vertices begin in his list: as long as the working table leaves the notes alone, they spare him a search.
 fn prepare(vertices: &[u8], held: &mut [u8], courier: bool)
@@ -45,7 +45,7 @@ fn all_steps<'a>(
     q: Query,
     courier: bool,
     limit: u32,
-) -> Ended
+) -> Result<Ended, Refusal>
     requires valid { Valid (tables_of hop_size vertices.now walks.now hops.now) (query_of q) × (scratch.old ≡ replicate 2048 0) × (length held.old % 16 ≡ 0) × (16 ≤ hop_size) }
     requires lists { Lists courier hop_size walks.now hops.now list.now }
     ensures ends { Ends courier (tables_of hop_size vertices.now walks.now hops.now) (length held.old) (length settled.old) (query_of q) limit held.new settled.new result }
@@ -55,13 +55,11 @@ fn all_steps<'a>(
     let road = parts::read_road(walks, q);
     let allowed = intake::allowed(q);
     let row = opening::no_records(walks, hops, hop_size, q, courier, allowed);
-    match opening::begin(vertices, walks, held, road, row) {
-        Stepped::Full(n) => Ended::Refused(n, 0),
-        Stepped::Next(start) => steps::steps(
-            vertices, walks, hops, hop_size, list, held, settled, scratch, start, q, courier,
-            allowed, limit,
-        ),
-    }
+    let start = opening::begin(vertices, walks, held, road, row)?;
+    steps::steps(
+        vertices, walks, hops, hop_size, list, held, settled, scratch, start, q, courier, allowed,
+        limit,
+    )
 }
 
 // The run for input that was judged, in either direction.
@@ -87,8 +85,8 @@ fn judged<'a>(
     match all_steps(
         vertices, walks, hops, hop_size, list, held, settled, scratch, q, courier, limit,
     ) {
-        Ended::Done(p, finished) => ending::conclude(held, settled, p, finished),
-        Ended::Refused(number, step) => ending::give_up(held, settled, number, step as u32),
+        Ok(end) => ending::conclude(held, settled, end.progress, u32::from(end.finished)),
+        Err(why) => ending::give_up(held, settled, u32::from(why.reason), why.place),
     }
 }
 
@@ -131,7 +129,7 @@ pub fn run<'a>(
     ensures parts_value { result.parts ≡ 0 }
 {
     let mut scratch = [0u16; 2048];
-    let fault = intake::input_fault(
+    if let Err(fault) = intake::input_fault(
         vertices,
         walks,
         hops,
@@ -140,9 +138,8 @@ pub fn run<'a>(
         settled,
         q,
         &mut scratch,
-    );
-    if fault.number != 0 {
-        return refusal(fault.number, fault.place);
+    ) {
+        return refusal(fault.reason, fault.place);
     }
     run_judged(
         vertices,
@@ -173,7 +170,7 @@ pub fn courier<'a>(
     ensures parts_value { result.parts ≡ 0 }
 {
     let mut scratch = [0u16; 2048];
-    let bad = courier_intake::courier_fault(
+    if let Err(bad) = courier_intake::courier_fault(
         vertices,
         walks,
         hops,
@@ -183,9 +180,8 @@ pub fn courier<'a>(
         settled,
         q,
         &mut scratch,
-    );
-    if bad.number != 0 {
-        return refusal(bad.number, bad.place);
+    ) {
+        return refusal(bad.reason, bad.place);
     }
     judged(
         vertices,

@@ -1,5 +1,5 @@
 -- A short row where room is scarce: who is held is met first, and who of the new ones stays. Assumes nothing.
-use Rattle.std.specs.Prelude.{◌≡◌, Bool, not, ◌&&◌, List, ℕ, ◌≤◌, ◌<◌, get_or}
+use Rattle.std.specs.Prelude.{◌≡◌, Bool, not, ◌&&◌, List, ℕ, Option, ◌≤◌, ◌<◌, get_or}
 use Rattle.journeys.specs.Counting.{one}
 use Rattle.passing.specs.Row.{Row, passes}
 use Rattle.directed.specs.Directed.{row_in, Passable, Near}
@@ -9,7 +9,6 @@ use Rattle.worktable.specs.Table.{map_of, InOrder}
 use Rattle.worktable.specs.declared.Table.{Table}
 use Rattle.meeting.specs.Passing.{missing, meets, goes, along, Enough}
 use Rattle.meeting.specs.Answer.{Leads, ArrivedIs}
-use Rattle.meeting.specs.declared.Arrived.{Arrived}
 use Rattle.blocks.specs.Block.{adds_if}
 
 -- a record of the row meets who is held; who has no entry gets none
@@ -44,7 +43,7 @@ module _ (v w h l : List ℕ) (a : Directed) where
     pub kept : map_of t b ≡ goes (row_in v w h l a).from (keeps (row_in v w h l a)) (passes a.arriving) before
 
   -- the new ones that stay have been added, whichever map the marks are of
-  abbrev pub AddedAll : List ℕ → Table → List ℕ → List ℕ → Arrived → Type 0
+  abbrev pub AddedAll : List ℕ → Table → List ℕ → List ℕ → Option Table → Type 0
   AddedAll s t b c r =
       (m : Map) → Marked (row_in v w h l a) (passes a.arriving) m s → Enough (row_in v w h l a) (passes a.arriving) m → map_of t b ≡ goes (row_in v w h l a).from (keeps (row_in v w h l a)) (passes a.arriving) m
       → ArrivedIs t c (goes (row_in v w h l a).from (adds_if (row_in v w h l a) (comes_to (row_in v w h l a) (passes a.arriving) m)) (passes a.arriving) (map_of t b)) r

@@ -19,7 +19,6 @@ ghost use Rattle.short.specs.ShortRow.{lasting, KeptAll, Marked, Adding, AddedAl
 use blocks::{above, meet_in_room};
 use directed::{Directed, brings_at, due_at, near_at};
 use marks::clear;
-use meeting::Arrived;
 use words::Ticks;
 use worktable::{Passed, Table, drop, pass};
 
@@ -82,12 +81,10 @@ fn touch_row(
 {
     let n = row.arriving.walks + row.arriving.hops;
     let mut table = t;
-    let mut j = 0;
-    while j < n {
+    for j in 0..n {
         let u = near_at(walks, hops, list, row, j);
         let offer = brings_at(walks, hops, list, row, j);
         table = touch_one(held, table, u, offer, row.arriving.allowed, j, marks);
-        j += 1;
     }
     table
 }
@@ -111,10 +108,8 @@ fn lasts(vertices: &[u8], walks: &[u8], hops: &[u8], list: &[u8], row: Directed,
 {
     let n = row.arriving.walks + row.arriving.hops;
     let mut hope = due_at(vertices, row, u);
-    let mut i = 0;
-    while i < n {
+    for i in 0..n {
         hope -= over_at(walks, hops, list, row, i, u);
-        i += 1;
     }
     hope != 0
 }
@@ -152,7 +147,7 @@ fn add_one(
     row: Directed,
     j: usize,
     marks: &[u16],
-) -> Arrived
+) -> Option<Table>
     requires in_order { InOrder t held.old × Passable walks.now hops.now list.now row × Near vertices.now walks.now hops.now list.now row × (j < passes row.arriving) × (length marks.now ≡ 2048) × (j < 2048) }
     requires arriving_bound { get_or marks.now j 0 ≢ 0 → leaving (row_in vertices.now walks.now hops.now list.now row) (near_of walks.now hops.now list.now row j) (passes row.arriving) ≤ (row_in vertices.now walks.now hops.now list.now row).departing (near_of walks.now hops.now list.now row j) }
     requires nonzero { get_or marks.now j 0 ≢ 0 → lasting (row_in vertices.now walks.now hops.now list.now row) (passes row.arriving) (near_of walks.now hops.now list.now row j) ≡ true → (0 < left ((row_in vertices.now walks.now hops.now list.now row).departing (near_of walks.now hops.now list.now row j)) (map_of t held.old (near_of walks.now hops.now list.now row j))) × (map.one (meets (row_in vertices.now walks.now hops.now list.now row) j (map_of t held.old (near_of walks.now hops.now list.now row j))) ≡ 1) }
@@ -165,7 +160,7 @@ fn add_one(
             return meet_in_room(held, t, vertices, row, u, offer);
         }
     }
-    Arrived::Fits(t)
+    Some(t)
 }
 
 // The new vertices that stay are met. There is no room where one finds no free slot.
@@ -178,22 +173,16 @@ fn add(
     list: &[u8],
     row: Directed,
     marks: &[u16],
-) -> Arrived
+) -> Option<Table>
     requires { Adding vertices.now walks.now hops.now list.now row marks.now t held.old × (length marks.now ≡ 2048) × (passes row.arriving ≤ 2048) }
     ensures { AddedAll vertices.now walks.now hops.now list.now row marks.now t held.old held.new result }
 {
     let n = row.arriving.walks + row.arriving.hops;
     let mut table = t;
-    let mut j = 0;
-    while j < n {
-        let Arrived::Fits(next) = add_one(held, table, vertices, walks, hops, list, row, j, marks)
-        else {
-            return Arrived::NoRoom;
-        };
-        table = next;
-        j += 1;
+    for j in 0..n {
+        table = add_one(held, table, vertices, walks, hops, list, row, j, marks)?;
     }
-    Arrived::Fits(table)
+    Some(table)
 }
 
 // What was absent is marked before any drop makes room, so that no dropped vertex is met anew.
@@ -206,7 +195,7 @@ pub fn pass_row(
     list: &[u8],
     row: Directed,
     marks: &mut [u16],
-) -> Arrived
+) -> Option<Table>
     requires { Ready vertices.now walks.now hops.now list.now row t held.old × (length marks.old ≡ 2048) × (passes row.arriving ≤ 2048) }
     ensures { answer.Passed vertices.now walks.now hops.now list.now row t held.old held.new result × (marks.new ≡ replicate 2048 0) }
 {

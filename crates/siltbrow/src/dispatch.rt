@@ -8,6 +8,7 @@ ghost use Rattle.siltbrow.specs.Packed.{packed};
 ghost use Rattle.siltbrow.specs.PartsRan.{CourierPartsRan};
 ghost use Rattle.siltbrow.specs.Ran.{CourierRan};
 
+use crate::pack;
 use crate::streets::put_three;
 use records::Query;
 use words::{Offset, Seconds};
@@ -32,7 +33,7 @@ pub fn siltbrow_courier_list(
         list,
         &mut scratch,
     );
-    (refusal.number as u64) * 4294967296 + (refusal.place as u64)
+    pack(refusal)
 }
 
 // The courier's parts of a settled list. The answer slice gets its three numbers; 1 where it is not 12 bytes, and then nothing is written.

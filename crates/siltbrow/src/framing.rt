@@ -10,6 +10,6 @@ pub fn siltbrow_frame(vertices: &[u8], list: &[u8], coordinates: &[u8], answer: 
     }
     let mut marks = [0u16; 2048];
     let a = frame::frame_of(vertices, list, coordinates, &mut marks);
-    frame::put(answer, a);
+    frame::put(answer, frame::in_numbers(a));
     0
 }

@@ -5,6 +5,7 @@ ghost use Rattle.records.specs.Asked.{query_by};
 ghost use Rattle.vendors.specs.Lending.{judge_lent};
 ghost use Rattle.siltbrow.specs.Packed.{packed};
 
+use crate::pack;
 use records::Query;
 use words::{Offset, Seconds};
 
@@ -31,5 +32,5 @@ pub fn siltbrow_judge(
         speed: speed,
     };
     let refusal = vendors::judge(vertices, walks, hops, hop_size as usize, list, q);
-    (refusal.number as u64) * 4294967296 + (refusal.place as u64)
+    pack(refusal)
 }

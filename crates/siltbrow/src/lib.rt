@@ -15,6 +15,7 @@ mod timetabling;
 
 ghost use Rattle.std.specs.Prelude.{◌≡◌};
 ghost use Rattle.journeys.specs.Refusals.{check};
+ghost use Rattle.words.specs.Told.{told};
 ghost use Rattle.records.specs.Asked.{query_by};
 ghost use Rattle.intake.specs.Lending.{lent};
 ghost use Rattle.siltbrow.specs.Packed.{packed};
@@ -30,7 +31,17 @@ pub use moving::{siltbrow_hops_backward, siltbrow_hops_forward};
 use records::Query;
 pub use streets::siltbrow_parts;
 pub use timetabling::siltbrow_timetable;
-use words::{Offset, Seconds};
+use words::{Offset, Refusal, Seconds};
+
+// Refusal times 2^32 plus place.
+fn pack(r: Result<(), Refusal>) -> u64
+    ensures { result ≡ packed (told r) }
+{
+    match r {
+        Ok(()) => 0,
+        Err(e) => (u32::from(e.reason) as u64) * 4294967296 + (e.place as u64),
+    }
+}
 
 // The check alone, refusal times 2^32 plus place. Whoever lends hops names their size, 16 or 20 bytes.
 pub fn siltbrow_check(vertices: &[u8], walks: &[u8], hops: &[u8], hop_size: u32) -> u64
@@ -38,7 +49,7 @@ pub fn siltbrow_check(vertices: &[u8], walks: &[u8], hops: &[u8], hop_size: u32)
 {
     let mut scratch = [0u16; 2048];
     let refusal = audit::check(vertices, walks, hops, hop_size as usize, &mut scratch);
-    (refusal.number as u64) * 4294967296 + (refusal.place as u64)
+    pack(refusal)
 }
 
 // The run. The answer slice gets its six numbers, the count of parts being 0; 1 where it is not 24 bytes, and then nothing is written.

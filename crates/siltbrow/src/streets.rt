@@ -2,21 +2,22 @@
 ghost use Rattle.std.specs.Prelude.{◌≡◌, ◌++◌, length};
 ghost use Rattle.journeys.specs.Bytes.{word};
 ghost use Rattle.records.specs.Asked.{query_by};
-ghost use Rattle.covering.specs.Lending.{parts_lent};
+ghost use Rattle.words.specs.Told.{told};
+ghost use Rattle.covering.specs.Lending.{parts_lent, count_in};
 ghost use Rattle.siltbrow.specs.PartsRan.{PartsRan};
 
-use covering::PartsAnswer;
 use records::Query;
-use words::{Offset, Seconds, put_word};
+use words::{Offset, Refusal, Seconds};
 
 // The three numbers of an answer, 4 bytes each.
-pub fn put_three(out: &mut [u8], a: PartsAnswer)
+pub fn put_three(out: &mut [u8], a: Result<u32, Refusal>)
     requires { length out.old ≡ 12 }
-    ensures { out.new ≡ word a.refusal ++ word a.place ++ word a.parts }
+    ensures { out.new ≡ word (told a).number ++ word (told a).place ++ word (count_in a) }
 {
-    put_word(out, 0, a.refusal);
-    put_word(out, 4, a.place);
-    put_word(out, 8, a.parts);
+    match a {
+        Ok(n) => calls::put_three(out, 0, 0, n),
+        Err(r) => calls::put_three(out, u32::from(r.reason), r.place, 0),
+    }
 }
 
 // The parts of a settled list. The answer slice gets its three numbers; 1 where it is not 12 bytes, and then nothing is written.

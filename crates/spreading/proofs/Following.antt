@@ -1,12 +1,12 @@
 -- One hop is followed: all that stay for it are marked, and of one trip the marked hops to a vertex are still those up to an arrival. Assumes nothing.
-use mathlib.Core.Path.{◌≡◌, refl, sym, ap, subst, ◌∙◌}
+use mathlib.Core.Path.{◌≡◌, sym, ap, subst, ◌∙◌}
 use mathlib.Core.Logic.{◌⊎◌, inl, inr, ⊎_elim, ◌≢◌}
-use mathlib.Core.Bool.{Bool, true, false}
+use mathlib.Core.Bool.{true}
 use mathlib.Core.List.{List}
-use Prim.Native.Nat.{ℕ, suc, ◌+◌, ◌-◌, ◌*◌, ◌/◌, ◌≤◌, ◌<◌}
+use Prim.Native.Nat.{ℕ, ◌-◌, ◌*◌, ◌/◌, ◌≤◌, ◌<◌}
 use native.Mathlib.Omega.{arith}
 use lib.ListN.{length}
-use Rattle.journeys.specs.Tables.{Tables, Hop, hop, hop_at, hop_count, vertex_count}
+use Rattle.journeys.specs.Tables.{Tables, Hop, hop, hop_at, hop_count}
 use Rattle.journeys.specs.Query.{Query}
 use Rattle.journeys.proofs.Tests.{le-or-lt}
 use Rattle.journeys.proofs.Valid.{good-hop}
@@ -19,8 +19,7 @@ use Rattle.arranging.specs.Arranged.{Arranged, Stretch, Upto, first_hop, end_hop
 use Rattle.arranging.proofs.StretchLaws.{word_in, stands-below, in_time, other-trip, sooner}
 use Rattle.heldmap.proofs.ArrivingRun.{hop-run}
 use Rattle.marking.specs.Setting.{tables, query, mode, Judged}
-use Rattle.marking.specs.Pends.{State, marks_of, Followed, Pends, Prefix, Fit}
-use Rattle.marking.specs.Moves.{Moved}
+use Rattle.marking.specs.Pends.{State, marks_of, Prefix, Fit}
 use Rattle.marking.specs.declared.Asked.{Asked}
 use Rattle.marking.proofs.Hops.{hops-count, hop-is, from_is}
 use Rattle.marking.proofs.Moving.{moved_same}

@@ -1,23 +1,21 @@
 -- Hops that stay for a marked one are marked one after another; below the lowest of them all are marked already. Assumes nothing.
-use mathlib.Core.Path.{◌≡◌, refl, sym, ap, subst, ◌∙◌}
-use mathlib.Core.Logic.{◌⊎◌, inl, inr, ⊎_elim, ◌≢◌}
-use mathlib.Core.Bool.{Bool, true, false}
+use mathlib.Core.Path.{◌≡◌, ap, subst, ◌∙◌}
+use mathlib.Core.Logic.{◌⊎◌, inl, inr}
+use mathlib.Core.Bool.{true}
 use mathlib.Core.List.{List}
-use Prim.Native.Nat.{ℕ, suc, ◌+◌, ◌-◌, ◌*◌, ◌≤◌, ◌<◌}
+use Prim.Native.Nat.{ℕ, suc, ◌+◌, ◌≤◌, ◌<◌}
 use native.Mathlib.Omega.{arith}
-use lib.ListN.{length}
 use Rattle.journeys.specs.Tables.{Tables, hop, hop_count}
 use Rattle.journeys.specs.Query.{Query}
 use Rattle.journeys.specs.Valid.{Valid}
-use Rattle.journeys.proofs.Tests.{last-or-below, le-or-lt}
+use Rattle.journeys.proofs.Tests.{last-or-below}
 use Rattle.journeys.proofs.Valid.{good-hop}
-use Rattle.boarding.specs.Rides.{Mode, Stays, trip_at}
-use Rattle.marks.specs.Marks.{bit}
+use Rattle.boarding.specs.Rides.{Mode, Stays}
 use Rattle.arranging.specs.Keys.{word_at}
-use Rattle.marking.specs.Pends.{State, marks_of, Followed, Pends, Prefix, Fit, HopMarked}
+use Rattle.marking.specs.Pends.{State, marks_of, Fit, HopMarked}
 use Rattle.marking.specs.Moves.{Moved}
 use Rattle.marking.proofs.Moving.{moved_same, moved_then, moved-stays, marked-now}
-use Rattle.spreading.specs.Spreads.{Lowest, StaysBy, Staying, StaysFrom, FollowedBy}
+use Rattle.spreading.specs.Spreads.{StaysBy, Staying, StaysFrom}
 
 module _ (N : Tables) (Q : Query) (M : Mode) where
   pub stays-already : {set : List ℕ} {s : State} (i : ℕ) → Fit N Q set s → marks_of s i ≡ true → StaysBy N Q M set i s s

@@ -1,20 +1,20 @@
 -- A pending hop is taken from the stack or by the cursor and followed; when none is left, all is closed. Assumes nothing.
-use mathlib.Core.Path.{◌≡◌, refl, sym, ap, subst, ◌∙◌}
-use mathlib.Core.Logic.{◌⊎◌, inl, inr, ⊎_elim, ◌≢◌}
-use mathlib.Core.Bool.{Bool, true, false, ◌||◌}
+use mathlib.Core.Path.{◌≡◌, sym, ap, subst, ◌∙◌}
+use mathlib.Core.Logic.{◌⊎◌, inl, inr, ⊎_elim}
+use mathlib.Core.Bool.{true, false, ◌||◌}
 use mathlib.Core.List.{List}
-use Prim.Native.Nat.{ℕ, suc, ◌+◌, ◌-◌, ◌*◌, ◌≤◌, ◌<◌}
+use Prim.Native.Nat.{ℕ, suc, ◌+◌, ◌-◌, ◌≤◌, ◌<◌}
 use native.Mathlib.Omega.{arith}
-use lib.ListN.{length, get_or}
+use lib.ListN.{get_or}
 use lib.Dec.{ltb}
 use borrow.Author.Tests.{ltb-true, ltb-false}
-use Rattle.journeys.specs.Tables.{Tables, hop, hop_count}
+use Rattle.journeys.specs.Tables.{Tables, hop_count}
 use Rattle.journeys.specs.Query.{Query}
 use Rattle.journeys.proofs.Tests.{never, or_cases, or-none, same-or-below, last-or-below}
 use Rattle.boarding.specs.Rides.{Mode, Stays}
 use Rattle.marks.specs.Marks.{bit}
 use Rattle.marking.specs.Carried.{Carries}
-use Rattle.marking.specs.Pends.{State, state, marks_of, figures_of, Followed, OnStack, Pends, Prefix, Fit, left}
+use Rattle.marking.specs.Pends.{State, state, marks_of, figures_of, Followed, OnStack, Pends, Prefix, Fit}
 use Rattle.marking.specs.declared.Pending.{Pending}
 use Rattle.marking.proofs.Carrying.{carries_same, carries-then}
 use Rattle.spreading.specs.Spreads.{FollowedBy, Turned, Spread}

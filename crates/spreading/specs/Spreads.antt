@@ -1,6 +1,6 @@
 -- Who stays in a vehicle for a marked hop is marked, too: one hop followed, and all of them. Assumes nothing.
-use Rattle.std.specs.Prelude.{◌≡◌, ◌⊎◌, ◌≢◌, true, List, ℕ, ◌+◌, ◌-◌, ◌*◌, ◌≤◌, ◌<◌, length}
-use Rattle.journeys.specs.Tables.{Tables, hop, hop_count}
+use Rattle.std.specs.Prelude.{◌≡◌, ◌⊎◌, ◌≢◌, true, List, ℕ, ◌-◌, ◌*◌, ◌≤◌, ◌<◌, length}
+use Rattle.journeys.specs.Tables.{Tables, hop_count}
 use Rattle.journeys.specs.Query.{Query}
 use Rattle.records.specs.Columns.{records_in}
 use Rattle.boarding.specs.Rides.{Mode, Stays, trip_at}

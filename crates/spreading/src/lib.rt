@@ -29,18 +29,16 @@ fn lowest(
     requires { Readable a.size hops.now marks.now scratch.now first end × (first ≤ q) × (q ≤ end) }
     ensures { Lowest a.size hops.now marks.now scratch.now first q trip result }
 {
-    let mut p = q;
-    while first < p {
-        let j = word(scratch, p - 1) as usize;
+    for p in (first..q).rev() {
+        let j = word(scratch, p) as usize;
         if trip_at(hops, a.size, j) != trip {
-            return p;
+            return p + 1;
         }
         if member(marks, j) {
-            return p;
+            return p + 1;
         }
-        p -= 1;
     }
-    p
+    first
 }
 
 // Hop i is marked, if it is not yet.
@@ -87,11 +85,9 @@ fn stay_from(
     ensures { StaysFrom (tables vertices.now walks.now hops.now a) (query a) (mode hops.now a) set.now scratch.now low q j (state p table.old marks.old stack.old) (state result table.new marks.new stack.new) }
 {
     let mut r = p;
-    let mut g = low;
-    while g < q {
+    for g in low..q {
         let i = word(scratch, g) as usize;
         r = stay_by(vertices, walks, hops, a, set, table, marks, stack, r, i);
-        g += 1;
     }
     r
 }
@@ -172,7 +168,7 @@ fn turn(
     let at = p.cursor;
     let next = Pending {
         table: t,
-        height: height,
+        height,
         cursor: at + 1,
     };
     if !member(marks, at) {
@@ -202,6 +198,7 @@ pub fn spread(
 {
     let count = hops.len() / a.size;
     let mut q = p;
+    // A while: it goes on until no hop is pending, and a turn can make more of them.
     while (0 < q.height) | (q.cursor < count) {
         q = turn(
             vertices, walks, hops, a, set, table, marks, stack, scratch, q,

@@ -1,4 +1,5 @@
 -- What the next vertex and the records that arrive at it are, from the answers of the table and of the vertex records. Assumes nothing.
+use Rattle.std.specs.Prelude.{Option, Some, None}
 use mathlib.Core.Path.{◌≡◌, refl, sym, ap, ◌∙◌, subst}
 use mathlib.Core.Bool.{Bool, true, false}
 use mathlib.Core.Logic.{◌⊎◌, inl, inr}
@@ -22,33 +23,33 @@ use Rattle.heldmap.specs.Model.{walks_at, hops_at, arriving_at}
 use Rattle.heldmap.specs.RowsOfTables.{stretch_in, walks_in, hops_in, directed_at}
 use Rattle.stepping.specs.Taken.{NextIs}
 
-module _ (t : Table) (b : List ℕ) (D : ℕ) (r : Nearest) (h : NearestIs t b r) where
-  pub next-none : r ≡ Nearest.Nothing → NextIs t b D Nearest.Nothing
+module _ (t : Table) (b : List ℕ) (D : ℕ) (r : Option Nearest) (h : NearestIs t b r) where
+  pub next-none : r ≡ None → NextIs t b D None
   unfolding NextIs
   next-none e u n w = absurd (nearest-nothing t b h e u n w)
 
-  module _ (s v d : ℕ) (e : r ≡ Nearest.At s v d) where
-    pub next-beyond : D < d → NextIs t b D Nearest.Nothing
+  module _ (x : Nearest) (e : r ≡ Some x) where
+    pub next-beyond : D < x.distance → NextIs t b D None
     unfolding NextIs
     next-beyond l u n w = go ((nearest-is h e).1.first u n w)
       where
-        go : (d < n) ⊎ ((d ≡ n) × (v ≤ u)) → D < n
+        go : (x.distance < n) ⊎ ((x.distance ≡ n) × (x.vertex ≤ u)) → D < n
         go (inl q) = omega arith
         go (inr q) = omega (arith, q.0)
 
-    pub next-at : d ≤ D → NextIs t b D (Nearest.At s v d)
+    pub next-at : x.distance ≤ D → NextIs t b D (Some x)
     unfolding NextIs
     next-at l = ((nearest-is h e).0, (nearest-is h e).1, l)
 
 -- what the answer of `next` tells in each of its cases, where D is written in another way
-module _ (t : Table) (b : List ℕ) (D D' : ℕ) (q : D ≡ D') (r : Nearest) (h : NextIs t b D r) where
-  as-next : {n : Nearest} → r ≡ n → NextIs t b D' n
+module _ (t : Table) (b : List ℕ) (D D' : ℕ) (q : D ≡ D') (r : Option Nearest) (h : NextIs t b D r) where
+  as-next : {n : Option Nearest} → r ≡ n → NextIs t b D' n
   as-next {n} e = subst (λ (z : ℕ). NextIs t b z n) q (subst (NextIs t b D) e h)
 
-  pub next-nothing : r ≡ Nearest.Nothing → NextIs t b D' Nearest.Nothing
+  pub next-nothing : r ≡ None → NextIs t b D' None
   next-nothing e = as-next e
 
-  pub next-found : {s v d : ℕ} → r ≡ Nearest.At s v d → NextIs t b D' (Nearest.At s v d)
+  pub next-found : {x : Nearest} → r ≡ Some x → NextIs t b D' (Some x)
   next-found e = as-next e
 
 -- how many records arrive, from the firsts and the ends as they are read

@@ -1,5 +1,5 @@
 -- The next vertex, and what one step makes of the table and of the settled list. Assumes nothing.
-use Rattle.std.specs.Prelude.{◌≡◌, ◌⊎◌, List, ℕ, ◌+◌, ◌*◌, ◌/◌, ◌<◌, ◌≤◌, length}
+use Rattle.std.specs.Prelude.{◌≡◌, ◌⊎◌, List, ℕ, Option, Some, None, Result, Ok, Err, ◌+◌, ◌*◌, ◌/◌, ◌<◌, ◌≤◌, length}
 use Rattle.journeys.specs.Answers.{settled_bytes}
 use Rattle.words.specs.Written.{written}
 use Rattle.records.specs.Fields.{settled_of}
@@ -17,13 +17,13 @@ use Rattle.meeting.specs.Answer.{Leads}
 use Rattle.heldmap.specs.Model.{Standing, settled_now}
 use Rattle.heldmap.specs.RowsOfTables.{numbers_at, walks_in, hops_in}
 use Rattle.stepping.specs.declared.Progress.{Progress}
-use Rattle.stepping.specs.declared.Stepped.{Stepped}
-use Rattle.stepping.specs.declared.Stepped.TheVariants.{Next, Full}
+use Rattle.words.specs.Told.{number_of}
+use Rattle.words.specs.declared.Refusal.{Refusal}
 
 -- the foremost entry, within D; or nothing waits within D
-unfoldable pub NextIs : Table → List ℕ → ℕ → Nearest → Type 0
-NextIs t b D (Nearest.At s v d) = Place t b v s × Foremost (map_of t b) v d × (d ≤ D)
-NextIs t b D Nearest.Nothing = (u e : ℕ) → Waits (map_of t b) u e → D < e
+unfoldable pub NextIs : Table → List ℕ → ℕ → Option Nearest → Type 0
+NextIs t b D (Some x) = Place t b x.vertex x.slot × Foremost (map_of t b) x.vertex x.distance × (x.distance ≤ D)
+NextIs t b D None = (u e : ℕ) → Waits (map_of t b) u e → D < e
 
 -- One step from p, which settles v at d: m is the map after it. The bytes are those of the buffers before and after.
 pub record Steps (p : Progress) (m : Map) (v d : ℕ) (held' settled settled' : List ℕ) (q : Progress) : Type 0 where
@@ -37,9 +37,9 @@ pub record Steps (p : Progress) (m : Map) (v d : ℕ) (held' settled settled' : 
 abbrev pub Lacks : Progress → Map → List ℕ → ℕ → Type 0
 Lacks p m settled n = ((n ≡ 8) × (p.table.room < size m)) ⊎ ((n ≡ 9) × (size m ≤ p.table.room) × (length settled / 8 ≤ p.settled))
 
-unfoldable pub StepIs : Progress → Map → ℕ → ℕ → List ℕ → List ℕ → List ℕ → Stepped → Type 0
-StepIs p m v d held' settled settled' (Next q) = Steps p m v d held' settled settled' q
-StepIs p m v d held' settled settled' (Full n) = Lacks p m settled n
+unfoldable pub StepIs : Progress → Map → ℕ → ℕ → List ℕ → List ℕ → List ℕ → Result Progress Refusal → Type 0
+StepIs p m v d held' settled settled' (Ok q) = Steps p m v d held' settled settled' q
+StepIs p m v d held' settled settled' (Err r) = Lacks p m settled (number_of r.reason) × (r.place ≡ p.settled + 1)
 
 -- the row that a step at x passes, and how many records it has
 abbrev pub row_from : List ℕ → List ℕ → List ℕ → List ℕ → ℕ → Stretch → Directed → Row
@@ -65,6 +65,6 @@ abbrev pub map_after : List ℕ → List ℕ → List ℕ → List ℕ → ℕ �
 map_after v w h list x s a m = passed (row_from v w h list x s a) (passes a.arriving) (settled_now m x)
 
 -- the step from p with that row
-abbrev pub StepMade : List ℕ → List ℕ → List ℕ → List ℕ → ℕ → Stretch → Directed → Progress → List ℕ → List ℕ → List ℕ → List ℕ → Stepped → Type 0
+abbrev pub StepMade : List ℕ → List ℕ → List ℕ → List ℕ → ℕ → Stretch → Directed → Progress → List ℕ → List ℕ → List ℕ → List ℕ → Result Progress Refusal → Type 0
 StepMade v w h list x s a p held held' settled settled' r =
     StepIs p (map_after v w h list x s a (map_of p.table held)) x a.arriving.distance.0 held' settled settled' r

@@ -1,5 +1,5 @@
 // One step of the run, in either direction: the foremost vertex of the working table is settled, and its row is passed, the records that arrive at it or for the courier those that leave it.
-// Promises: the map after the step and the record that it lists, or the lowest number that lacks room.
+// Promises: the map after the step and the record that it lists, or the refusal of the lowest number that lacks room, with the step.
 // Rests on: the working table (`worktable`), `arrivals`, the readers and writers of `records`, the places of `stretches`.
 #![tactic(auto)]
 
@@ -14,11 +14,10 @@ ghost use Rattle.heldmap.specs.RowsOfTables.{Lists, stretch_in, numbers_at, walk
 ghost use Rattle.stepping.specs.Taken.{NextIs, Begins, map_after, StepMade};
 
 use directed::Directed;
-use meeting::Arrived;
 use passing::Arriving;
 use records::Kind;
 use stretches::Stretch;
-use words::{Seconds, Ticks};
+use words::{Reason, Refusal, Seconds, Ticks};
 use worktable::{Nearest, Table};
 
 // Where the run stands: the table, and how many vertices are listed.
@@ -26,13 +25,6 @@ use worktable::{Nearest, Table};
 pub struct Progress {
     pub table: Table,
     pub settled: usize,
-}
-
-// One step further, or the number of the refusal.
-#[derive(Clone, Copy)]
-pub enum Stepped {
-    Next(Progress),
-    Full(u32),
 }
 
 // The vertex v at its slot is settled, and dropped at once where nothing of it remains.
@@ -47,6 +39,7 @@ fn settle_next(held: &mut [u8], t: Table, v: usize, slot: usize) -> Table
 }
 
 // The walks that the row of x reads: those that arrive at it, a part of the walk table; for the courier the whole table.
+// Walks and hops have a function each: one for both would first ask the kind for its table and its number of records.
 fn walks_at<'a>(
     vertices: &[u8],
     walks: &'a [u8],
@@ -108,7 +101,7 @@ fn settle_and_pass<'a>(
     slot: usize,
     stretch: Stretch,
     row: Directed,
-) -> Arrived
+) -> Option<Table>
     requires { Begins vertices.now walks.now hops.now list.now x slot stretch row t held.old × (scratch.old ≡ replicate 2048 0) }
     ensures { ArrivedIs t held.new (map_after vertices.now walks.now hops.now list.now x stretch row (map_of t held.old)) result × (scratch.new ≡ replicate 2048 0) }
 {
@@ -121,7 +114,7 @@ fn settle_and_pass<'a>(
     )
 }
 
-// One step: x, at its slot, is the next vertex, with the distance d.
+// One step: x, at its slot, is the next vertex, with the distance d. A refusal names the step.
 pub fn step<'a>(
     vertices: &[u8],
     walks: &'a [u8],
@@ -135,41 +128,44 @@ pub fn step<'a>(
     slot: usize,
     stretch: Stretch,
     row: Directed,
-) -> Stepped
+) -> Result<Progress, Refusal>
     requires begins { Begins vertices.now walks.now hops.now list.now x slot stretch row p.table held.old × (scratch.old ≡ replicate 2048 0) }
     requires settled_in_bounds { (p.settled ≤ length settled.old / 8) × (p.settled < 4294967295) }
     ensures step_made { StepMade vertices.now walks.now hops.now list.now x stretch row p held.old held.new settled.old settled.new result }
     ensures scratch_after { scratch.new ≡ replicate 2048 0 }
 {
-    let table = p.table;
-    let Arrived::Fits(passed) = settle_and_pass(
-        vertices, walks, hops, list, held, scratch, table, x, slot, stretch, row,
-    ) else {
-        return Stepped::Full(8);
-    };
+    let count = p.settled + 1;
+    let place = count as u32;
+    let table = settle_and_pass(
+        vertices, walks, hops, list, held, scratch, p.table, x, slot, stretch, row,
+    )
+    .ok_or(Refusal {
+        reason: Reason::HeldRoom,
+        place,
+    })?;
     if p.settled == settled.len() / 8 {
-        return Stepped::Full(9);
+        return Err(Refusal {
+            reason: Reason::SettledRoom,
+            place,
+        });
     }
     records::add_settled(settled, p.settled, x as u32, row.arriving.distance);
-    let count = p.settled + 1;
-    Stepped::Next(Progress {
-        table: passed,
+    Ok(Progress {
+        table,
         settled: count,
     })
 }
 
 // The least entry within the ticks allowed, or nothing.
-pub fn next(held: &[u8], t: Table, allowed: u32) -> Nearest
+pub fn next(held: &[u8], t: Table, allowed: u32) -> Option<Nearest>
     requires { InOrder t held.now }
     ensures { NextIs t held.now allowed result }
 {
-    let Nearest::At(slot, v, d) = worktable::least(held, t) else {
-        return Nearest::Nothing;
-    };
-    if allowed < d {
-        return Nearest::Nothing;
+    let nearest = worktable::least(held, t)?;
+    if allowed < nearest.distance {
+        return None;
     }
-    Nearest::At(slot, v, d)
+    Some(nearest)
 }
 
 // How many records arrive at x, which is settled at d, and what their offers ask.

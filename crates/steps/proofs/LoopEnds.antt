@@ -1,6 +1,9 @@
 -- Where the run stands, for the order of settling whichever list that is: what a step asks and what it leads to. Assumes nothing.
-use mathlib.Core.Path.{◌≡◌, sym, ap, subst, ◌∙◌}
-use mathlib.Core.Bool.{Bool, true, false}
+use Rattle.std.specs.Prelude.{Option, Some, None, Result, Ok, Err, is_some}
+use Rattle.words.specs.Told.{number_of}
+use Rattle.words.specs.declared.Refusal.{Refusal}
+use mathlib.Core.Path.{◌≡◌, refl, sym, ap, subst, ◌∙◌}
+use mathlib.Core.Bool.{Bool, true, false, not}
 use mathlib.Core.List.{List}
 use Prim.Native.Nat.{ℕ, suc, ◌+◌, ◌/◌, ◌≤◌, ◌<◌}
 use native.Mathlib.Omega.{arith}
@@ -14,7 +17,6 @@ use Rattle.journeys.specs.Query as query
 use Rattle.journeys.specs.Query.{allowed}
 use Rattle.journeys.specs.Order.{Settled}
 use Rattle.journeys.specs.Network.{Network, distance_in}
-use Rattle.journeys.proofs.Tests.{cond-true, cond-false}
 use Rattle.journeys.specs.Valid.{Valid}
 use Rattle.journeys.proofs.Decoding.{vertex-count}
 use Rattle.journeys.proofs.Ways.{Ways}
@@ -36,9 +38,6 @@ use Rattle.heldmap.specs.RowsOfTables.{Lists, stretch_in, directed_at, row_on}
 use Rattle.stepping.specs.Taken.{NextIs, StepIs, Begins, StepMade}
 use Rattle.steps.specs.Running.{WaitsIs, Running, Short, EndedIs, OrderIn, Stands, Ends}
 use Rattle.stepping.specs.declared.Progress.{Progress}
-use Rattle.stepping.specs.declared.Stepped.{Stepped}
-use Rattle.stepping.specs.declared.Stepped.TheVariants.{Next, Full}
-use Rattle.steps.specs.declared.Ended.TheVariants.{Done, Refused}
 use Rattle.heldmap.proofs.ArrivingRun.{standing}
 use Rattle.heldmap.proofs.HeldMap.{beyond-none, none-waits}
 use Rattle.heldmap.proofs.RowOfNetwork.{IsRow}
@@ -48,14 +47,10 @@ use Rattle.heldmap.proofs.Directions.{ways_in, searched}
 use Rattle.steps.proofs.RunningNext.{onward, onward-short}
 
 -- what `waits` has from `next`
-module _ (t : Table) (b : List ℕ) (D : ℕ) (r : Nearest) (h : NextIs t b D r) where
-  pub waits-at : {s v d : ℕ} → r ≡ Nearest.At s v d → WaitsIs t b D true
-  unfolding WaitsIs
-  waits-at {s} {v} {d} e = (s, v, d, subst (NextIs t b D) e h)
-
-  pub waits-not : r ≡ Nearest.Nothing → WaitsIs t b D false
-  unfolding WaitsIs
-  waits-not e = subst (NextIs t b D) e h
+pub waits-if : (t : Table) (b : List ℕ) (D : ℕ) (r : Option Nearest) → NextIs t b D r → WaitsIs t b D (is_some r)
+unfolding WaitsIs
+waits-if t b D (Some x) h = (x, h)
+waits-if t b D None h = h
 
 module _ (c : Bool) (N : Tables) (held_long settled_long : ℕ) (Q : query.Query) (ok : Valid N Q) (p : Progress) (held settled : List ℕ) (H : Stands c N held_long settled_long Q p held settled) where
   abbrev G : Network
@@ -94,7 +89,7 @@ module _ (c : Bool) (N : Tables) (held_long settled_long : ℕ) (Q : query.Query
       (omega (arith, room.1, long, stand.long), omega (arith, stand.made, most, ok.tables.vertices_few))
 
   -- Nothing waits within D: the whole order is settled.
-  pub whole : (limit : ℕ) → p.settled ≤ limit → NextIs p.table held (allowed Q) Nearest.Nothing → Ends c N held_long settled_long Q limit held settled (Done p 1)
+  pub whole : (limit : ℕ) → p.settled ≤ limit → NextIs p.table held (allowed Q) None → Ends c N held_long settled_long Q limit held settled (Ok (record { progress = p; finished = true }))
   unfolding Stands Ends EndedIs NextIs
   whole limit below n x y a b l O =
       let R = H x y a b l O in
@@ -102,9 +97,9 @@ module _ (c : Bool) (N : Tables) (held_long settled_long : ℕ) (Q : query.Query
       let all : length l ≤ p.settled =
       (all_settled G W far network-searched.told O p.settled).0
       (none-waits G (distance_in (take p.settled l)) network-searched.bounded network-searched.told.few waits) in
-      record { running = R; steps = omega (arith, R.made); finished_is = sym (cond-true 1 0 (le-leb (length l) p.settled all)) }
+      record { running = R; steps = omega (arith, R.made); finished_is = sym (le-leb (length l) p.settled all) }
 
-  module _ (s x d : ℕ) (n : NextIs p.table held (allowed Q) (Nearest.At s x d)) where
+  module _ (s x d : ℕ) (n : NextIs p.table held (allowed Q) (Some record { slot = s; vertex = x; distance = d })) where
     pub place : Place p.table held x s
     unfolding NextIs
     place = n.0
@@ -121,12 +116,12 @@ module _ (c : Bool) (N : Tables) (held_long settled_long : ℕ) (Q : query.Query
     ahead R = subst (λ (m : Map). Foremost m x d) R.table.map front
 
     -- The limit is reached while a vertex waits within D.
-    pub more_left : (limit : ℕ) → p.settled ≡ limit → Ends c N held_long settled_long Q limit held settled (Done p 0)
+    pub more_left : (limit : ℕ) → p.settled ≡ limit → Ends c N held_long settled_long Q limit held settled (Ok (record { progress = p; finished = false }))
     unfolding Stands Ends EndedIs
     more_left limit e y z a b l O =
         let R = H y z a b l O in
         let f = one_further G W far network-searched O p.settled R.made x d (ahead R) near in
-        record { running = R; steps = omega (arith, f.0); finished_is = sym (cond-false 1 0 (lt-leb (length l) p.settled f.0)) }
+        record { running = R; steps = omega (arith, f.0); finished_is = sym (lt-leb (length l) p.settled f.0) }
 
     pub x-low : x < vertex_count N
     x-low = next_low G W far network-searched order-here p.settled stand.made x d (ahead stand) near
@@ -145,31 +140,38 @@ module _ (c : Bool) (N : Tables) (held_long settled_long : ℕ) (Q : query.Query
       M = passed R m (settled_now (map_of p.table held) x)
 
       module _ (held' settled' : List ℕ) where
-        pub one-counted : (q : Progress) → StepIs p M x d held' settled settled' (Next q) → q.settled ≡ p.settled + 1
+        pub one-counted : (q : Progress) → StepIs p M x d held' settled settled' (Ok q) → q.settled ≡ p.settled + 1
         unfolding StepIs
         one-counted q T = T.count
 
-        pub stands_on : (q : Progress) → StepIs p M x d held' settled settled' (Next q) → Stands c N held_long settled_long Q q held' settled'
+        pub stands_on : (q : Progress) → StepIs p M x d held' settled settled' (Ok q) → Stands c N held_long settled_long Q q held' settled'
         unfolding Stands StepIs
         stands_on q T y z a b l O = onward G W far network-searched ok.tables.vertices_few O y z p held settled (H y z a b l O) x d front near R m I held' settled' q T
 
-        pub stops : (limit n' : ℕ) → p.settled < limit → StepIs p M x d held' settled settled' (Full n') → Ends c N held_long settled_long Q limit held' settled' (Refused n' (p.settled + 1))
+        pub stops : (limit : ℕ) (why : Refusal) → p.settled < limit → StepIs p M x d held' settled settled' (Err why) → Ends c N held_long settled_long Q limit held' settled' (Err why)
         unfolding Stands StepIs Ends EndedIs
-        stops limit n' below T y z a b l O =
-            subst (λ (j : ℕ). Short G y z l limit n' j) (let e : suc p.settled ≡ p.settled + 1 = omega arith in e)
-            (onward-short G W far network-searched ok.tables.vertices_few O y z p held settled (H y z a b l O) x d front near R m I held' settled' limit n' below T)
+        stops limit why below T y z a b l O =
+            subst (λ (j : ℕ). Short G y z l limit (number_of why.reason) j) (let e : suc p.settled ≡ why.place = omega (arith, T.1) in e)
+            (onward-short G W far network-searched ok.tables.vertices_few O y z p held settled (H y z a b l O) x d front near R m I held' settled' limit (number_of why.reason) below T.0)
 
   -- The limit is reached, and `waits` tells whether a vertex waits within D.
   module _ (D : ℕ) (q : D ≡ allowed Q) (r : Bool) (K : WaitsIs p.table held D r) (limit : ℕ) where
-    pub some-wait : p.settled ≡ limit → r ≡ true → Ends c N held_long settled_long Q limit held settled (Done p 0)
+    some-wait : p.settled ≡ limit → r ≡ true → Ends c N held_long settled_long Q limit held settled (Ok (record { progress = p; finished = false }))
     unfolding WaitsIs
     some-wait e t =
         let n = subst (λ (z : ℕ). WaitsIs p.table held z true) q (subst (WaitsIs p.table held D) t K) in
-        more_left n.0 n.1 n.2 n.3 limit e
+        more_left n.0.slot n.0.vertex n.0.distance n.1 limit e
 
-    pub none-wait : p.settled ≤ limit → r ≡ false → Ends c N held_long settled_long Q limit held settled (Done p 1)
+    none-wait : p.settled ≤ limit → r ≡ false → Ends c N held_long settled_long Q limit held settled (Ok (record { progress = p; finished = true }))
     unfolding WaitsIs
     none-wait below t = whole limit below (subst (λ (z : ℕ). WaitsIs p.table held z false) q (subst (WaitsIs p.table held D) t K))
+
+    pub at_limit : p.settled ≡ limit → Ends c N held_long settled_long Q limit held settled (Ok (record { progress = p; finished = not r }))
+    at_limit e = go r refl
+      where
+        go : (y : Bool) → r ≡ y → Ends c N held_long settled_long Q limit held settled (Ok (record { progress = p; finished = not y }))
+        go true t = some-wait e t
+        go false t = none-wait (omega arith) t
 
 -- ---- the row as it is read from the tables
 -- in the code's way: from the stretch as it was found, and D as it was worked out
@@ -177,7 +179,7 @@ pub row_is : (c : Bool) (size : ℕ) (v w h : List ℕ) (x d : ℕ) (A : Seconds
 row_is c size v w h x d A speed {D} {D'} {s} {t} q e f = f ∙ ap (λ (y : Stretch). directed_at c size v w h y x d A speed D) e ∙ ap (directed_at c size v w h t x d A speed) q
 
 module _ (c : Bool) (size : ℕ) (wide : 16 ≤ size) (v w h list : List ℕ) (lists : Lists c size w h list) (held_long settled_long : ℕ) (Q : query.Query) (ok : Valid (tables_of size v w h) Q) (p : Progress) (held settled : List ℕ)
-    (H : Stands c (tables_of size v w h) held_long settled_long Q p held settled) (s x d : ℕ) (n : NextIs p.table held (allowed Q) (Nearest.At s x d)) where
+    (H : Stands c (tables_of size v w h) held_long settled_long Q p held settled) (s x d : ℕ) (n : NextIs p.table held (allowed Q) (Some record { slot = s; vertex = x; distance = d })) where
   abbrev T : Tables
   T = tables_of size v w h
 
@@ -235,7 +237,7 @@ module _ (c : Bool) (size : ℕ) (wide : 16 ≤ size) (v w h list : List ℕ) (l
     begins-as bytes t e a f = subst (λ (y : Stretch). Begins v w h list x s y a p.table held) (sym e) (subst (λ (z : Directed). Begins v w h list x s stretch z p.table held) (sym f) (begins bytes))
 
     -- one step, with the row written in the code's way
-    pub step-as : (held' settled' : List ℕ) (t : Stretch) → t ≡ stretch → (a : Directed) → a ≡ r → (y : Stepped) → StepMade v w h list x t a p held held' settled settled' y
+    pub step-as : (held' settled' : List ℕ) (t : Stretch) → t ≡ stretch → (a : Directed) → a ≡ r → (y : Result Progress Refusal) → StepMade v w h list x t a p held held' settled settled' y
         → StepIs p (passed R (passes r.arriving) (settled_now (map_of p.table held) x)) x d held' settled settled' y
     unfolding directed_at
     step-as held' settled' t e a f y S =

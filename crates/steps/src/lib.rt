@@ -13,15 +13,15 @@ ghost use Rattle.steps.specs.Running.{WaitsIs, Stands, Ends};
 ghost use Rattle.journeys.specs.Valid.{Valid};
 
 use records::Query;
-use stepping::{Progress, Stepped};
-use words::Ticks;
-use worktable::{Nearest, Table};
+use stepping::Progress;
+use words::{Refusal, Ticks};
+use worktable::Table;
 
-// The end of the steps: how far they went and whether nothing is left, or the refusal and its step.
+// How far the steps went, and whether nothing is left.
 #[derive(Clone, Copy)]
-pub enum Ended {
-    Done(Progress, u32),
-    Refused(u32, usize),
+pub struct Ended {
+    pub progress: Progress,
+    pub finished: bool,
 }
 
 // Whether a vertex waits within the ticks allowed.
@@ -29,10 +29,7 @@ fn waits(held: &[u8], t: Table, allowed: Ticks) -> bool
     requires { InOrder t held.now }
     ensures { WaitsIs t held.now allowed.0 result }
 {
-    match stepping::next(held, t, allowed.0) {
-        Nearest::At(_, _, _) => true,
-        Nearest::Nothing => false,
-    }
+    stepping::next(held, t, allowed.0).is_some()
 }
 
 // Steps up to the limit: as many as it and the order allow, or the first that lacks room.
@@ -50,7 +47,7 @@ pub fn steps<'a>(
     courier: bool,
     allowed: Ticks,
     limit: u32,
-) -> Ended
+) -> Result<Ended, Refusal>
     requires valid { Valid (tables_of hop_size vertices.now walks.now hops.now) (query_of q) × (allowed.0 ≡ query.allowed (query_of q)) × (scratch.old ≡ replicate 2048 0) × (start.settled ≡ 0) × (16 ≤ hop_size) }
     requires lists { Lists courier hop_size walks.now hops.now list.now }
     requires stands { Stands courier (tables_of hop_size vertices.now walks.now hops.now) (length held.old) (length settled.old) (query_of q) start held.old settled.old }
@@ -58,25 +55,35 @@ pub fn steps<'a>(
     ensures scratch_after { scratch.new ≡ replicate 2048 0 }
 {
     let mut p = start;
+    // A while: the steps are counted where the run stands, which the answer of each step tells anew.
     while p.settled < limit as usize {
-        let table = p.table;
-        let Nearest::At(slot, x, d) = stepping::next(held, table, allowed.0) else {
-            return Ended::Done(p, 1);
+        let Some(next) = stepping::next(held, p.table, allowed.0) else {
+            return Ok(Ended {
+                progress: p,
+                finished: true,
+            });
         };
+        let x = next.vertex;
         let stretch = stepping::stretch_at(vertices, walks, hops, hop_size, list, held, courier, x);
         let row = stepping::row_at(
-            vertices, walks, hops, hop_size, stretch, courier, x, d, q.arrival, q.speed, allowed,
+            vertices,
+            walks,
+            hops,
+            hop_size,
+            stretch,
+            courier,
+            x,
+            next.distance,
+            q.arrival,
+            q.speed,
+            allowed,
         );
-        match stepping::step(
-            vertices, walks, hops, list, held, settled, scratch, p, x, slot, stretch, row,
-        ) {
-            Stepped::Next(more) => p = more,
-            Stepped::Full(n) => return Ended::Refused(n, p.settled + 1),
-        }
+        p = stepping::step(
+            vertices, walks, hops, list, held, settled, scratch, p, x, next.slot, stretch, row,
+        )?;
     }
-    let table = p.table;
-    if waits(held, table, allowed) {
-        return Ended::Done(p, 0);
-    }
-    Ended::Done(p, 1)
+    Ok(Ended {
+        progress: p,
+        finished: !waits(held, p.table, allowed),
+    })
 }

@@ -1,15 +1,12 @@
 -- The stop of a line, field by field, as one record. Assumes nothing.
-use mathlib.Core.Path.{◌≡◌, refl, sym, ap, subst, ◌∙◌}
-use mathlib.Core.Bool.{Bool, true, false}
-use mathlib.Core.List.{List, [], ◌∷◌}
-use Prim.Native.Nat.{ℕ, ◌+◌, ◌-◌, ◌*◌, ◌/◌, ◌%◌, ◌≤◌, ◌<◌, ◌^◌}
-use native.Mathlib.Omega.{arith}
-use lib.Dec.{eqb}
-use Rattle.journeys.specs.Counting.{one}
+use mathlib.Core.Path.{◌≡◌, refl}
+use mathlib.Core.Bool.{Bool}
+use mathlib.Core.List.{List}
+use Prim.Native.Nat.{ℕ}
 use Rattle.feed.specs.Fields.{row_of, field}
 use Rattle.feed.specs.Values.{value_of}
 use Rattle.feed.specs.Ids.{number_of}
-use Rattle.feed.specs.Stops.{Stop, or_other}
+use Rattle.feed.specs.Stops.{or_other}
 use Rattle.lines.specs.Spans.{bytes_in}
 use Rattle.rows.specs.Placed.{field_span}
 use Rattle.naming.specs.Named.{found_from}

@@ -1,14 +1,16 @@
 -- What a line that 13 and 14 let pass has for its record. Assumes nothing.
 use mathlib.Core.Path.{◌≡◌, refl, sym, ap, subst, ◌∙◌}
 use mathlib.Core.Logic.{⊎_elim}
-use mathlib.Core.Bool.{Bool, true, false, not, cond, ◌&&◌, ◌||◌}
+use mathlib.Core.Bool.{Bool, true, false, not, ◌&&◌, ◌||◌}
 use mathlib.Core.List.{List, [], ◌∷◌}
-use Prim.Native.Nat.{ℕ, zero, suc, ◌+◌, ◌-◌, ◌*◌, ◌≤◌, ◌<◌, ◌^◌}
+use Rattle.std.specs.Prelude.{Option, Some, None, IsSome}
+use borrow.Author.Rules.{rules}
+use Prim.Native.Nat.{ℕ, ◌+◌, ◌-◌, ◌≤◌, ◌<◌, ◌^◌}
 use native.Mathlib.Omega.{arith}
 use native.Mathlib.Decide.{ℕ_discrete}
 use lib.Dec.{eqb, leb}
 use lib.ListN.{length, get_or, take, drop}
-use borrow.Author.Tests.{eqb-true, eqb-false, eq-eqb, leb-true, le-leb}
+use borrow.Author.Tests.{eqb-true, eq-eqb, leb-true, le-leb}
 use Rattle.journeys.specs.Counting.{none, one}
 use Rattle.journeys.specs.Refusals.{fine}
 use Rattle.journeys.proofs.Tests.{split, never, and_both, and-true, or_cases}
@@ -17,12 +19,11 @@ use Rattle.feed.specs.Fields.{row_of, field}
 use Rattle.feed.specs.Values.{digits, number, value_from, value_of, time, time_or_blank, seconds_of}
 use Rattle.feed.specs.Ids.{list_line, ids_refusal, number_of}
 use Rattle.feed.specs.Stops.{or_other}
-use Rattle.lines.specs.Rows.{undoubled}
 use Rattle.lines.specs.Spans.{bytes_in}
 use Rattle.rows.specs.declared.Places.{Places}
 use Rattle.rows.specs.Placed.{field_span, places_of}
 use Rattle.rows.proofs.Fields.{value, pairs}
-use Rattle.rows.proofs.Picks.{fits-counted}
+use Rattle.rows.proofs.Picks.{nowhere-uncounted}
 use Rattle.naming.specs.Named.{line_at, found_from}
 use Rattle.naming.proofs.Meaning.{number_is}
 use Rattle.known.specs.Counted.{id_known}
@@ -30,7 +31,7 @@ use Rattle.known.proofs.Lookups.{listed-is}
 use Rattle.spelling.specs.Spelled.{number_at}
 use Rattle.stops.specs.StopLines.{line_good}
 use Rattle.stoplist.specs.declared.Columns.{Columns}
-use Rattle.stoplist.specs.Made.{entry_good, Inside}
+use Rattle.stoplist.specs.Made.{entry_good}
 
 -- ---- an id that is listed
 list-none : (l : List ℕ) → list_line 65535 l ≡ true → (list_line none l ≡ true) × (value_of (field (row_of l) 1) ≤ 65535)
@@ -127,8 +128,9 @@ module _ (C : Columns) (stops trips l : List ℕ) (g : entry_good C stops trips 
       let p0 = and_both (row_of l).sound (eqb (length (row_of l).fields) C.count) p1.0 in
       record { counted = p1.0; many = eqb-true _ _ p0.1; arrival = p1.1; departure = p2.1; sequence = p3.1; stop = k.0; trip = k.1 }
 
-  pub all_fit : {r : Places} → r ≡ places_of C.count C.trip C.arrival C.departure C.stop C.sequence l → r.fits ≡ true
-  all_fit e = fits-counted C.count C.trip C.arrival C.departure C.stop C.sequence l e ∙ good.counted
+  pub all_fit : (p : Option Places) → p ≡ places_of C.count C.trip C.arrival C.departure C.stop C.sequence l → IsSome p
+  all_fit (Some p) e = search rules
+  all_fit None e = never good.counted (nowhere-uncounted C.count C.trip C.arrival C.departure C.stop C.sequence l e)
 
   pub below : {c : ℕ} → c < C.count → c < length (row_of l).fields
   below {c} h = subst (λ (n : ℕ). c < n) (sym good.many) h

@@ -4,15 +4,16 @@
 #![tactic(auto)]
 
 ghost use Rattle.std.specs.Prelude.{◌≡◌, true, cond, ℕ, ◌+◌, ◌*◌, ◌-◌, ◌<◌, ◌≤◌, ◌^◌, length, take, drop, set, get_or};
-ghost use Rattle.journeys.specs.Counting.{none, one};
+ghost use Rattle.journeys.specs.Counting.{none};
 ghost use Rattle.journeys.specs.Refusals.{fine};
 ghost use Rattle.feed.specs.Fields.{row_of, field};
 ghost use Rattle.feed.specs.Ids.{ids_refusal, number_of};
 ghost use Rattle.sorting.specs.Sorted.{recs};
-ghost use Rattle.known.specs.Counted.{Slots, Listed, id_known};
+ghost use Rattle.known.specs.Counted.{id_known};
 ghost use Rattle.rows.specs.Placed.{place_of, places_of};
 ghost use Rattle.stoplist.specs.Made.{packed, stop_made, entry_good, Inside};
 
+use idtable::Ids;
 use rows::Places;
 use sorting::put;
 
@@ -27,24 +28,18 @@ pub struct Columns {
     pub sequence: usize,
 }
 
-fn bit(timed: bool) -> u64
-    ensures { result ≡ one timed }
-{
-    if timed { 1 } else { 0 }
-}
-
 // The vertex that a list has for the id in field k of a line, which begins at a place.
-pub fn vertex_of(b: &[u8], n: usize, m: usize, list: &[u8], line: &[u8], k: usize, at: usize) -> u32
-    requires slots { Slots n b.now × Listed list.now n m b.now × (k < length (row_of line.now).fields) × (at ≡ place_of line.now k) }
+pub fn vertex_of(list: &Ids, line: &[u8], k: usize, at: usize) -> u32
+    requires k_in_bounds { (k < length (row_of line.now).fields) × (at ≡ place_of line.now k) }
     requires list_value { (ids_refusal 65535 list.now ≡ fine) × (id_known list.now k line.now ≡ true) }
     ensures { (result ≡ number_of list.now (field (row_of line.now) k)) × (result ≤ 65535) }
 {
-    let place = known::listed_from(b, n, m, list, line, k, at);
-    spelling::number_at(list, place - 1)
+    let place = known::listed_from(list, line, k, at);
+    spelling::number_at(list.list, place - 1)
 }
 
-// Where the columns of a line begin.
-pub fn places_in(line: &[u8], c: Columns) -> Places
+// Where the columns of a line begin, if it has as many fields as line 1 and its quotes are in order.
+pub fn places_in(line: &[u8], c: Columns) -> Option<Places>
     requires { Inside c }
     ensures { result ≡ places_of c.count c.trip c.arrival c.departure c.stop c.sequence line.now }
 {
@@ -76,7 +71,7 @@ fn put_stop(
     ensures { recs n b.new ≡ set (recs n b.old) j (packed (record { line = line; trip = trip; trip_number = 0; sequence = sequence; vertex = vertex; timed = timed; arrival = arrival; departure = departure })) }
 {
     let times = vertex as u64 * 1099511627776
-        + bit(timed) * 68719476736
+        + u64::from(timed) * 68719476736
         + arrival as u64 * 262144
         + departure as u64;
     put(
@@ -97,23 +92,17 @@ fn write_line(
     number: u32,
     line: &[u8],
     c: Columns,
-    bs: &[u8],
-    ns: usize,
-    ms: usize,
-    stops: &[u8],
-    bt: &[u8],
-    nt: usize,
-    mt: usize,
-    trips: &[u8],
+    stops: &Ids,
+    trips: &Ids,
 )
     requires b_len { (length b.old ≡ 20 * n) × (j < n) × Inside c × (entry_good c stops.now trips.now line.now ≡ true) }
-    requires slots { Slots ns bs.now × Listed stops.now ns ms bs.now × (ids_refusal 65535 stops.now ≡ fine) }
-    requires slots_2 { Slots nt bt.now × Listed trips.now nt mt bt.now × (ids_refusal none trips.now ≡ fine) × (length trips.now < 4294967296) }
+    requires stops_good { ids_refusal 65535 stops.now ≡ fine }
+    requires trips_good { (ids_refusal none trips.now ≡ fine) × (length trips.now < 4294967296) }
     ensures { recs n b.new ≡ set (recs n b.old) j (packed (stop_made c stops.now trips.now number line.now)) }
 {
-    let p = places_in(line, c);
-    let vertex = vertex_of(bs, ns, ms, stops, line, c.stop, p.stop);
-    let trip = known::listed_from(bt, nt, mt, trips, line, c.trip, p.trip);
+    let p = places_in(line, c).unwrap();
+    let vertex = vertex_of(stops, line, c.stop, p.stop);
+    let trip = known::listed_from(trips, line, c.trip, p.trip);
     let sequence = halts::number_from(line, c.sequence, p.sequence);
     let times = halts::times_of(line, c.arrival, c.departure, p.arrival, p.departure);
     put_stop(
@@ -140,34 +129,13 @@ pub fn write_part(
     at: usize,
     stop: usize,
     c: Columns,
-    bs: &[u8],
-    ns: usize,
-    ms: usize,
-    stops: &[u8],
-    bt: &[u8],
-    nt: usize,
-    mt: usize,
-    trips: &[u8],
+    stops: &Ids,
+    trips: &Ids,
 )
     requires b_len { (length b.old ≡ 20 * n) × (j < n) × Inside c × (at ≤ stop) × (stop ≤ length text.now) × (entry_good c stops.now trips.now (take (stop - at) (drop at text.now)) ≡ true) }
-    requires slots { Slots ns bs.now × Listed stops.now ns ms bs.now × (ids_refusal 65535 stops.now ≡ fine) }
-    requires slots_2 { Slots nt bt.now × Listed trips.now nt mt bt.now × (ids_refusal none trips.now ≡ fine) × (length trips.now < 4294967296) }
+    requires stops_good { ids_refusal 65535 stops.now ≡ fine }
+    requires trips_good { (ids_refusal none trips.now ≡ fine) × (length trips.now < 4294967296) }
     ensures { recs n b.new ≡ set (recs n b.old) j (packed (stop_made c stops.now trips.now number (take (stop - at) (drop at text.now)))) }
 {
-    write_line(
-        b,
-        n,
-        j,
-        number,
-        &text[at..stop],
-        c,
-        bs,
-        ns,
-        ms,
-        stops,
-        bt,
-        nt,
-        mt,
-        trips,
-    );
+    write_line(b, n, j, number, &text[at..stop], c, stops, trips);
 }

@@ -3,24 +3,24 @@ use Prim.Native.Nat.{ℕ, ◌+◌, ◌-◌, ◌<◌}
 use native.Mathlib.Omega.{arith}
 use mathlib.Core.Path.{◌≡◌, refl, sym, ap, ◌∙◌}
 use mathlib.Core.Logic.{⊎_elim}
-use mathlib.Core.Bool.{Bool, true, false, cond, ◌&&◌, ◌||◌}
+use mathlib.Core.Bool.{Bool, true, false, ◌&&◌}
 use mathlib.Core.List.{List, [], ◌∷◌}
 use lib.Dec.{eqb}
 use lib.ListN.{length, take, drop}
 use lib.Seq.{take-nil, drop-nil}
 use borrow.Author.Tests.{eqb-true}
 use Rattle.journeys.specs.Counting.{none}
-use Rattle.journeys.proofs.Tests.{split, and_both, and_left, and_right, or_left}
-use Rattle.journeys.specs.Refusals.{Refusal, unless, or_else}
+use Rattle.journeys.proofs.Tests.{split, and_both, or_left}
+use Rattle.journeys.specs.Refusals.{unless, or_else}
 use Rattle.feed.specs.Lines.{empty, lines_of, first_bad_line}
 use Rattle.feed.specs.Fields.{Row, row_of, field}
-use Rattle.feed.specs.Values.{number, time, seconds_of, time_or_blank}
-use Rattle.feed.specs.Stops.{trip_name, arrival_name, departure_name, stop_name, sequence_name, times, column_from, column, header, columns_once, header_refusal, in_column, stop_line, below, lines_refusal}
+use Rattle.feed.specs.Values.{number, time, time_or_blank}
+use Rattle.feed.specs.Stops.{trip_name, arrival_name, departure_name, stop_name, sequence_name, times, column, header, columns_once, header_refusal, in_column, stop_line, below, lines_refusal}
 use Rattle.lines.specs.Ends.{width, end_width}
 use Rattle.lines.proofs.Lines.{line-at}
 use Rattle.header.proofs.Names.{column-inside}
-use Rattle.values.specs.declared.Number.TheVariants.{Value, Bad}
-use Rattle.values.specs.declared.Time.TheVariants.{Seconds, Bad as None}
+use Rattle.std.specs.Prelude.{Option, Some, None}
+use Rattle.std.specs.Option.{is_some}
 use Rattle.values.specs.Readings.{number_read, time_read}
 use Rattle.values.proofs.Times.{read-value, read-bad}
 use Rattle.stops.specs.StopLines.{line_good, fault_below}
@@ -30,7 +30,7 @@ pub blank-good : (f : List ℕ) → empty f ≡ true → time_or_blank f ≡ tru
 unfolding time_or_blank
 blank-good f e = or_left _ e
 
-pub time-good : (f : List ℕ) (t : ℕ) → empty f ≡ false → time_read f ≡ Seconds t → time_or_blank f ≡ true
+pub time-good : (f : List ℕ) (t : ℕ) → empty f ≡ false → time_read f ≡ Some t → time_or_blank f ≡ true
 unfolding time_or_blank time_read
 time-good f t e r =
     rw e
@@ -41,6 +41,10 @@ unfolding time_or_blank time_read
 time-bad f e r =
     rw e
     (⊎_elim (λ (p : time f ≡ true). absurd (let z : ◌≡◌ {A = ℕ} 0 1 = cc in omega arith)) (λ (p : time f ≡ false). p) (split (time f)))
+
+pub time-told : (f : List ℕ) (o : Option ℕ) → empty f ≡ false → time_read f ≡ o → is_some o ≡ time_or_blank f
+time-told f (Some t) e r = sym (time-good f t e r)
+time-told f None e r = sym (time-bad f e r)
 
 -- ---- the tests of a line, one behind the other
 module _ (count arrival departure sequence : ℕ) (s : List ℕ) where
@@ -69,11 +73,15 @@ module _ (count arrival departure sequence : ℕ) (s : List ℕ) where
         unfolding line_good
         by-sequence = rw (h, a) (rw d refl)
 
-        pub good-sequence : (v : ℕ) → number_read none (field (row_of s) sequence) ≡ Value v → line_good count arrival departure sequence s ≡ true
+        pub good-sequence : (v : ℕ) → number_read none (field (row_of s) sequence) ≡ Some v → line_good count arrival departure sequence s ≡ true
         good-sequence v e = by-sequence ∙ (read-value none v (field (row_of s) sequence) e).0
 
-        pub bad-sequence : number_read none (field (row_of s) sequence) ≡ Bad → line_good count arrival departure sequence s ≡ false
+        pub bad-sequence : number_read none (field (row_of s) sequence) ≡ None → line_good count arrival departure sequence s ≡ false
         bad-sequence e = by-sequence ∙ read-bad none (field (row_of s) sequence) e
+
+        pub sequence-told : (o : Option ℕ) → number_read none (field (row_of s) sequence) ≡ o → is_some o ≡ line_good count arrival departure sequence s
+        sequence-told (Some v) e = sym (good-sequence v e)
+        sequence-told None e = sym (bad-sequence e)
 
 -- By the columns of line 1 it is a line of the definition.
 line-is : (H : Row) → line_good (length H.fields) (column arrival_name H) (column departure_name H) (column sequence_name H) ≡ stop_line H

@@ -13,8 +13,7 @@ ghost use Rattle.rows.specs.Placed.{place_of};
 ghost use Rattle.words.specs.Told.{told};
 ghost use Rattle.stops.specs.StopLines.{line_good, fault_below};
 
-use values::{Number, Time};
-use words::Refusal;
+use words::{Reason, Refusal};
 
 // A field that begins at a place is a time, or blank.
 fn time_or_blank(line: &[u8], k: usize, at: usize) -> bool
@@ -22,16 +21,10 @@ fn time_or_blank(line: &[u8], k: usize, at: usize) -> bool
     ensures { result ≡ time_or_blank (field (row_of line.now) k) }
 {
     let span = rows::span_from(line, k, at);
-    let start = span.start;
-    let stop = span.stop;
-    if start == stop {
+    if span.start == span.stop {
         return true;
     }
-    let read = values::read_time(&line[start..stop]);
-    match read {
-        Time::Seconds(_) => true,
-        Time::Bad => false,
-    }
+    values::read_time(span.bytes(line)).is_some()
 }
 
 // A line with so many fields has times and a sequence in these columns, which begin at three places.
@@ -55,11 +48,7 @@ pub fn timely(
     if !time_or_blank(line, departure, second) {
         return false;
     }
-    let read = rows::number_from(line, sequence, third, 4294967295);
-    match read {
-        Number::Value(_) => true,
-        Number::Bad => false,
-    }
+    rows::number_from(line, sequence, third, 4294967295).is_some()
 }
 
 // A line with so many fields, and with times and a sequence in these columns. No other column is looked for.
@@ -67,10 +56,10 @@ fn stop_line(line: &[u8], count: usize, arrival: usize, departure: usize, sequen
     requires { (arrival < count) × (departure < count) × (sequence < count) × (count < 18446744073709551615) }
     ensures { result ≡ line_good count arrival departure sequence line.now }
 {
-    let p = rows::places_of(line, count, arrival, arrival, departure, arrival, sequence);
-    if !p.fits {
+    let places = rows::places_of(line, count, arrival, arrival, departure, arrival, sequence);
+    let Some(p) = places else {
         return false;
-    }
+    };
     timely(
         line,
         count,
@@ -112,46 +101,45 @@ pub fn lines_fault(
     arrival: usize,
     departure: usize,
     sequence: usize,
-) -> Refusal
+) -> Result<(), Refusal>
     requires from_in_bounds { from ≤ length text.now }
     requires arrival_lt_count { (arrival < count) × (departure < count) × (sequence < count) × (count < 18446744073709551615) }
     ensures { told result ≡ first_bad_line 13 (line_good count arrival departure sequence) first (lines_of (drop from text.now)) }
 {
     let mut at = from;
     let mut line = first;
+    // A while: each turn goes on where the line ends, so there is no range to go over.
     while at < text.len() {
         let stop = lines::line_stop(text, at);
         if !line_good(text, at, stop, count, arrival, departure, sequence) {
-            return words::refused(13, line);
+            return words::refused(Reason::Line, line);
         }
         at = lines::line_next(text, stop);
         line = ids::next_number(line);
     }
-    words::fine()
+    Ok(())
 }
 
 // Refusals 12 and 13 of a text whose line 1 is a line, and whose other lines begin at a place.
-fn fault_below(line: &[u8], text: &[u8], from: usize) -> Refusal
+fn fault_below(line: &[u8], text: &[u8], from: usize) -> Result<(), Refusal>
     requires { from ≤ length text.now }
     ensures { told result ≡ fault_below (row_of line.now) (lines_of (drop from text.now)) }
 {
     if !header::columns_once(line) {
-        return words::refused(12, 1);
+        return words::refused(Reason::Columns, 1);
     }
     let fields = header::count_fields(line);
-    let count = fields.count;
-    let sound = fields.sound;
-    if !sound {
-        return words::refused(13, 1);
+    if !fields.sound {
+        return words::refused(Reason::Line, 1);
     }
     let arrival = header::column_of(line, b"arrival_time");
     let departure = header::column_of(line, b"departure_time");
     let sequence = header::column_of(line, b"stop_sequence");
-    lines_fault(text, from, 2, count, arrival, departure, sequence)
+    lines_fault(text, from, 2, fields.count, arrival, departure, sequence)
 }
 
 // Refusals 12 and 13 of a text.
-pub fn text_fault(text: &[u8]) -> Refusal
+pub fn text_fault(text: &[u8]) -> Result<(), Refusal>
     ensures { told result ≡ or_else (header_refusal text.now) (lines_refusal text.now) }
 {
     let stop = lines::line_stop(text, 0);

@@ -5,7 +5,6 @@ use mathlib.Core.List.{List}
 use Prim.Native.Nat.{ℕ, zero, suc, ◌+◌, ◌-◌, ◌*◌, ◌/◌, ◌<◌, ◌≤◌}
 use native.Mathlib.Omega.{arith}
 use native.Mathlib.Nat.{mul-le-mul, div-le_self, le_trans}
-use lib.ListN.{length}
 use Rattle.journeys.specs.Bytes.{be32}
 use Rattle.journeys.proofs.Tests.{le-or-lt, last-or-below}
 use Rattle.records.specs.Columns.{records_in}
@@ -58,7 +57,7 @@ falls-first {F} {n} {list} s i x e l a h = go (le-or-lt (same F (F x) x) 0)
         let two : be32 list (4 * (i - 1)) < be32 list (4 * i) = subst (λ (j : ℕ). be32 list (4 * j) < be32 list (4 * i)) one (subst (λ (j : ℕ). be32 list (4 * (below F (F x) n + (same F (F x) x - 1))) < be32 list (4 * j)) here rises) in
         absurd (omega (arith, two, h))
 
--- a turn of the search: x is the number in the middle
+-- which side of the numbers of v a place is on: x is the number there
 module _ {F : ℕ → ℕ} {n : ℕ} {list : List ℕ} (s : Right F n list) (m x : ℕ) (l : m < n) (e : x ≡ be32 list (4 * m)) where
   pub here-low : x < n
   here-low = omega (arith, e, (at_place s m l).0)
@@ -71,23 +70,6 @@ module _ {F : ℕ → ℕ} {n : ℕ} {list : List ℕ} (s : Right F n list) (m x
 
   pub turn-high : (v : ℕ) → v ≤ F x → below F v n ≤ m
   turn-high v h = omega (arith, here, stands-behind F n v x h)
-
--- a turn of the search for the first hop: whatever divides the numbers lies on the side that the number in the middle tells
-module _ {list : List ℕ} {ways first end lo hi : ℕ} (low : first ≤ lo) (high : hi ≤ end) (held : (k : ℕ) → Parted list ways first end k → (lo ≤ k) × (k ≤ hi))
-    (m x : ℕ) (from : lo ≤ m) (to : m < hi) (e : x ≡ be32 list (4 * m)) where
-  pub part_low : x < ways → (k : ℕ) → Parted list ways first end k → (m + 1 ≤ k) × (k ≤ hi)
-  part_low h k p = (go (le-or-lt k m), (held k p).1)
-    where
-      go : (k ≤ m) ⊎ (m < k) → m + 1 ≤ k
-      go (inr q) = omega arith
-      go (inl q) = absurd (omega (arith, p.hops m q (omega arith), e))
-
-  pub part-high : ways ≤ x → (k : ℕ) → Parted list ways first end k → (lo ≤ k) × (k ≤ m)
-  part-high h k p = ((held k p).0, go (le-or-lt k m))
-    where
-      go : (k ≤ m) ⊎ (m < k) → k ≤ m
-      go (inl q) = q
-      go (inr q) = absurd (omega (arith, p.walks m (omega arith) q, e))
 
 -- the share of the list that stands before a vertex, in tables of any size
 pub share-fits : {v n many : ℕ} → v < many → many ≤ 65536 → n ≤ 524288 → v * n ≤ 34359738368

@@ -1,17 +1,16 @@
 -- The list that is not refused is the right one, and the numbers of a stretch: the records that leave its vertex, rising, walks before hops. Assumes nothing.
-use mathlib.Core.Path.{◌≡◌, refl, sym, ap, ◌∙◌}
+use mathlib.Core.Path.{◌≡◌, sym, ap, ◌∙◌}
 use mathlib.Core.Logic.{◌⊎◌, inl, inr}
 use mathlib.Core.List.{List}
-use Prim.Native.Nat.{ℕ, ◌+◌, ◌*◌, ◌/◌, ◌<◌, ◌≤◌}
+use Prim.Native.Nat.{ℕ, ◌+◌, ◌*◌, ◌<◌, ◌≤◌}
 use native.Mathlib.Omega.{arith}
 use lib.Dec.{eqb}
-use lib.ListN.{length, get_or}
+use lib.ListN.{get_or}
 use borrow.Author.Tests.{eqb-true}
 use Rattle.journeys.specs.Counting.{none}
 use Rattle.journeys.specs.Bytes.{be32}
 use Rattle.journeys.specs.Tables.{tables_of}
 use Rattle.journeys.specs.Records.{record_count}
-use Rattle.journeys.specs.Refusals.{fine, first_bad}
 use Rattle.journeys.specs.CourierList.{leaving, by_from, list_refusal}
 use Rattle.journeys.proofs.Refusals.{bad-fine}
 use Rattle.journeys.proofs.Tests.{le-or-lt}

@@ -1,17 +1,19 @@
 // Where the records of a vertex stand in the right list of records by "from".
 // Promises: the first place, and how many records leave the vertex; or how many walks, which stand first. A guess of the first place is tested by one record; else it is told from a vertex near by where tables are even, for which one record is read, and else sought by halves, for which at most 20 are; the first hop is sought by the list alone.
-// Rests on: where records leave (`listing`) and how many (`starts`), the size of a walk (`records`), numbers in bytes (`words`).
+// Rests on: where records leave (`listing`) and how many (`starts`), the size of a walk (`records`), numbers in bytes (`words`), the search by halves of `halving`.
 #![tactic(auto)]
 
 ghost use Rattle.std.specs.Prelude.{◌≡◌, true, ℕ, ◌*◌, ◌/◌, ◌<◌, ◌≤◌, length};
+ghost use Rattle.journeys.specs.Bytes.{be32};
 ghost use Rattle.listing.specs.Places.{total, from_of, below, Sound};
 ghost use Rattle.starts.specs.Sums.{sums};
 ghost use Rattle.stretches.specs.Stretch.{Right, Falls, Parted, stretch_of, walks_of};
 
+use halving::end_of;
 use listing::from_of;
 use records::WALK_SIZE;
 use starts::{between, departing_of};
-use words::{lesser, word_at};
+use words::word_at;
 
 // Where the numbers of a vertex begin in the list, and how many there are.
 #[derive(Clone, Copy)]
@@ -28,24 +30,23 @@ const LOOK: usize = 32;
 // How many counts are added up, less than.
 const REACH: u32 = 256;
 
+// The vertex that the record at a place of the list leaves.
+fn left_at(walks: &[u8], hops: &[u8], hop_size: usize, list: &[u8], place: usize) -> u32
+    requires le_hop_size { (4 ≤ hop_size) × (total hop_size walks.now hops.now ≤ 524288) × (length list.now ≡ 4 * total hop_size walks.now hops.now) }
+    requires right { Right (from_of hop_size walks.now hops.now) (total hop_size walks.now hops.now) list.now }
+    requires in_list { place < total hop_size walks.now hops.now }
+    ensures { result ≡ from_of hop_size walks.now hops.now (be32 list.now (4 * place)) }
+{
+    from_of(walks, hops, hop_size, word_at(list, 4 * place) as usize)
+}
+
 // How many of n numbers stand before those of vertex v: those that leave a vertex before it.
 fn before(walks: &[u8], hops: &[u8], hop_size: usize, list: &[u8], v: u32, n: usize) -> usize
     requires le_hop_size { (4 ≤ hop_size) × (total hop_size walks.now hops.now ≤ 524288) × (length list.now ≡ 4 * total hop_size walks.now hops.now) × (n ≡ total hop_size walks.now hops.now) }
     requires right { Right (from_of hop_size walks.now hops.now) (total hop_size walks.now hops.now) list.now }
     ensures { result ≡ below (from_of hop_size walks.now hops.now) v (total hop_size walks.now hops.now) }
 {
-    let mut lo = 0;
-    let mut hi = n;
-    while lo < hi {
-        let m = lo + (hi - lo) / 2;
-        let x = word_at(list, 4 * m) as usize;
-        if from_of(walks, hops, hop_size, x) < v {
-            lo = m + 1;
-        } else {
-            hi = m;
-        }
-    }
-    lo
+    end_of(0, n, |m| left_at(walks, hops, hop_size, list, m) < v)
 }
 
 // The first place behind `at` whose number is less than the one before it; the end of the list where none of 31 is so. The numbers of a vertex rise, so those of a vertex begin there.
@@ -54,13 +55,11 @@ fn fall(list: &[u8], at: usize) -> usize
     ensures { Falls list.now result }
 {
     let n = list.len() / 4;
-    let end = lesser(at + LOOK, n);
-    let mut i = at + 1;
-    while i < end {
+    let end = (at + LOOK).min(n);
+    for i in at + 1..end {
         if word_at(list, 4 * i) < word_at(list, 4 * (i - 1)) {
             return i;
         }
-        i += 1;
     }
     n
 }
@@ -147,17 +146,7 @@ fn first_hop(list: &[u8], ways: usize, first: usize, end: usize) -> usize
     requires { (first ≤ end) × (end ≤ length list.now / 4) × (end ≤ 524288) }
     ensures { (m : ℕ) → Parted list.now ways first end m → result ≡ m }
 {
-    let mut lo = first;
-    let mut hi = end;
-    while lo < hi {
-        let m = lo + (hi - lo) / 2;
-        if (word_at(list, 4 * m) as usize) < ways {
-            lo = m + 1;
-        } else {
-            hi = m;
-        }
-    }
-    lo
+    end_of(first, end, |m| (word_at(list, 4 * m) as usize) < ways)
 }
 
 // Over tables that the check has passed and the right list of them. The guess is where the numbers of v may begin, and may be any number. Where its walks end is not sought: a number tells by itself whether it is a walk's.
@@ -176,10 +165,7 @@ pub fn find(
 {
     let first = place_of(vertices, walks, hops, hop_size, list, v, guess);
     let many = departing_of(vertices, v as usize) as usize;
-    Stretch {
-        first: first,
-        many: many,
-    }
+    Stretch { first, many }
 }
 
 // The same for the walks of v alone, which stand before its hops.
@@ -199,8 +185,5 @@ pub fn walks_of(
     let end = first + departing_of(vertices, v as usize) as usize;
     let middle = first_hop(list, walks.len() / WALK_SIZE, first, end);
     let many = middle - first;
-    Stretch {
-        first: first,
-        many: many,
-    }
+    Stretch { first, many }
 }

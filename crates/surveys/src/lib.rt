@@ -3,7 +3,7 @@
 // Rests on: the counters of `blocks`, the row of `directed`, one look at an entry by `worktable`.
 #![tactic(auto)]
 
-ghost use Rattle.std.specs.Prelude.{◌≡◌, ◌≢◌, ◌⊎◌, not, cond, ◌&&◌, ℕ, ◌+◌, ◌-◌, ◌/◌, ◌%◌, ◌<◌, ◌≤◌, max, eqb, ltb, length, get_or, replicate};
+ghost use Rattle.std.specs.Prelude.{◌≡◌, ◌≢◌, ◌⊎◌, not, cond, ◌&&◌, ℕ, ◌+◌, ◌-◌, ◌/◌, ◌%◌, ◌<◌, ◌≤◌, eqb, ltb, length, get_or, replicate};
 ghost use Rattle.journeys.specs.Counting.{one};
 ghost use Rattle.worktable.specs.Map.{absent, touched, remaining_of, distance_limit, Figure, put};
 ghost use Rattle.worktable.specs.Table.{map_of, InOrder};
@@ -24,16 +24,7 @@ fn changed(before: bool, after: bool, tally: usize) -> usize
     requires { (0 < tally) × (tally < 9223372036854775808) }
     ensures { result ≡ (tally + one after) - one before }
 {
-    if before {
-        if after {
-            return tally;
-        }
-        return tally - 1;
-    }
-    if after {
-        return tally + 1;
-    }
-    tally
+    tally + usize::from(after) - usize::from(before)
 }
 
 // A record of the new vertex u is noted: it may come to stay with it, or turn out to be hopeless.
@@ -99,12 +90,10 @@ fn survey(
 {
     let n = row.arriving.walks + row.arriving.hops;
     let mut tally = n;
-    let mut j = 0;
-    while j < n {
+    for j in 0..n {
         let u = near_at(walks, hops, list, row, j);
         let offer = offer_in(walks, hops, list, row, j, u, block);
         tally = survey_one(held, t, vertices, row, u, offer, block, tally, counters);
-        j += 1;
     }
     clear(counters);
     tally
@@ -117,10 +106,7 @@ fn nearer(next: usize, block: usize, first: usize) -> usize
     if block < first {
         return next;
     }
-    if block < next {
-        return block;
-    }
-    next
+    next.min(block)
 }
 
 // The lowest block from first on, and below end, that has a record in the row; or end. Blocks without one are left alone.
@@ -137,22 +123,11 @@ pub fn next_block(
 {
     let n = row.arriving.walks + row.arriving.hops;
     let mut next = end;
-    let mut j = 0;
-    while j < n {
+    for j in 0..n {
         let u = near_at(walks, hops, list, row, j);
         next = nearer(next, u / 2048, first);
-        j += 1;
     }
     next
-}
-
-fn greater(x: usize, y: usize) -> usize
-    ensures { result ≡ max x y }
-{
-    if x < y {
-        return y;
-    }
-    x
 }
 
 // The block to begin with: the one behind the highest tally so far.
@@ -184,11 +159,12 @@ pub fn survey_all(
     let mut best = 65536;
     let mut start = 0;
     let mut block = next_block(walks, hops, list, row, 0, 32);
+    // A while: it goes on to the next block that has a record, and leaves out the others.
     while block < 32 {
         let tally = survey(held, t, vertices, walks, hops, list, row, block, counters);
         total = total + tally - n;
         start = better(best, total, start, block + 1);
-        best = greater(best, total);
+        best = best.max(total);
         block = next_block(walks, hops, list, row, block + 1, 32);
     }
     start

@@ -6,72 +6,47 @@
 ghost use Rattle.std.specs.Prelude.{◌≡◌, ◌+◌, ◌*◌, ◌<◌, ◌≤◌, length};
 ghost use Rattle.table_bytes.specs.Columns.{dec, enc, col, cols, at, put, set_w, set_t, set_h, set_n};
 
-fn wide(x: u8) -> u64
-    ensures { (result ≡ x) × (result < 256) }
-{
-    x as u64
-}
-
-// A flat sum over the part: it becomes one load.
+// It becomes one load, and a write one store.
 pub fn read8(p: &[u8]) -> u64
     requires { length p.now ≡ 8 }
     ensures { result ≡ dec 8 p.now 0 }
 {
-    wide(p[0])
-        + 256 * wide(p[1])
-        + 65536 * wide(p[2])
-        + 16777216 * wide(p[3])
-        + 4294967296 * wide(p[4])
-        + 1099511627776 * wide(p[5])
-        + 281474976710656 * wide(p[6])
-        + 72057594037927936 * wide(p[7])
+    u64::from_le_bytes([p[0], p[1], p[2], p[3], p[4], p[5], p[6], p[7]])
 }
 
 pub fn read4(p: &[u8]) -> u32
     requires { length p.now ≡ 4 }
     ensures { result ≡ dec 4 p.now 0 }
 {
-    (wide(p[0]) + 256 * wide(p[1]) + 65536 * wide(p[2]) + 16777216 * wide(p[3])) as u32
+    u32::from_le_bytes([p[0], p[1], p[2], p[3]])
 }
 
 fn read2(p: &[u8]) -> usize
     requires { length p.now ≡ 2 }
     ensures { result ≡ dec 2 p.now 0 }
 {
-    (wide(p[0]) + 256 * wide(p[1])) as usize
+    u16::from_le_bytes([p[0], p[1]]) as usize
 }
 
-// Byte by byte, one a line: they become one store.
-pub fn write8(p: &mut [u8], x: u64)
+pub fn write8(p: &mut [u8], w: u64)
     requires { length p.old ≡ 8 }
-    ensures { p.new ≡ enc 8 x }
+    ensures { p.new ≡ enc 8 w }
 {
-    p[0] = (x % 256) as u8;
-    p[1] = (x / 256 % 256) as u8;
-    p[2] = (x / 256 / 256 % 256) as u8;
-    p[3] = (x / 256 / 256 / 256 % 256) as u8;
-    p[4] = (x / 256 / 256 / 256 / 256 % 256) as u8;
-    p[5] = (x / 256 / 256 / 256 / 256 / 256 % 256) as u8;
-    p[6] = (x / 256 / 256 / 256 / 256 / 256 / 256 % 256) as u8;
-    p[7] = (x / 256 / 256 / 256 / 256 / 256 / 256 / 256 % 256) as u8;
+    p.copy_from_slice(&w.to_le_bytes());
 }
 
 pub fn write4(p: &mut [u8], x: u32)
     requires { length p.old ≡ 4 }
     ensures { p.new ≡ enc 4 x }
 {
-    p[0] = (x % 256) as u8;
-    p[1] = (x / 256 % 256) as u8;
-    p[2] = (x / 256 / 256 % 256) as u8;
-    p[3] = (x / 256 / 256 / 256 % 256) as u8;
+    p.copy_from_slice(&x.to_le_bytes());
 }
 
 fn write2(p: &mut [u8], x: usize)
     requires { length p.old ≡ 2 }
     ensures { p.new ≡ enc 2 x }
 {
-    p[0] = (x % 256) as u8;
-    p[1] = (x / 256 % 256) as u8;
+    p.copy_from_slice(&((x % 65536) as u16).to_le_bytes());
 }
 
 pub fn word(b: &[u8], r: usize, i: usize) -> u64

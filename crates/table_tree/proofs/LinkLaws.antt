@@ -9,6 +9,7 @@ use lib.ListN.{length, set, length-set}
 use lib.Seq.{get_or-set_same, get_or-set_other}
 use Rattle.table_bytes.specs.Columns.{Cols, at, set_h, set_n, Sized}
 use Rattle.table_tree.specs.Words.{vacant, vertex_in, bucket_of}
+use Rattle.std.specs.Prelude.{Some, None}
 use Rattle.table_tree.specs.Chains.{Mem, Step, Chained, First, Before, Linked}
 use Rattle.table_tree.proofs.ChainLaws.{Adds, Takes, add-first, add-behind, take-first, take_behind}
 use Rattle.table_tree.proofs.SearchLaws.{bucket-le}
@@ -75,25 +76,22 @@ module _ {r cap m : ℕ} {c : Cols} (sz : Sized r c) (fit : cap ≤ r) (ch : Cha
         ns (inl a) = inl (a.0, get_or-set_same c.n s n 0 (omega (arith, sz.n)) ∙ a.1)
         ns (inr a) = inr (a.0, get_or-set_same c.n s n 0 (omega (arith, sz.n)) ∙ a.1)
 
-    pub link-alone : {h : ℕ} {d : Cols} → First cap m c.w k h → h ≡ cap → d ≡ set_h (set_n c s s) k s → Linked cap m s w c d
-    link-alone (inl f) eh e = absurd (omega (arith, f.0.0))
-    link-alone (inr f) eh e = link-front s e (λ t mt. absurd (f.1 t mt)) (inr (f.1, refl))
+    pub link-alone : {d : Cols} → First cap m c.w k None → d ≡ set_h (set_n c s s) k s → Linked cap m s w c d
+    link-alone f e = link-front s e (λ t mt. absurd (f t mt)) (inr (f, refl))
 
     -- the first of the bucket is its head
     head-is : {h : ℕ} → Mem cap m c.w k h → ((t : ℕ) → Mem cap m c.w k t → t ≤ h) → h ≡ at c.h k
     head-is {h} mh f = let g = ch.chain.first k h mh in omega (arith, f (at c.h k) g.0, g.1)
 
-    pub link-first : {h : ℕ} {d : Cols} → First cap m c.w k h → h < s → d ≡ set_h (set_n c s h) k s → Linked cap m s w c d
-    link-first {h = h} (inl f) lt e = link-front h e (λ t mt. omega (arith, f.1 t mt)) (inl ((ch.chain.first k h f.0).0, head-is f.0 f.1))
-    link-first (inr f) lt e = absurd (omega (arith, f.0))
+    pub link-first : {h : ℕ} {d : Cols} → First cap m c.w k (Some h) → h < s → d ≡ set_h (set_n c s h) k s → Linked cap m s w c d
+    link-first {h = h} f lt e = link-front h e (λ t mt. omega (arith, f.1 t mt)) (inl ((ch.chain.first k h f.0).0, head-is f.0 f.1))
 
-    pub link-above : {h : ℕ} → First cap m c.w k h → h ≢ cap → s ≤ h → Mem cap m c.w k h × (s < h)
-    link-above {h = h} (inl f) ne le = (f.0, go (ℕ_discrete h s))
+    pub link-above : {h : ℕ} → First cap m c.w k (Some h) → s ≤ h → Mem cap m c.w k h × (s < h)
+    link-above {h = h} f le = (f.0, go (ℕ_discrete h s))
       where
         go : Dec (h ≡ s) → s < h
         go (yes e) = absurd (f.0.1 (ap (at c.w) e ∙ es))
         go (no z) = omega arith
-    link-above (inr f) ne le = absurd (ne f.0)
 
     pub link-behind : {p x n : ℕ} {c₁ d : Cols} → Before cap m c.w c.n k s p → x ≡ at c.n p → n ≡ min x s → c₁ ≡ set_n c s n → d ≡ set_n c₁ p s → Linked cap m s w c d
     link-behind {p} {x} {n} bf ex en e₁ e₂ = rw (e₂, e₁) (record {

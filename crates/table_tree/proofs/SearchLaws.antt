@@ -8,6 +8,7 @@ use native.Mathlib.Decide.{dec_lt, ℕ_discrete}
 use lib.Bits.{and_le_r}
 use Rattle.table_bytes.specs.Columns.{at}
 use Rattle.table_tree.specs.Words.{vacant, vertex_in, bucket_of}
+use Rattle.std.specs.Prelude.{Some, None}
 use Rattle.table_tree.specs.Chains.{Mem, Chained, Missing, Slot, First, Before}
 
 pub bucket-le : (m u : ℕ) → bucket_of m u ≤ m
@@ -30,20 +31,18 @@ module _ {cap m : ℕ} {W H N : List ℕ} (ch : Chained cap m W H N) where
   missing : {u k : ℕ} → k ≡ bucket_of m u → ((t : ℕ) → Mem cap m W k t → vertex_in (at W t) ≢ u) → Missing cap W u
   missing ek f t l n e = f t (l, n, ap (bucket_of m) e ∙ sym ek) e
 
-  pub find-miss : {u k s : ℕ} → k ≡ bucket_of m u → First cap m W k s → s ≡ cap → Slot cap W u cap
-  find-miss ek (inl f) e = absurd (omega (arith, f.0.0))
-  find-miss {u = u} ek (inr f) e = inr (refl, missing {u = u} ek (λ t mt z. f.1 t mt))
+  pub find-miss : {u k : ℕ} → k ≡ bucket_of m u → First cap m W k None → Slot cap W u cap
+  find-miss {u = u} ek f = inr (refl, missing {u = u} ek (λ t mt z. f t mt))
 
-  pub find-start : {u k s : ℕ} → k ≡ bucket_of m u → First cap m W k s → s ≢ cap → Seeking cap m W u k s
-  find-start ek (inl f) ne = record { bucket = ek; mem = f.0; past = λ t mt l. absurd (omega (arith, f.1 t mt)) }
-  find-start ek (inr f) ne = absurd (ne f.0)
+  pub find-start : {u k s : ℕ} → k ≡ bucket_of m u → First cap m W k (Some s) → Seeking cap m W u k s
+  find-start ek f = record { bucket = ek; mem = f.0; past = λ t mt l. absurd (omega (arith, f.1 t mt)) }
 
   -- a head that is no slot has an empty bucket
-  pub first-beyond : {k s : ℕ} → s ≡ at H k → cap ≤ s → First cap m W k cap
-  first-beyond {k = k} es h = inr (refl, λ t mt. absurd (omega (arith, (ch.chain.first k t mt).0.0, es)))
+  pub first-beyond : {k s : ℕ} → s ≡ at H k → cap ≤ s → First cap m W k None
+  first-beyond {k = k} es h = λ t mt. absurd (omega (arith, (ch.chain.first k t mt).0.0, es))
 
-  pub first-none : {k s w : ℕ} → s ≡ at H k → w ≡ at W s → (w ≡ vacant) ⊎ (bucket_of m (vertex_in w) ≢ k) → First cap m W k cap
-  first-none {k} {s} {w} es ew o = inr (refl, λ t mt. go o (ch.chain.first k t mt).0)
+  pub first-none : {k s w : ℕ} → s ≡ at H k → w ≡ at W s → (w ≡ vacant) ⊎ (bucket_of m (vertex_in w) ≢ k) → First cap m W k None
+  first-none {k} {s} {w} es ew o = λ t mt. go o (ch.chain.first k t mt).0
     where
       q : w ≡ at W (at H k)
       q = ew ∙ ap (at W) es
@@ -52,8 +51,8 @@ module _ {cap m : ℕ} {W H N : List ℕ} (ch : Chained cap m W H N) where
       go (inl z) mh = mh.1 (sym q ∙ z)
       go (inr z) mh = z (ap (λ (x : ℕ). bucket_of m (vertex_in x)) q ∙ mh.2)
 
-  pub first_some : {k s w : ℕ} → s < cap → s ≡ at H k → w ≡ at W s → w ≢ vacant → bucket_of m (vertex_in w) ≡ k → First cap m W k s
-  first_some {k} {s} {w} l es ew n o = inl (
+  pub first_some : {k s w : ℕ} → s < cap → s ≡ at H k → w ≡ at W s → w ≢ vacant → bucket_of m (vertex_in w) ≡ k → First cap m W k (Some s)
+  first_some {k} {s} {w} l es ew n o = (
     (l, (λ z. n (ew ∙ z)), ap (λ (x : ℕ). bucket_of m (vertex_in x)) (sym ew) ∙ o),
     λ t mt. rw es (ch.chain.first k t mt).1,
   )

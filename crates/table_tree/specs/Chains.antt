@@ -1,5 +1,5 @@
 -- Bucket chains: the used slots of a bucket in descending order, each naming the next lower one and the last one itself.
-use Rattle.std.specs.Prelude.{◌≡◌, ◌≢◌, ◌⊎◌, List, ℕ, ◌<◌, ◌≤◌, length, set}
+use Rattle.std.specs.Prelude.{Option, MatchOption, ◌≡◌, ◌≢◌, ◌⊎◌, List, ℕ, ◌<◌, ◌≤◌, length, set}
 use Rattle.table_bytes.specs.Columns.{Cols, at}
 use Rattle.table_tree.specs.Words.{vacant, vertex_in, bucket_of}
 
@@ -36,9 +36,9 @@ Missing cap W u = (t : ℕ) → t < cap → at W t ≢ vacant → vertex_in (at 
 abbrev pub Slot : ℕ → List ℕ → ℕ → ℕ → Type 0
 Slot cap W u x = At cap W u x ⊎ ((x ≡ cap) × Missing cap W u)
 
--- the first slot of the bucket k, or cap
-abbrev pub First : ℕ → ℕ → List ℕ → ℕ → ℕ → Type 0
-First cap m W k x = (Mem cap m W k x × ((t : ℕ) → Mem cap m W k t → t ≤ x)) ⊎ ((x ≡ cap) × ((t : ℕ) → Mem cap m W k t → ⊥))
+-- the first slot of the bucket k, if it has one
+abbrev pub First : ℕ → ℕ → List ℕ → ℕ → Option ℕ → Type 0
+First cap m W k r = MatchOption r ((t : ℕ) → Mem cap m W k t → ⊥) (λ x. Mem cap m W k x × ((t : ℕ) → Mem cap m W k t → t ≤ x))
 
 -- p is the last slot above s in the bucket k
 pub record Before (cap m : ℕ) (W N : List ℕ) (k s p : ℕ) : Type 0 where

@@ -3,7 +3,7 @@
 // Rests on: the columns of `table_bytes`.
 #![tactic(auto)]
 
-ghost use Rattle.std.specs.Prelude.{◌≡◌, ◌≢◌, ◌⊎◌, ◌+◌, ◌*◌, ◌<◌, ◌≤◌, min, length};
+ghost use Rattle.std.specs.Prelude.{◌≡◌, ◌≢◌, ◌⊎◌, ◌+◌, ◌*◌, ◌<◌, ◌≤◌, length};
 ghost use Rattle.table_bytes.specs.Columns.{cols, at, set_h, set_n};
 ghost use Rattle.table_tree.specs.Words.{vacant, vertex_in, key, bucket_of, Slotted};
 ghost use Rattle.table_tree.specs.Tree.{Win, Wins, Changed, Kept, Spared, Leaves};
@@ -34,6 +34,7 @@ pub fn change_word(b: &mut [u8], r: usize, cap: usize, i: usize, x: u64)
     let mut p = cap + i;
     let mut winner = i;
     let mut least = x;
+    // A while: it goes up the tree.
     while 1 < p {
         let s = tree(b, r, p ^ 1);
         let w = word(b, r, s);
@@ -53,6 +54,7 @@ pub fn lower_word(b: &mut [u8], r: usize, cap: usize, i: usize, x: u64)
 {
     set_word(b, r, i, x);
     let mut p = (cap + i) / 2;
+    // A while: it goes up the tree.
     while 0 < p {
         let s = tree(b, r, p);
         if s == i {
@@ -67,23 +69,23 @@ pub fn lower_word(b: &mut [u8], r: usize, cap: usize, i: usize, x: u64)
     }
 }
 
-// The first slot of bucket k, or cap where the bucket is empty. A head is neither prepared nor reset, so it is tested.
-fn first(b: &[u8], r: usize, cap: usize, mask: usize, k: usize) -> usize
+// The first slot of bucket k, if it has one. A head is neither prepared nor reset, so it is tested.
+fn first(b: &[u8], r: usize, cap: usize, mask: usize, k: usize) -> Option<usize>
     requires { Slotted r cap b.now × Chained cap mask (cols r b.now).w (cols r b.now).h (cols r b.now).n × (k ≤ mask) }
     ensures { First cap mask (cols r b.now).w k result }
 {
     let s = head(b, r, k);
     if cap <= s {
-        return cap;
+        return None;
     }
     let w = word(b, r, s);
     if w == VACANT {
-        return cap;
+        return None;
     }
     if bucket(mask, vertex_in(w)) != k {
-        return cap;
+        return None;
     }
-    s
+    Some(s)
 }
 
 // The slot of vertex u, or cap where there is none.
@@ -92,10 +94,10 @@ pub fn find(b: &[u8], r: usize, cap: usize, mask: usize, u: usize) -> usize
     ensures { Slot cap (cols r b.now).w u result }
 {
     let k = bucket(mask, u);
-    let mut s = first(b, r, cap, mask, k);
-    if s == cap {
+    let Some(mut s) = first(b, r, cap, mask, k) else {
         return cap;
-    }
+    };
+    // A while: it goes along the chain.
     while vertex_in(word(b, r, s)) != u {
         let x = next(b, r, s);
         if x == s {
@@ -113,6 +115,7 @@ fn before(b: &[u8], r: usize, cap: usize, mask: usize, k: usize, h: usize, s: us
 {
     let mut p = h;
     let mut x = next(b, r, p);
+    // A while: it goes along the chain.
     while s < x {
         if x == p {
             return p;
@@ -132,30 +135,23 @@ fn push(b: &mut [u8], r: usize, k: usize, s: usize, n: usize)
     set_head(b, r, k, s);
 }
 
-pub fn lesser(x: usize, y: usize) -> usize
-    ensures { result ≡ min x y }
-{
-    if x < y { x } else { y }
-}
-
 // The chains for the word w in the vacant slot s, which is written afterwards.
 pub fn link(b: &mut [u8], r: usize, cap: usize, mask: usize, s: usize, w: u64)
     requires { Slotted r cap b.old × Chained cap mask (cols r b.old).w (cols r b.old).h (cols r b.old).n × (s < cap) × (at (cols r b.old).w s ≡ vacant) × (w ≢ vacant) }
     ensures { Linked cap mask s w (cols r b.old) (cols r b.new) }
 {
     let k = bucket(mask, vertex_in(w));
-    let h = first(b, r, cap, mask, k);
-    if h == cap {
+    let Some(h) = first(b, r, cap, mask, k) else {
         push(b, r, k, s, s);
         return;
-    }
+    };
     if h < s {
         push(b, r, k, s, h);
         return;
     }
     let p = before(b, r, cap, mask, k, h, s);
     let x = next(b, r, p);
-    set_next(b, r, s, lesser(x, s));
+    set_next(b, r, s, x.min(s));
     set_next(b, r, p, s);
 }
 
@@ -187,11 +183,9 @@ pub fn spare(b: &mut [u8], r: usize, from: usize, cap: usize)
     requires { Slotted r cap b.old × (from ≤ cap) }
     ensures { Spared from cap (cols r b.old) (cols r b.new) }
 {
-    let mut i = from;
-    while i < cap {
+    for i in from..cap {
         set_word(b, r, i, VACANT);
         set_next(b, r, i, (i + 1) % 65536);
-        i += 1;
     }
 }
 
@@ -200,10 +194,8 @@ pub fn plant(b: &mut [u8], r: usize, cap: usize)
     requires { Slotted r cap b.old }
     ensures { Kept (cols r b.old) (cols r b.new) × Leaves cap cap (cols r b.new).t }
 {
-    let mut i = 0;
-    while i < cap {
+    for i in 0..cap {
         set_tree(b, r, cap + i, i);
-        i += 1;
     }
 }
 
@@ -220,9 +212,7 @@ pub fn build(b: &mut [u8], r: usize, cap: usize)
     requires { Slotted r cap b.old × Leaves cap cap (cols r b.old).t }
     ensures { Kept (cols r b.old) (cols r b.new) × Win cap (cols r b.new).w (cols r b.new).t }
 {
-    let mut p = cap;
-    while 1 < p {
-        p -= 1;
+    for p in (1..cap).rev() {
         let x = tree(b, r, 2 * p);
         let y = tree(b, r, 2 * p + 1);
         let z = winner(b, r, x, y);
@@ -235,9 +225,5 @@ pub fn mask_of(cap: usize) -> usize
     requires { (0 < cap) × (cap ≤ 65536) }
     ensures { result < cap }
 {
-    let mut m: usize = 0;
-    while m * 2 + 1 < cap {
-        m = m * 2 + 1;
-    }
-    m
+    (1 << cap.ilog2()) - 1
 }

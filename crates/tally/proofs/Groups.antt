@@ -3,7 +3,7 @@ use mathlib.Core.Path.{◌≡◌, refl, sym, ap, ◌∙◌, subst}
 use mathlib.Core.Logic.{◌≢◌, ⊎_elim}
 use mathlib.Core.Bool.{Bool, true, false, not}
 use mathlib.Core.List.{List}
-use Prim.Native.Nat.{ℕ, suc, ◌+◌, ◌-◌, ◌*◌, ◌/◌, ◌%◌, ◌≤◌, ◌<◌, ◌^◌}
+use Prim.Native.Nat.{ℕ, zero, suc, ◌+◌, ◌-◌, ◌*◌, ◌/◌, ◌%◌, ◌≤◌, ◌<◌, ◌^◌}
 use native.Mathlib.Nat.{zero-div, zero-mod}
 use native.Mathlib.Decide.{ℕ_discrete}
 use native.Mathlib.Omega.{arith}
@@ -225,6 +225,13 @@ unfolding count
 filled_more s i h e =
     let n : i + 1 ≡ suc i = omega arith in
     rw n (omega (arith, is_zero (ap not (eq-eqb (get_or s i 0) 0 e))))
+
+pub filled-none : (n : ℕ) (s : List ℕ) → ((i : ℕ) → i < n → get_or s i 0 ≡ 0) → filled s n ≡ 0
+unfolding count
+filled-none zero s f = refl
+filled-none (suc n) s f =
+    let e : n + 1 ≡ suc n = omega arith in
+    rw e at (filled_more s n (filled-none n s (λ i l. f i (omega arith))) (f n (omega arith)))
 
 pub filled-some : (s : List ℕ) (n i : ℕ) → i < n → get_or s i 0 ≢ 0 → eqb (filled s n) 0 ≡ false
 filled-some s n i l h = ne_eqb (filled s n) 0 (λ e. omega (arith, some-count (λ j. not (eqb (get_or s j 0) 0)) n i l (ap not (ne_eqb (get_or s i 0) 0 h))))

@@ -21,22 +21,14 @@ fn power(r: usize) -> u32
     1 << (4 * r)
 }
 
-fn higher(a: u16, b: u16) -> u16
-    ensures { result ≡ max a b }
-{
-    if a < b { b } else { a }
-}
-
 // The greatest of the 64 claims.
 fn greatest(scratch: &[u16]) -> u16
     requires { length scratch.now ≡ 2048 }
     ensures { result ≡ spec.greatest (listed scratch.now) 64 }
 {
-    let mut most = 0;
-    let mut i = 0;
-    while i < 64 {
-        most = higher(most, scratch[LIST + i]);
-        i += 1;
+    let mut most: u16 = 0;
+    for i in 0..64 {
+        most = most.max(scratch[LIST + i]);
     }
     most
 }
@@ -98,10 +90,8 @@ fn pack(scratch: &mut [u16], at: usize, size: usize)
     ensures by_index_2 { (w : ℕ) → w < 16 * size → get_or scratch.new (at + w) 0 ≡ packed (listed scratch.old) size w }
     ensures same { Same 0 at scratch.old scratch.new × Same 1856 2048 scratch.old scratch.new }
 {
-    let mut w = 0;
-    while w < 16 * size {
+    for w in 0..16 * size {
         scratch[at + w] = word(scratch, size, w);
-        w += 1;
     }
 }
 
@@ -148,13 +138,11 @@ pub fn drain(scratch: &mut [u16], count: usize) -> bool
     ensures drained { Drained count result scratch.old scratch.new }
     ensures same { Same 1856 2048 scratch.old scratch.new }
 {
-    let mut i = 0;
-    while i < count {
+    for i in 0..count {
         let k = scratch[LIST + i] as usize;
         if !take(scratch, k) {
             return false;
         }
-        i += 1;
     }
     true
 }
@@ -164,12 +152,5 @@ pub fn empty(scratch: &[u16], words: usize) -> bool
     requires { (words ≤ 1856) × (length scratch.now ≡ 2048) }
     ensures { (result ≡ true → Met words scratch.now) × (result ≡ eqb (filled scratch.now words) 0) }
 {
-    let mut i = 0;
-    while i < words {
-        if scratch[i] != 0 {
-            return false;
-        }
-        i += 1;
-    }
-    true
+    scratch[..words].iter().all(|x| *x == 0)
 }

@@ -1,22 +1,19 @@
 -- The contracts settle the answer and every lent byte. Assumes nothing.
-use mathlib.Core.Path.{◌≡◌, sym, ap₂, ◌∙◌}
+use mathlib.Core.Path.{◌≡◌, sym, ◌∙◌}
 use mathlib.Core.List.{List}
 use Prim.Native.Nat.{ℕ}
 use native.Mathlib.Decide.{ℕ_discrete}
 use lib.ListN.{length}
-use Rattle.journeys.specs.Refusals.{Refusal}
 use Rattle.feed.specs.Answers.{Feed}
-use Rattle.departures.specs.Answered.{told}
-use Rattle.departures.specs.declared.Answer.{Answer}
+use Rattle.std.specs.Prelude.{Result}
+use Rattle.words.specs.declared.Refusal.{Refusal}
+use Rattle.departures.proofs.Determined as departures
 use Rattle.timetable.specs.Lent.{Answers, Called}
 use Rattle.timetable.proofs.read.Reads as read
 use Rattle.timetable.proofs.call.Reads as call
 
-one_told : (x y : Answer) → told x ≡ told y → x.hops ≡ y.hops → x ≡ y
-one_told x y p q = ap₂ (λ (r : Refusal) (n : ℕ). record { number = r.number; place = r.place; hops = n }) p q
-
-one_answer : {F : Feed} {x y : Answer} {b c : List ℕ} → Answers F x b → Answers F y c → (x ≡ y) × (b ≡ c)
-one_answer {x = x} {y = y} p q = (one_told x y (p.refusal ∙ sym q.refusal) (p.hops ∙ sym q.hops), p.target ∙ sym q.target)
+one_answer : {F : Feed} {x y : Result ℕ Refusal} {b c : List ℕ} → Answers F x b → Answers F y c → (x ≡ y) × (b ≡ c)
+one_answer {x = x} {y = y} p q = (departures.one_answer x y (p.refusal ∙ sym q.refusal) (p.hops ∙ sym q.hops), p.target ∙ sym q.target)
 
 pub one-read : (κs : _) (a : _) (z z' : _) (e e' : _) → read.Post κs a z e → read.Post κs a z' e' → (z ≡ z') × (e.1.1.1.0.now ≡ e'.1.1.1.0.now)
 one-read κs a z z' e e' p q = one_answer p q

@@ -29,8 +29,10 @@ use Rattle.stoplist.specs.Made.{entry_good}
 use Rattle.headings.specs.Opened.{Opened}
 use Rattle.headings.proofs.OpenedLaws.{first-row}
 use Rattle.timetable_laws.proofs.Demands.{count_most}
-use Rattle.departures.specs.Answered.{told}
-use Rattle.departures.specs.declared.Answer.{Answer}
+use Rattle.std.specs.Prelude.{Result}
+use Rattle.words.specs.declared.Refusal.{Refusal as Reasoned}
+use Rattle.words.specs.Told.{told}
+use Rattle.departures.specs.Answered.{hops_told}
 use Rattle.timetable.specs.Lent.{Answers, answer_bytes}
 
 or_assoc : (a b c : Refusal) → or_else (or_else a b) c ≡ or_else a (or_else b c)
@@ -133,7 +135,7 @@ fitted text stops trips from C o w e =
 -- ---- the answer of the definitions
 module _ (F : Feed) where
   -- 1 changes nothing
-  pub target-refused : (a : Answer) → table_of 20 0 262144 F.target ≡ false → told a ≡ record { number = 1; place = 2 } → a.hops ≡ 0 → Answers F a F.target
+  pub target-refused : (a : Result ℕ Reasoned) → table_of 20 0 262144 F.target ≡ false → told a ≡ record { number = 1; place = 2 } → hops_told a ≡ 0 → Answers F a F.target
   unfolding feed_refusal hop_count target_after
   target-refused a t e h =
       let bad = unless-bad (table_of 20 0 262144 F.target) 1 2 t in
@@ -141,7 +143,7 @@ module _ (F : Feed) where
       record { refusal = e ∙ sym r; hops = h ∙ sym (ap (λ (x : Refusal). cond (eqb x.number 0) (length (feed_hops F)) 0) r); target = sym (ap (λ (x : Refusal). cond (eqb x.number 1) F.target (cond (eqb x.number 0) (filled F.target (flat_map (λ h. h) (feed_hops F))) (cleared F.target))) r) }
 
   -- every other refusal leaves the target zero
-  other-refused : (a : Answer) (target : List ℕ) (r : Refusal) → feed_refusal F ≡ r → r.number ≢ 0 → NotOne r.number → told a ≡ r → a.hops ≡ 0 → target ≡ cleared F.target → Answers F a target
+  other-refused : (a : Result ℕ Reasoned) (target : List ℕ) (r : Refusal) → feed_refusal F ≡ r → r.number ≢ 0 → NotOne r.number → told a ≡ r → hops_told a ≡ 0 → target ≡ cleared F.target → Answers F a target
   unfolding hop_count target_after
   other-refused a target r f n o e h z =
       record {
@@ -158,7 +160,7 @@ module _ (F : Feed) where
     whole = ap (λ (x : Refusal). x.number) (unless-good (table_of 20 0 262144 F.target) 1 2 t)
 
     -- 29, 12 and 13
-    pub text-refused : (a : Answer) (target : List ℕ) → early.number ≢ 0 → told a ≡ early → a.hops ≡ 0 → target ≡ cleared F.target → Answers F a target
+    pub text-refused : (a : Result ℕ Reasoned) (target : List ℕ) → early.number ≢ 0 → told a ≡ early → hops_told a ≡ 0 → target ≡ cleared F.target → Answers F a target
     unfolding feed_refusal text_refusal
     text-refused a target n e h z = other-refused a target early first n (text-not-one F.stop_times F.stops F.trips) e h z
       where
@@ -179,7 +181,7 @@ module _ (F : Feed) where
       number-0 e = ap (λ (x : Refusal). x.number) e
 
       -- 14
-      pub id-refused : (a : Answer) (target : List ℕ) → (known_refusal F.stop_times F.stops F.trips).number ≢ 0 → told a ≡ known_refusal F.stop_times F.stops F.trips → a.hops ≡ 0 → target ≡ cleared F.target → Answers F a target
+      pub id-refused : (a : Result ℕ Reasoned) (target : List ℕ) → (known_refusal F.stop_times F.stops F.trips).number ≢ 0 → told a ≡ known_refusal F.stop_times F.stops F.trips → hops_told a ≡ 0 → target ≡ cleared F.target → Answers F a target
       unfolding feed_refusal
       id-refused a target n e h z = other-refused a target (known_refusal F.stop_times F.stops F.trips) first n (known-not-one F.stop_times F.stops F.trips) e h z
         where
@@ -196,10 +198,10 @@ module _ (F : Feed) where
       passed k = record { target = whole; stops = number-0 v.stops-fine; trips = number-0 v.trips-fine; header = v.header-fine; lines = number-0 v.lines-fine; known = k }
 
 -- ---- the answer in 12 bytes
-module _ {F : Feed} {a : Answer} {after : List ℕ} (x : Answers F a after) where
-  pub hops_few : a.hops ≤ 262144
+module _ {F : Feed} {a : Result ℕ Reasoned} {after : List ℕ} (x : Answers F a after) where
+  pub hops_few : hops_told a ≤ 262144
   hops_few = let n = count_most F in omega (arith, x.hops, n)
 
-  pub answer-bytes : word a.number ++ word a.place ++ word a.hops ≡ answer_bytes F
+  pub answer-bytes : word (told a).number ++ word (told a).place ++ word (hops_told a) ≡ answer_bytes F
   unfolding answer_bytes
   answer-bytes = ap₂ (λ (r : Refusal) (n : ℕ). word r.number ++ word r.place ++ word n) x.refusal x.hops

@@ -1,17 +1,18 @@
 -- The texts and the target of a call, as one feed; and what the answer is to be. Assumes nothing.
-use Rattle.std.specs.Prelude.{◌≡◌, ◌≢◌, List, ◌++◌, ℕ, length}
+use Rattle.std.specs.Prelude.{◌≡◌, ◌≢◌, Result, List, ◌++◌, ℕ, length}
 use Rattle.journeys.specs.Bytes.{word}
 use Rattle.feed.specs.Answers.{Feed, feed_refusal, hop_count, target_after}
-use Rattle.departures.specs.Answered.{told}
-use Rattle.departures.specs.declared.Answer.{Answer}
+use Rattle.words.specs.declared.Refusal.{Refusal}
+use Rattle.words.specs.Told.{told}
+use Rattle.departures.specs.Answered.{hops_told}
 
 abbrev pub feed_of : List ℕ → List ℕ → List ℕ → List ℕ → Feed
 feed_of text stops trips target = record { stop_times = text; stops = stops; trips = trips; target = target }
 
 -- an answer, and the target after it, are those of a feed
-pub record Answers (F : Feed) (a : Answer) (after : List ℕ) : Type 0 where
+pub record Answers (F : Feed) (a : Result ℕ Refusal) (after : List ℕ) : Type 0 where
   pub refusal : told a ≡ feed_refusal F
-  pub hops : a.hops ≡ hop_count F
+  pub hops : hops_told a ≡ hop_count F
   pub target : after ≡ target_after F
 
 -- the 12 bytes of an answer

@@ -8,14 +8,15 @@ ghost use Rattle.journeys.specs.Refusals.{table_of};
 ghost use Rattle.feed.specs.Fields.{row_of};
 ghost use Rattle.feed.specs.Answers.{Passed};
 ghost use Rattle.lines.specs.Ends.{width, end_width};
-ghost use Rattle.known.specs.Counted.{Slots, Listed};
 ghost use Rattle.headings.specs.Opened.{Opened};
 ghost use Rattle.recorded.specs.Asked.{Read, Short};
 ghost use Rattle.vetting.specs.Vetted.{text_refusal, opens};
 ghost use Rattle.timetable.specs.Lent.{feed_of, Answers, Called};
 
-use departures::{Answer, refuse};
+use departures::refuse;
+use idtable::Ids;
 use stoplist::Columns;
+use words::{Reason, Refusal};
 
 // The sorted stops come window by window: in one where the target holds a record of each line.
 fn windowed(
@@ -23,23 +24,14 @@ fn windowed(
     text: &[u8],
     from: usize,
     c: Columns,
-    bs: &[u8],
-    ns: usize,
-    ms: usize,
-    stops: &[u8],
-    bt: &[u8],
-    nt: usize,
-    mt: usize,
-    trips: &[u8],
-) -> Answer
+    stops: &Ids,
+    trips: &Ids,
+) -> Result<usize, Refusal>
     requires read { Read (feed_of text.now stops.now trips.now target.old) c from × Short (feed_of text.now stops.now trips.now target.old) }
-    requires slots { Slots ns bs.now × Listed stops.now ns ms bs.now × Slots nt bt.now × Listed trips.now nt mt bt.now }
     ensures { Answers (feed_of text.now stops.now trips.now target.old) result target.new }
 {
     let mut spare = [0u8; 20480];
-    windows::all_hops(
-        target, &mut spare, 1024, text, from, c, bs, ns, ms, stops, bt, nt, mt, trips,
-    )
+    windows::all_hops(target, &mut spare, 1024, text, from, c, stops, trips)
 }
 
 // What 14 lets pass. Records serve where 32 bits hold the number of each line and the place of its trip. Without them each stop is read again from its line.
@@ -48,75 +40,42 @@ fn passed(
     text: &[u8],
     from: usize,
     c: Columns,
-    bs: &[u8],
-    ns: usize,
-    ms: usize,
-    stops: &[u8],
-    bt: &[u8],
-    nt: usize,
-    mt: usize,
-    trips: &[u8],
-) -> Answer
+    stops: &Ids,
+    trips: &Ids,
+) -> Result<usize, Refusal>
     requires target_value { (table_of 20 0 262144 target.old ≡ true) × Passed (feed_of text.now stops.now trips.now target.old) × Opened text.now from c }
-    requires slots { Slots ns bs.now × Listed stops.now ns ms bs.now × Slots nt bt.now × Listed trips.now nt mt bt.now }
     ensures { Answers (feed_of text.now stops.now trips.now target.old) result target.new }
 {
-    let short = (text.len() < 4294967294) & (trips.len() < 4294967296);
+    let short = (text.len() < 4294967294) & (trips.list.len() < 4294967296);
     if short {
-        return windowed(target, text, from, c, bs, ns, ms, stops, bt, nt, mt, trips);
+        return windowed(target, text, from, c, stops, trips);
     }
-    unaided::all_hops(target, text, from, c, bs, ns, ms, stops, bt, nt, mt, trips)
+    unaided::all_hops(target, text, from, c, stops, trips)
 }
 
 // A text and lists that 29, 12 and 13 let pass, with the tables of both lists.
-fn judged(
-    target: &mut [u8],
-    text: &[u8],
-    bs: &[u8],
-    ns: usize,
-    ms: usize,
-    stops: &[u8],
-    bt: &[u8],
-    nt: usize,
-    mt: usize,
-    trips: &[u8],
-) -> Answer
+fn judged(target: &mut [u8], text: &[u8], stops: &Ids, trips: &Ids) -> Result<usize, Refusal>
     requires target_value { (table_of 20 0 262144 target.old ≡ true) × ((text_refusal text.now stops.now trips.now).number ≡ 0) }
-    requires slots { Slots ns bs.now × Listed stops.now ns ms bs.now × Slots nt bt.now × Listed trips.now nt mt bt.now }
     ensures { Answers (feed_of text.now stops.now trips.now target.old) result target.new }
 {
     let stop = lines::line_stop(text, 0);
     let from = lines::line_next(text, stop);
     let c = headings::columns_of(&text[..stop]);
-    let r = vetting::unknown(text, from, c, bs, ns, ms, stops, bt, nt, mt, trips);
-    if r.number != 0 {
-        return refuse(target, r.number, r.place);
+    if let Err(refusal) = vetting::unknown(text, from, c, stops, trips) {
+        return refuse(target, refusal.reason, refusal.place);
     }
-    passed(target, text, from, c, bs, ns, ms, stops, bt, nt, mt, trips)
+    passed(target, text, from, c, stops, trips)
 }
 
 // The first refusal in the order of the definitions, each by a pass of its own.
-fn exactly(
-    target: &mut [u8],
-    text: &[u8],
-    bs: &[u8],
-    ns: usize,
-    ms: usize,
-    stops: &[u8],
-    bt: &[u8],
-    nt: usize,
-    mt: usize,
-    trips: &[u8],
-) -> Answer
+fn exactly(target: &mut [u8], text: &[u8], stops: &Ids, trips: &Ids) -> Result<usize, Refusal>
     requires target_value { table_of 20 0 262144 target.old ≡ true }
-    requires slots { Slots ns bs.now × Listed stops.now ns ms bs.now × Slots nt bt.now × Listed trips.now nt mt bt.now }
     ensures { Answers (feed_of text.now stops.now trips.now target.old) result target.new }
 {
-    let r = vetting::text_fault(text, stops, trips);
-    if r.number != 0 {
-        return refuse(target, r.number, r.place);
+    if let Err(refusal) = vetting::text_fault(text, stops.list, trips.list) {
+        return refuse(target, refusal.reason, refusal.place);
     }
-    judged(target, text, bs, ns, ms, stops, bt, nt, mt, trips)
+    judged(target, text, stops, trips)
 }
 
 // A text whose lists and line 1 are not refused: one pass over its lines tells for nearly every timetable that 13 and 14 let them all pass.
@@ -125,75 +84,63 @@ fn quickly(
     text: &[u8],
     stop: usize,
     from: usize,
-    bs: &[u8],
-    ns: usize,
-    ms: usize,
-    stops: &[u8],
-    bt: &[u8],
-    nt: usize,
-    mt: usize,
-    trips: &[u8],
-) -> Answer
+    stops: &Ids,
+    trips: &Ids,
+) -> Result<usize, Refusal>
     requires target_value { (table_of 20 0 262144 target.old ≡ true) × (stop ≡ 0 + width (drop 0 text.now)) × (from ≡ stop + end_width (drop stop text.now)) × (opens (row_of (take stop text.now)) stops.now trips.now ≡ true) }
-    requires slots { Slots ns bs.now × Listed stops.now ns ms bs.now × Slots nt bt.now × Listed trips.now nt mt bt.now }
     ensures { Answers (feed_of text.now stops.now trips.now target.old) result target.new }
 {
     let c = headings::columns_of(&text[..stop]);
-    if vetting::all_fit(text, from, c, bs, ns, ms, stops, bt, nt, mt, trips) {
-        return passed(target, text, from, c, bs, ns, ms, stops, bt, nt, mt, trips);
+    if vetting::all_fit(text, from, c, stops, trips) {
+        return passed(target, text, from, c, stops, trips);
     }
-    exactly(target, text, bs, ns, ms, stops, bt, nt, mt, trips)
+    exactly(target, text, stops, trips)
 }
 
 // A text and its lists, with the tables of both lists.
-fn opened(
-    target: &mut [u8],
-    text: &[u8],
-    bs: &[u8],
-    ns: usize,
-    ms: usize,
-    stops: &[u8],
-    bt: &[u8],
-    nt: usize,
-    mt: usize,
-    trips: &[u8],
-) -> Answer
+fn opened(target: &mut [u8], text: &[u8], stops: &Ids, trips: &Ids) -> Result<usize, Refusal>
     requires target_value { table_of 20 0 262144 target.old ≡ true }
-    requires slots { Slots ns bs.now × Listed stops.now ns ms bs.now × Slots nt bt.now × Listed trips.now nt mt bt.now }
     ensures { Answers (feed_of text.now stops.now trips.now target.old) result target.new }
 {
     let stop = lines::line_stop(text, 0);
     let from = lines::line_next(text, stop);
-    if vetting::opening(&text[..stop], stops, trips) {
-        return quickly(
-            target, text, stop, from, bs, ns, ms, stops, bt, nt, mt, trips,
-        );
+    if vetting::opening(&text[..stop], stops.list, trips.list) {
+        return quickly(target, text, stop, from, stops, trips);
     }
-    exactly(target, text, bs, ns, ms, stops, bt, nt, mt, trips)
+    exactly(target, text, stops, trips)
 }
 
 // The same with room for the tables.
-fn named(target: &mut [u8], text: &[u8], stops: &[u8], trips: &[u8]) -> Answer
+fn named(target: &mut [u8], text: &[u8], stops: &[u8], trips: &[u8]) -> Result<usize, Refusal>
     requires { table_of 20 0 262144 target.old ≡ true }
     ensures { Answers (feed_of text.now stops.now trips.now target.old) result target.new }
 {
-    let mut bs = [0u8; 32768];
-    let mut bt = [0u8; 77824];
-    let ms = idtable::build(&mut bs, 8192, stops);
-    let mt = idtable::build(&mut bt, 19456, trips);
-    opened(target, text, &bs, 8192, ms, stops, &bt, 19456, mt, trips)
+    let mut of_stops = [0u32; 8192];
+    let mut of_trips = [0u32; 19456];
+    let held_stops = idtable::build(&mut of_stops, stops);
+    let held_trips = idtable::build(&mut of_trips, trips);
+    let by_stop = Ids {
+        list: stops,
+        table: &of_stops,
+        held: held_stops,
+    };
+    let by_trip = Ids {
+        list: trips,
+        table: &of_trips,
+        held: held_trips,
+    };
+    opened(target, text, &by_stop, &by_trip)
 }
 
 // The hops of a timetable, or the first refusal in the order of the definitions.
-pub fn read(text: &[u8], stops: &[u8], trips: &[u8], target: &mut [u8]) -> Answer
+pub fn read(text: &[u8], stops: &[u8], trips: &[u8], target: &mut [u8]) -> Result<usize, Refusal>
     ensures { Answers (feed_of text.now stops.now trips.now target.old) result target.new }
 {
     if !audit::table_ok(target, 20, 0, 262144) {
-        return Answer {
-            number: 1,
+        return Err(Refusal {
+            reason: Reason::Length,
             place: 2,
-            hops: 0,
-        };
+        });
     }
     named(target, text, stops, trips)
 }
@@ -205,7 +152,9 @@ pub fn call(text: &[u8], stops: &[u8], trips: &[u8], target: &mut [u8], out: &mu
     if out.len() != 12 {
         return 1;
     }
-    let a = read(text, stops, trips, target);
-    calls::put_three(out, a.number, a.place, a.hops as u32);
+    match read(text, stops, trips, target) {
+        Ok(hops) => calls::put_three(out, 0, 0, hops as u32),
+        Err(refusal) => calls::put_three(out, u32::from(refusal.reason), refusal.place, 0),
+    }
     0
 }

@@ -1,5 +1,5 @@
 -- The contracts settle what is returned. Assumes nothing.
-use mathlib.Core.Path.{◌≡◌, sym, ap, ◌∙◌}
+use mathlib.Core.Path.{◌≡◌, sym, ◌∙◌}
 use Rattle.trips.proofs.trip_at.Reads as trip-at
 use Rattle.trips.proofs.standing_at.Reads as standing-at
 

@@ -1,26 +1,23 @@
 -- A time by its parts. Assumes nothing.
 use Prim.Native.Nat.{ℕ, ◌+◌, ◌-◌, ◌*◌, ◌≤◌}
 use native.Mathlib.Omega.{arith}
-use mathlib.Core.Path.{◌≡◌, refl, sym, ap, ◌∙◌}
-use mathlib.Core.Logic.{⊎_elim, inl, inr}
-use mathlib.Core.Bool.{Bool, true, false, not, cond, ◌&&◌, ◌||◌}
+use mathlib.Core.Path.{◌≡◌, refl, ◌∙◌}
+use mathlib.Core.Logic.{⊎_elim}
+use mathlib.Core.Bool.{Bool, true, false, not, ◌&&◌, ◌||◌}
 use mathlib.Core.List.{List}
 use lib.Dec.{eqb, leb}
 use lib.ListN.{length, get_or, take, drop}
 use borrow.Author.Tests.{eq-eqb, ne_eqb, leb-true, eqb-false, not-true, not-false}
-use Rattle.journeys.proofs.Tests.{split, never, and_both, and_left, and_right, or-none, or_cases}
+use Rattle.journeys.proofs.Tests.{split, and_both, and_left, and_right, or-none, or_cases}
 use Rattle.feed.specs.Values.{digits, value_of, number, time, seconds_of}
-use Rattle.values.specs.declared.Number.{Number}
-use Rattle.values.specs.declared.Number.TheVariants.{Value, Bad}
-use Rattle.values.specs.declared.Time.{Time}
-use Rattle.values.specs.declared.Time.TheVariants.{Seconds, Bad as None}
+use Rattle.std.specs.Prelude.{Some, None}
 use Rattle.values.specs.Readings.{number_read, time_read}
 
 value-least : (most : ℕ) (f : List ℕ) → number most f ≡ true → value_of f ≤ most
 unfolding number
 value-least most f e = leb-true (value_of f) most (and_both (digits f) (leb (value_of f) most) e).1
 
-pub read-value : (most v : ℕ) (f : List ℕ) → number_read most f ≡ Value v → (number most f ≡ true) × (value_of f ≡ v) × (v ≤ most)
+pub read-value : (most v : ℕ) (f : List ℕ) → number_read most f ≡ Some v → (number most f ≡ true) × (value_of f ≡ v) × (v ≤ most)
 unfolding number_read
 read-value most v f e =
     ⊎_elim
@@ -28,7 +25,7 @@ read-value most v f e =
     (λ (t : number most f ≡ false). absurd (let z : ◌≡◌ {A = ℕ} 0 1 = cc in omega arith))
     (split (number most f))
 
-pub read-bad : (most : ℕ) (f : List ℕ) → number_read most f ≡ Bad → number most f ≡ false
+pub read-bad : (most : ℕ) (f : List ℕ) → number_read most f ≡ None → number most f ≡ false
 unfolding number_read
 read-bad most f e =
     ⊎_elim (λ (t : number most f ≡ true). absurd (let z : ◌≡◌ {A = ℕ} 0 1 = cc in omega arith)) (λ (t : number most f ≡ false). t) (split (number most f))
@@ -101,8 +98,8 @@ module _ (f : List ℕ) (h : ℕ) (long : length f ≡ h + 6) (low : 1 ≤ h) (h
   bad-seconds e = time-bad f (parts ∙ fifth-fails hours_good colon minutes_good colon' seconds_good e)
 
   pub good-time : (hours minutes seconds : ℕ) → (not colon || not colon') ≡ false
-      → number_read 47 (take h f) ≡ Value hours → number_read 59 (take 2 (drop (h + 1) f)) ≡ Value minutes → number_read 59 (take 2 (drop (h + 4) f)) ≡ Value seconds
-      → time_read f ≡ Seconds (3600 * hours + 60 * minutes + seconds)
+      → number_read 47 (take h f) ≡ Some hours → number_read 59 (take 2 (drop (h + 1) f)) ≡ Some minutes → number_read 59 (take 2 (drop (h + 4) f)) ≡ Some seconds
+      → time_read f ≡ Some (3600 * hours + 60 * minutes + seconds)
   unfolding time_read seconds_of
   good-time hours minutes seconds colons a b c =
       let x : (hours_good ≡ true) × (value_of (take h f) ≡ hours) × (hours ≤ 47) = read-value 47 hours (take h f) a in

@@ -4,61 +4,32 @@
 #![tactic(auto)]
 
 ghost use Rattle.std.specs.Prelude.{◌≡◌, length, ◌+◌, ◌*◌, ◌-◌, ◌≤◌};
-ghost use Rattle.feed.specs.Values.{digit};
 ghost use Rattle.values.specs.Readings.{number_read, time_read};
 
 // A number up to a greatest.
-#[derive(Clone, Copy)]
-pub enum Number {
-    Value(u32),
-    Bad,
-}
-
-// A time of the service day, in seconds.
-#[derive(Clone, Copy)]
-pub enum Time {
-    Seconds(u32),
-    Bad,
-}
-
-fn wide(x: u8) -> u64
-    ensures { result ≡ x }
-{
-    x as u64
-}
-
-fn is_digit(b: u8) -> bool
-    ensures { result ≡ digit b }
-{
-    (48 <= b) & (b <= 57)
-}
-
-pub fn read_number(field: &[u8], most: u32) -> Number
+pub fn read_number(field: &[u8], most: u32) -> Option<u32>
     ensures { result ≡ number_read most field.now }
 {
     if field.len() == 0 {
-        return Number::Bad;
+        return None;
     }
     let greatest = most as u64;
     let mut value: u64 = 0;
-    let mut i = 0;
-    while i < field.len() {
-        let b = field[i];
-        if !is_digit(b) {
-            return Number::Bad;
+    for b in field {
+        if !b.is_ascii_digit() {
+            return None;
         }
-        let longer = 10 * value + (wide(b) - 48);
+        let longer = 10 * value + (u64::from(*b) - 48);
         if greatest < longer {
-            return Number::Bad;
+            return None;
         }
         value = longer;
-        i += 1;
     }
-    Number::Value(value as u32)
+    Some(value as u32)
 }
 
 // A time whose hours have so many digits.
-fn time_parts(field: &[u8], h: usize) -> Time
+fn time_parts(field: &[u8], h: usize) -> Option<u32>
     requires { (length field.now ≡ h + 6) × (1 ≤ h) × (h ≤ 2) }
     ensures { result ≡ time_read field.now }
 {
@@ -67,25 +38,16 @@ fn time_parts(field: &[u8], h: usize) -> Time
     let s = h + 4;
     let end = h + 6;
     if (field[h] != 58) | (field[colon] != 58) {
-        return Time::Bad;
+        return None;
     }
-    let first = read_number(&field[..h], 47);
-    let Number::Value(hours) = first else {
-        return Time::Bad;
-    };
-    let second = read_number(&field[m..colon], 59);
-    let Number::Value(minutes) = second else {
-        return Time::Bad;
-    };
-    let third = read_number(&field[s..end], 59);
-    let Number::Value(seconds) = third else {
-        return Time::Bad;
-    };
-    Time::Seconds(3600 * hours + 60 * minutes + seconds)
+    let hours = read_number(&field[..h], 47)?;
+    let minutes = read_number(&field[m..colon], 59)?;
+    let seconds = read_number(&field[s..end], 59)?;
+    Some(3600 * hours + 60 * minutes + seconds)
 }
 
-// H:MM:SS or HH:MM:SS, to 47:59:59.
-pub fn read_time(field: &[u8]) -> Time
+// A time of the service day in seconds: H:MM:SS or HH:MM:SS, to 47:59:59.
+pub fn read_time(field: &[u8]) -> Option<u32>
     ensures { result ≡ time_read field.now }
 {
     let n = field.len();
@@ -95,5 +57,5 @@ pub fn read_time(field: &[u8]) -> Time
     if n == 8 {
         return time_parts(field, 2);
     }
-    Time::Bad
+    None
 }

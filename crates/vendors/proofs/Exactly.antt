@@ -1,26 +1,26 @@
 -- What is not refused by 25 to 28 is the right list, in words, and the other way round. Assumes nothing.
-use mathlib.Core.Path.{◌≡◌, refl, sym, ap, subst, ◌∙◌}
-use mathlib.Core.Logic.{◌⊎◌, inl, inr, ⊎_elim, ◌↔◌, ◌≢◌}
+use mathlib.Core.Path.{◌≡◌, refl, sym, ap, ◌∙◌}
+use mathlib.Core.Logic.{inl, inr, ⊎_elim, ◌↔◌, ◌≢◌}
 use mathlib.Core.Bool.{Bool, true, false, not, cond, ◌&&◌, ◌||◌}
 use mathlib.Core.List.{List}
 use Prim.Native.Nat.{ℕ, ◌≤◌, ◌<◌}
 use native.Mathlib.Omega.{arith}
 use native.Mathlib.Decide.{ℕ_discrete}
 use lib.Dec.{eqb, leb, ltb}
-use borrow.Author.Tests.{eqb-true, eqb-false, ltb-true, ltb-false, leb-true, eq-eqb, le-leb, lt-ltb, not-true}
+use borrow.Author.Tests.{eqb-true, ltb-true, ltb-false, leb-true, eq-eqb, le-leb, lt-ltb, not-true}
 use Rattle.journeys.specs.Counting.{none, In}
 use Rattle.journeys.specs.Tables.{Tables}
 use Rattle.journeys.specs.Query.{Query, asked, allowed}
 use Rattle.journeys.specs.Order.{Settled, settled}
-use Rattle.journeys.specs.Network.{Network, distance_in, within, into}
+use Rattle.journeys.specs.Network.{Network, within, into}
 use Rattle.journeys.specs.Records.{seed, network}
-use Rattle.journeys.specs.Refusals.{Refusal, fine, unless, or_else, first_bad}
+use Rattle.journeys.specs.Refusals.{Refusal, fine, unless, first_bad}
 use Rattle.journeys.specs.Valid.{Valid}
 use Rattle.journeys.specs.Lists.{vertex_in, distance_at}
 use Rattle.journeys.specs.VendorLists.{size, record_in, entry_in, listed, far_before, far_listed, no_better, backs, Reason, Fair, Right, is_new, in_time, backed, seed_fair, record_fair, from_place, to_place, bought_refusal, vendor_refusal}
-use Rattle.journeys.proofs.Tests.{split, never, and_both, or_cases, or_left, or_right, cond-true, cond-false, le-or-lt}
+use Rattle.journeys.proofs.Tests.{split, never, and_both, or_cases, or_left, or_right, cond-true, cond-false}
 use Rattle.journeys.proofs.Refusals.{or-fine, or-next, unless-fine, unless-good, bad-fine, bad-none}
-use Rattle.journeys.proofs.Known.{is_within, within-is, not_within, into-is}
+use Rattle.journeys.proofs.Known.{is_within, within-is, into-is}
 use Rattle.journeys.proofs.Firsts.{distance-in}
 use Rattle.journeys.proofs.Document.{allowed-low}
 use Rattle.journeys.proofs.Valid.{GoodWalk, good-walk}

@@ -1,20 +1,13 @@
 -- Refusal 1, place 4, and refusal 25 from the judge of lists. Assumes nothing.
-use mathlib.Core.Path.{◌≡◌, sym, ap, ◌∙◌}
+use mathlib.Core.Path.{◌≡◌, sym, ◌∙◌}
 use mathlib.Core.List.{List}
 use Prim.Native.Nat.{ℕ, ◌%◌}
 use native.Mathlib.Omega.{arith}
 use lib.Dec.{eqb}
 use lib.ListN.{length}
 use borrow.Author.Tests.{eq-eqb, ne_eqb}
-use Rattle.journeys.specs.Counting.{none}
-use Rattle.journeys.specs.Lists.{entry_ok, list_refusal}
-use Rattle.journeys.specs.Refusals.{Refusal, fine, unless, or_else, first_bad, whole_of}
-use Rattle.journeys.specs.VendorLists.{size}
+use Rattle.journeys.specs.Refusals.{Refusal, unless, or_else, whole_of}
 use Rattle.intake.proofs.FirstFault.{failed, passed}
-use Rattle.lists.specs.Lists.{told}
-use Rattle.lists.specs.declared.Judged.{Judged}
-use Rattle.lists.specs.declared.Judged.TheVariants.{Good, Bad}
-use Rattle.lists.proofs.Entries.{other-number}
 
 pub list-cut : (list : List ℕ) → (length list % 12 ≡ 0 → ⊥) → (rest : Refusal) → record { number = 1; place = 4 } ≡ or_else (unless (whole_of 12 list) 1 4) rest
 unfolding whole_of

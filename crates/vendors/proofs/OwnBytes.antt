@@ -1,16 +1,16 @@
 -- A settled list with a record put behind each entry reads back; so our own finished list passes with any records that tell where its distances come from, and
 -- there are such records. Assumes nothing.
-use mathlib.Core.Path.{◌≡◌, refl, sym, ap, ap₂, subst, ◌∙◌}
+use mathlib.Core.Path.{◌≡◌, sym, ap, ap₂, subst, ◌∙◌}
 use mathlib.Core.Logic.{inl, inr, ⊎_elim}
 use mathlib.Core.List.{List, [], ◌∷◌, ◌++◌, append-nil, append_assoc}
-use Prim.Native.Nat.{ℕ, zero, suc, ◌+◌, ◌*◌, ◌/◌, ◌<◌}
+use Prim.Native.Nat.{ℕ, zero, suc, ◌+◌, ◌*◌, ◌<◌}
 use native.Mathlib.Omega.{arith}
 use lib.ListN.{length, get_or, take, length-append}
 use lib.Seq.{take-length, take-suc}
 use Rattle.journeys.specs.Counting.{joined}
 use Rattle.journeys.specs.Bytes.{be32, word}
 use Rattle.journeys.specs.Tables.{Tables}
-use Rattle.journeys.specs.Query.{Query, allowed}
+use Rattle.journeys.specs.Query.{Query}
 use Rattle.journeys.specs.Order.{Settled, settled, IsOrder}
 use Rattle.journeys.specs.Answers.{settled_bytes}
 use Rattle.journeys.specs.Records.{network}

@@ -17,7 +17,7 @@ use parts::Road;
 use passing::Arriving;
 use reasons::Seeds;
 use records::Query;
-use words::{NONE, Refusal, Ticks, refused};
+use words::{NONE, Reason, Refusal, Ticks, refused};
 
 // What it takes from "to" to the query place, where it is a seed.
 fn back_ticks(road: Road) -> Ticks
@@ -53,7 +53,7 @@ fn vendor_fault(
     hop_size: usize,
     list: &[u8],
     q: Query,
-) -> Refusal
+) -> Result<(), Refusal>
     requires { Valid (tables_of hop_size vertices.now walks.now hops.now) (query_of q) × (16 ≤ hop_size) }
     ensures { told result ≡ vendor_refusal (tables_of hop_size vertices.now walks.now hops.now) (query_of q) list.now }
 {
@@ -81,24 +81,15 @@ pub fn judge(
     hop_size: usize,
     list: &[u8],
     q: Query,
-) -> Refusal
+) -> Result<(), Refusal>
     ensures { told result ≡ judge_refusal (judge_lent vertices.now walks.now hops.now hop_size list.now) (query_of q) }
 {
-    let uneven = audit::lengths(vertices, walks, hops, hop_size);
-    if uneven.number != 0 {
-        return uneven;
-    }
+    audit::lengths(vertices, walks, hops, hop_size)?;
     if list.len() % 12 != 0 {
-        return refused(1, 4);
+        return refused(Reason::Length, 4);
     }
     let mut scratch = [0u16; 2048];
-    let bad = audit::contents(vertices, walks, hops, hop_size, &mut scratch);
-    if bad.number != 0 {
-        return bad;
-    }
-    let wrong = intake::query_fault(walks, q);
-    if wrong.number != 0 {
-        return wrong;
-    }
+    audit::contents(vertices, walks, hops, hop_size, &mut scratch)?;
+    intake::query_fault(walks, q)?;
     vendor_fault(vertices, walks, hops, hop_size, list, q)
 }

@@ -1,6 +1,5 @@
 -- Lines that a test lets pass, all of them. Assumes nothing.
 use Prim.Native.Nat.{ℕ, ◌+◌, ◌-◌, ◌≤◌, ◌<◌}
-use native.Mathlib.Omega.{arith}
 use mathlib.Core.Path.{◌≡◌, refl, sym, ap, ◌∙◌}
 use mathlib.Core.Bool.{Bool, true, false, not, ◌&&◌, ◌||◌}
 use mathlib.Core.Logic.{⊎_elim}
@@ -10,7 +9,7 @@ use lib.ListN.{length, take, drop, drop_of_length-le}
 use borrow.Author.Tests.{eqb-true, eq-eqb, ne_eqb}
 use Rattle.journeys.specs.Counting.{none}
 use Rattle.journeys.specs.Refusals.{fine, unless, or_else}
-use Rattle.journeys.proofs.Tests.{split, and_both, and-true, and_left, and_right}
+use Rattle.journeys.proofs.Tests.{split, and_both, and_left, and_right}
 use Rattle.feed.specs.Lines.{empty, lines_of, first_bad_line}
 use Rattle.feed.specs.Fields.{Row, row_of}
 use Rattle.feed.specs.Ids.{ids_refusal}

@@ -8,7 +8,7 @@ use lib.Dec.{eqb}
 use borrow.Author.Tests.{eqb-false}
 use Rattle.journeys.specs.Refusals.{Refusal, fine, unless, or_else}
 use Rattle.journeys.proofs.Tests.{split}
-use Rattle.feed.specs.Lines.{empty, place, first_bad_line}
+use Rattle.feed.specs.Lines.{empty, first_bad_line}
 
 module _ (number : ℕ) (z : eqb number 0 ≡ false) (good : List ℕ → Bool) where
   -- a line is refused by this number or not at all

@@ -1,21 +1,26 @@
 -- What is refused of three texts, test by test. Assumes nothing.
-use mathlib.Core.Path.{◌≡◌, refl, sym, ap, ap₂, subst, ◌∙◌}
-use mathlib.Core.Logic.{◌⊎◌, inl, inr, ⊎_elim, ◌≢◌}
-use mathlib.Core.Bool.{Bool, true, false, ◌&&◌}
-use mathlib.Core.List.{List, [], ◌∷◌}
-use Prim.Native.Nat.{ℕ, ◌≤◌, ◌<◌}
+use mathlib.Core.Path.{◌≡◌, refl, sym, ap, ◌∙◌}
+use mathlib.Core.Logic.{◌≢◌}
+use mathlib.Core.Bool.{true, false, ◌&&◌}
+use mathlib.Core.List.{List}
+use Prim.Native.Nat.{ℕ}
 use native.Mathlib.Omega.{arith}
 use lib.Dec.{eqb}
-use lib.ListN.{length, get_or, drop}
+use borrow.Author.Tests.{eq-eqb, ne_eqb}
+use Rattle.std.specs.Prelude.{⊤, Result, Ok, Err, is_err}
+use Rattle.words.specs.declared.Refusal.{Refusal as Told}
+use Rattle.words.specs.Told.{told}
+use Rattle.words.proofs.Told.{named}
+use lib.ListN.{length, drop}
 use Rattle.journeys.specs.Counting.{none}
 use Rattle.journeys.specs.Refusals.{Refusal, fine, unless, or_else}
-use Rattle.journeys.proofs.Refusals.{or-fine, or-first, or-next, unless-good, unless-fine}
+use Rattle.journeys.proofs.Refusals.{or-fine, or-first, or-next, unless-good}
 use Rattle.journeys.proofs.Tests.{and_both}
 use Rattle.feed.specs.Lines.{lines_of, first_bad_line}
 use Rattle.feed.specs.Fields.{Row, row_of}
 use Rattle.feed.specs.Values.{time_or_blank, number}
-use Rattle.feed.specs.Ids.{list_line, ids_refusal, known}
-use Rattle.feed.specs.Stops.{arrival_name, departure_name, stop_name, sequence_name, trip_name, column, header, columns_once, header_refusal, in_column, stop_line, ids_known, below, lines_refusal, known_refusal}
+use Rattle.feed.specs.Ids.{list_line, ids_refusal}
+use Rattle.feed.specs.Stops.{arrival_name, departure_name, stop_name, sequence_name, trip_name, column, header, header_refusal, in_column, stop_line, ids_known, below, lines_refusal, known_refusal}
 use Rattle.known.specs.Counted.{counted, id_known}
 use Rattle.lowest.specs.Lower.{lower_of}
 use Rattle.lowest.proofs.BothTests.{both-tests}
@@ -26,6 +31,15 @@ use Rattle.stoplist.specs.Made.{entry_good}
 use Rattle.vetting.specs.Vetted.{text_refusal, all_fit}
 use Rattle.vetting.proofs.LineLaws.{line-fine, weaker}
 use Rattle.vetting.proofs.FitLaws.{all-fine, is-timely, both-known}
+
+-- what the code tells of a refusal, and its number
+pub err-number : (r : Result ⊤ Told) {x : Refusal} → told r ≡ x → is_err r ≡ true → eqb x.number 0 ≡ false
+err-number (Ok u) e h = absurd (let z : ◌≡◌ {A = ℕ} 0 1 = cc in omega arith)
+err-number (Err f) e h = ne_eqb _ 0 (λ z. named f.reason (ap (λ (y : Refusal). y.number) e ∙ z))
+
+pub ok-number : (r : Result ⊤ Told) {x : Refusal} → told r ≡ x → is_err r ≡ false → eqb x.number 0 ≡ true
+ok-number (Ok u) e h = eq-eqb _ 0 (ap (λ (y : Refusal). y.number) (sym e))
+ok-number (Err f) e h = absurd (let z : ◌≡◌ {A = ℕ} 0 1 = cc in omega arith)
 
 pub ids-fine : (most : ℕ) (list : List ℕ) → (ids_refusal most list).number ≡ 0 → ids_refusal most list ≡ fine
 unfolding ids_refusal

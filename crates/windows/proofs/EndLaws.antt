@@ -26,8 +26,10 @@ use Rattle.stoplist.specs.declared.Columns.{Columns}
 use Rattle.hoporder.specs.Hops.{Placed, hop_out}
 use Rattle.hoporder.proofs.HopFields.{placed-sorted}
 use Rattle.hopbytes.specs.Listing.{trip_at, OnTrips}
-use Rattle.departures.specs.declared.Answer.{Answer}
-use Rattle.departures.specs.Answered.{told, trips_refusal, trips_hops, trips_bytes}
+use Rattle.std.specs.Prelude.{Result}
+use Rattle.words.specs.declared.Refusal.{Refusal as Reasoned}
+use Rattle.words.specs.Told.{told}
+use Rattle.departures.specs.Answered.{hops_told, trips_refusal, trips_hops, trips_bytes}
 use Rattle.departures.specs.Entries.{stops_at, Listed, EntriesOf}
 use Rattle.departures.proofs.SliceLaws.{recs-take, filled-same, cleared-same}
 use Rattle.departures.proofs.JudgeLaws.{fifteen-told, all_once, all-once', sixteen-told, nothing-told, hops-count, hops-flat, on-trips, refusal-told, accepted-hops, accepted-bytes}
@@ -37,8 +39,9 @@ use Rattle.carry.specs.declared.Carry.{Carry}
 use Rattle.carry.specs.Carried.{start, all_followed, all_hops, late_end}
 use Rattle.carry.proofs.Runs.{fifteen-all, hops-all}
 use Rattle.carry.proofs.Times.{sixteen-all}
-use Rattle.sieve.specs.declared.Bound.{Bound}
-use Rattle.sieve.specs.Kept.{bound, top, kept}
+use Rattle.std.specs.Prelude.{Option, Some, None}
+use Rattle.carry.specs.declared.Item.{Item}
+use Rattle.sieve.specs.Kept.{bound, kept}
 use Rattle.sieve.proofs.KeptLaws.{kept-all}
 use Rattle.recorded.specs.Asked.{Read, Short, stops_read, records_read}
 use Rattle.recorded.proofs.Whole.{inside, lines-good, stops-fine, trips-fine, records-entries, records-listed, records-placed, records-distinct}
@@ -47,12 +50,12 @@ use Rattle.windows.specs.Gone.{Ready, Held, all, more, Gone, Ended, repeats, lat
 use Rattle.windows.proofs.RoomLaws.{room-refusal, room-count, room-target}
 
 -- ---- the end, by what a call tells
-module _ {trips b d : List ℕ} {room k : ℕ} {c : Carry} {r : Answer} {x : ℕ} (q : x ≡ late_end c) (f : c.fifteen ≡ none) where
-  pub ended-late : (x ≡ none → ⊥) → told r ≡ record { number = 16; place = x } → r.hops ≡ 0 → d ≡ cleared b → Ended trips b room k c r d
+module _ {trips b d : List ℕ} {room k : ℕ} {c : Carry} {r : Result ℕ Reasoned} {x : ℕ} (q : x ≡ late_end c) (f : c.fifteen ≡ none) where
+  pub ended-late : (x ≡ none → ⊥) → told r ≡ record { number = 16; place = x } → hops_told r ≡ 0 → d ≡ cleared b → Ended trips b room k c r d
   ended-late n t h e = late f (λ z. n (q ∙ z)) (t ∙ ap (λ (y : ℕ). record { number = 16; place = y }) q) h e
 
 -- ---- all records are below the last bound
-below_top : (x : ℕ) → x / 2 ^ 64 / 2 ^ 64 < 2 ^ 32 → x < bound top
+below_top : (x : ℕ) → x / 2 ^ 64 / 2 ^ 64 < 2 ^ 32 → x < bound None
 below_top x h = up (up h)
   where
     up : {x y : ℕ} → x / 2 ^ 64 < y → x < 0 + 2 ^ 64 * y
@@ -68,13 +71,13 @@ module _ (trips R : List ℕ) (l : Listed trips R) (p : Placed R) where
   abbrev S : List ℕ
   S = sorted R
 
-  all-kept : (b : Bound) → bound top ≤ bound b → kept 0 (bound b) S ≡ S
+  all-kept : (b : Option Item) → bound None ≤ bound b → kept 0 (bound b) S ≡ S
   all-kept b h = kept-all 0 (bound b) S (λ i q. (least (at S i), under (below_top (at S i) (placed-sorted R p i q)) h))
 
   trips-above : (i : ℕ) → i < length S → 0 < (stop_in (at S i)).trip
   trips-above i h = let r = (sorted-from R).found i h in subst (λ (x : ℕ). 0 < (stop_in x).trip) (sym r.2) (l.listed r.0 r.1).above
 
-  module _ {room : ℕ} {W : List ℕ} {run : Run} (g : Gone S room W run) (h : bound top ≤ bound run.lo) where
+  module _ {room : ℕ} {W : List ℕ} {run : Run} (g : Gone S room W run) (h : bound None ≤ bound run.lo) where
     abbrev C : Carry
     C = run.carry
 
@@ -157,19 +160,19 @@ module _ (F : Feed) (C : Columns) (from : ℕ) (r : Read F C from) (s : Short F)
   e : EntriesOf F.trips (answers.stops_in F) R
   e = records-entries F C from r s
 
-  module _ {room : ℕ} (q : room ≡ length F.target / 20) (b : List ℕ) (len : length b ≡ length F.target) {run : Run} (g : Gone (sorted R) room (recs room b) run) (h : bound top ≤ bound run.lo) where
+  module _ {room : ℕ} (q : room ≡ length F.target / 20) (b : List ℕ) (len : length b ≡ length F.target) {run : Run} (g : Gone (sorted R) room (recs room b) run) (h : bound None ≤ bound run.lo) where
     pub end-on-trips : run.carry.fifteen ≡ none → run.hops ≤ room → OnTrips F.trips (recs run.hops b)
     end-on-trips f m = hops-on-trips F.trips R l p g h f b refl m
 
-    abbrev Told : Answer → List ℕ → Type 0
-    Told a d = (told a ≡ feed_refusal F) × (a.hops ≡ hop_count F) × (d ≡ target_after F)
+    abbrev Told : Result ℕ Reasoned → List ℕ → Type 0
+    Told a d = (told a ≡ feed_refusal F) × (hops_told a ≡ hop_count F) × (d ≡ target_after F)
 
-    as-records : (a : Answer) (d : List ℕ) → told a ≡ trips_refusal T → a.hops ≡ trips_hops T → d ≡ trips_bytes T F.target → a.hops ≤ room → Told a d
+    as-records : (a : Result ℕ Reasoned) (d : List ℕ) → told a ≡ trips_refusal T → hops_told a ≡ trips_hops T → d ≡ trips_bytes T F.target → hops_told a ≤ room → Told a d
     as-records a d x y z m =
         let few : trips_hops T ≤ length F.target / 20 = omega (arith, m, y, q) in
         (x ∙ sym (whole-refusal F R r.passed e few), y ∙ sym (whole-count F R r.passed e few), z ∙ sym (whole-target F R r.passed e few))
 
-    as-refused : (a : Answer) (d : List ℕ) (k : ℕ) {x : ℕ} → 0 < k → told a ≡ record { number = k; place = x } → record { number = k; place = x } ≡ trips_refusal T → a.hops ≡ 0 → d ≡ cleared b → Told a d
+    as-refused : (a : Result ℕ Reasoned) (d : List ℕ) (k : ℕ) {x : ℕ} → 0 < k → told a ≡ record { number = k; place = x } → record { number = k; place = x } ≡ trips_refusal T → hops_told a ≡ 0 → d ≡ cleared b → Told a d
     as-refused a d k o t w n z =
         let y = refusal-told T F.target b len k o t w n z {n = room} in
         as-records a d y.0 y.1 y.2 y.3
@@ -187,7 +190,7 @@ module _ (F : Feed) (C : Columns) (from : ℕ) (r : Read F C from) (s : Short F)
       count-is : length (hops_of T) ≡ length H'
       count-is = hops-count F.trips R l p (u F.trips R l p g h f) (u' F.trips R l p g h f)
 
-      as_many : (a : Answer) (d : List ℕ) → room < run.hops → told a ≡ record { number = 17; place = 0 } → a.hops ≡ 0 → d ≡ cleared b → Told a d
+      as_many : (a : Result ℕ Reasoned) (d : List ℕ) → room < run.hops → told a ≡ record { number = 17; place = 0 } → hops_told a ≡ 0 → d ≡ cleared b → Told a d
       as_many a d o t z w =
           let alike = entries-alike F.trips (answers.stops_in F) R e in
           let same = entries-told F.trips (answers.stops_in F) R e in
@@ -196,7 +199,7 @@ module _ (F : Feed) (C : Columns) (from : ℕ) (r : Read F C from) (s : Short F)
           let long : length F.target / 20 < length (hops_of (answers.stops_in F)) = omega (arith, q, over, count-is, ap length (hops-alike alike same)) in
           (t ∙ sym (room-refusal F r.passed none_yet long), z ∙ sym (room-count F r.passed none_yet long), w ∙ cleared-same b F.target len ∙ sym (room-target F r.passed none_yet long))
 
-      as-hops : (a : Answer) (d : List ℕ) → run.hops ≤ room → told a ≡ fine → a.hops ≡ run.hops → d ≡ filled b (joined (λ i. hop_out (trip_at F.trips) (at (sorted (recs run.hops b)) i)) run.hops) → Told a d
+      as-hops : (a : Result ℕ Reasoned) (d : List ℕ) → run.hops ≤ room → told a ≡ fine → hops_told a ≡ run.hops → d ≡ filled b (joined (λ i. hop_out (trip_at F.trips) (at (sorted (recs run.hops b)) i)) run.hops) → Told a d
       as-hops a d o t z w =
           let front : recs run.hops b ≡ H' = recs-take run.hops room b o ∙ held-front F.trips R l p g h f o in
           let counted : run.hops ≡ length H' = sym (col-length 20 run.hops b 0) ∙ ap length front in
@@ -206,7 +209,7 @@ module _ (F : Feed) (C : Columns) (from : ℕ) (r : Read F C from) (s : Short F)
           (w ∙ ap (filled b) (ap (λ (x : List ℕ). joined (λ i. hop_out (trip_at F.trips) (at (sorted x) i)) run.hops) front ∙ hops-flat F.trips R l p (u F.trips R l p g h f) (u' F.trips R l p g h f) run.hops counted) ∙ accepted-bytes T F.target b len fine-number)
           (omega (arith, z, o))
 
-    pub end-told : (a : Answer) (d : List ℕ) → Ended F.trips b room run.hops run.carry a d → (told a ≡ feed_refusal F) × (a.hops ≡ hop_count F) × (d ≡ target_after F)
+    pub end-told : (a : Result ℕ Reasoned) (d : List ℕ) → Ended F.trips b room run.hops run.carry a d → (told a ≡ feed_refusal F) × (hops_told a ≡ hop_count F) × (d ≡ target_after F)
     end-told a d (repeats n t z w) = as-refused a d 15 (omega arith) t (fifteen-told F.trips R l (fifteen-is F.trips R l p g h) n) z w
     end-told a d (late f n t z w) = as-refused a d 16 (omega arith) t (sixteen-told F.trips R l (fifteen-is F.trips R l p g h) f (sixteen-is F.trips R l p g h f) n) z w
     end-told a d (many f n o t z w) = as_many f n a d o t z w

@@ -17,8 +17,10 @@ use Rattle.carry.specs.declared.Item.{Item}
 use Rattle.carry.specs.declared.Carry.{Carry}
 use Rattle.carry.specs.Carried.{item_of, start, all_followed, all_hops}
 use Rattle.carry.proofs.Folds.{take_more, followed-append, hops-append}
-use Rattle.sieve.specs.declared.Bound.{Bound}
-use Rattle.sieve.specs.Kept.{bound, top, kept}
+use Rattle.std.specs.Prelude.{Option, Some, None, IfSome, is_some, false, true}
+use Rattle.journeys.proofs.Tests.{never}
+use Rattle.carry.specs.declared.Item.{Item}
+use Rattle.sieve.specs.Kept.{bound, kept}
 use Rattle.sieve.proofs.KeptLaws.{kept_on, kept-none, kept-all, kept-within}
 use Rattle.windows.specs.declared.Run.{Run}
 use Rattle.windows.specs.Gone.{Held, all, more, Gone}
@@ -109,11 +111,14 @@ at_most p = omega (arith, p)
 under : {x y z : ℕ} → x < 2 ^ 64 → y < z → x + 2 ^ 64 * y < 0 + 2 ^ 64 * z
 under p q = omega (arith, p, q)
 
-pub low-bound : (b : Bound) → b.high < 4294967296 → b.middle < 2 ^ 64 → b.low < 2 ^ 64 → bound b < bound top
-low-bound b h m l = under l (under m h)
+pub low-bound : (x : Item) → x.high < 2 ^ 32 → x.middle < 2 ^ 64 → x.low < 2 ^ 64 → bound (Some x) < bound None
+low-bound x h m l = last (under l (under m h))
+  where
+    last : {x : ℕ} → x < 0 + 2 ^ 64 * (0 + 2 ^ 64 * 2 ^ 32) → x < 2 ^ 160
+    last p = omega (arith, p)
 
 -- ---- one window more
-pub gone-start : (S : List ℕ) (room : ℕ) (W : List ℕ) → Gone S room W (record { lo = record { high = 0; middle = 0; low = 0 }; carry = start; hops = 0 })
+pub gone-start : (S : List ℕ) (room : ℕ) (W : List ℕ) → Gone S room W (record { lo = Some (record { high = 0; middle = 0; low = 0 }); carry = start; hops = 0 })
 unfolding all_followed all_hops
 gone-start S room W =
     let e : kept 0 0 S ≡ [] = kept-none 0 0 S (λ i h. omega arith) in
@@ -133,8 +138,8 @@ module _ (S : List ℕ) (asc : Ascending S) (run next : Run) (o : bound run.lo <
       }
 
 -- the bound rises: a window holds a record, or it is the last one
-pub bound-rises : (lo end : Bound) (count : ℕ) (S P : List ℕ) → bound lo < bound top → P ≡ kept (bound lo) (bound end) S → length P ≡ count → (end ≡ top) ⊎ (0 < count) → bound lo < bound end
-bound-rises lo end count S P h p q (inl e) = subst (λ (b : Bound). bound lo < bound b) (sym e) h
+pub bound-rises : (lo end : Option Item) (count : ℕ) (S P : List ℕ) → bound lo < bound None → P ≡ kept (bound lo) (bound end) S → length P ≡ count → (end ≡ None) ⊎ (0 < count) → bound lo < bound end
+bound-rises lo end count S P h p q (inl e) = subst (λ (b : Option Item). bound lo < bound b) (sym e) h
 bound-rises lo end count S P h p q (inr e) =
     let some : 0 < length P = omega (arith, e, q) in
     let w = kept-within (bound lo) (bound end) S 0 (subst (λ (r : List ℕ). 0 < length r) p some) in
@@ -143,8 +148,10 @@ bound-rises lo end count S P h p q (inr e) =
 pub less-far : {a b t : ℕ} → a < t → a < b → t - b < t - a
 less-far p q = omega (arith, p, q)
 
-over : (x : ℕ) {y z : ℕ} → z ≤ y → 0 + 2 ^ 64 * z ≤ x + 2 ^ 64 * y
-over x p = omega (arith, p)
+pub no-bound : (o : Option Item) → is_some o ≡ false → bound None ≤ bound o
+no-bound None e = omega arith
+no-bound (Some x) e = never refl e
 
-pub high-bound : (b : Bound) → 4294967296 ≤ b.high → bound top ≤ bound b
-high-bound b h = over b.low (over b.middle h)
+pub below-all : (o : Option Item) → is_some o ≡ true → IfSome o (λ x. (x.high < 2 ^ 32) × (x.middle < 2 ^ 64) × (x.low < 2 ^ 64)) → bound o < bound None
+below-all (Some x) e f = low-bound x f.0 f.1 f.2
+below-all None e f = never e refl

@@ -1,5 +1,5 @@
 -- How far windows have come over the sorted stops, and what the end makes of it. Assumes nothing.
-use Rattle.std.specs.Prelude.{◌≡◌, List, map, ℕ, ◌<◌, ◌≤◌, length, take, drop}
+use Rattle.std.specs.Prelude.{◌≡◌, Result, List, map, ℕ, ◌<◌, ◌≤◌, length, take, drop}
 use Rattle.journeys.specs.Counting.{none, joined}
 use Rattle.journeys.specs.Bytes.{filled, cleared}
 use Rattle.journeys.specs.Refusals.{fine}
@@ -11,8 +11,9 @@ use Rattle.stoplist.specs.declared.Columns.{Columns}
 use Rattle.stoplist.specs.Made.{packed, stops_made, entry_good, Inside}
 use Rattle.hoporder.specs.Hops.{hop_out}
 use Rattle.hopbytes.specs.Listing.{trip_at}
-use Rattle.departures.specs.declared.Answer.{Answer}
-use Rattle.departures.specs.Answered.{told}
+use Rattle.words.specs.declared.Refusal.{Refusal}
+use Rattle.words.specs.Told.{told}
+use Rattle.departures.specs.Answered.{hops_told}
 use Rattle.carry.specs.declared.Carry.{Carry}
 use Rattle.carry.specs.Carried.{start, all_followed, all_hops, late_end}
 use Rattle.sieve.specs.Kept.{bound, kept, Distinct}
@@ -44,8 +45,8 @@ pub record Gone (S : List ℕ) (room : ℕ) (W : List ℕ) (r : Run) : Type 0 wh
   pub hops : Held room r.hops W (all_hops start (kept 0 (bound r.lo) S))
 
 -- 15, 16, 17 or the hops, as what is carried says it
-pub data Ended (trips b : List ℕ) (room k : ℕ) (c : Carry) (r : Answer) (d : List ℕ) : Type 0 where
-  repeats : (c.fifteen ≡ none → ⊥) → told r ≡ record { number = 15; place = c.fifteen } → r.hops ≡ 0 → d ≡ cleared b → Ended trips b room k c r d
-  late : c.fifteen ≡ none → (late_end c ≡ none → ⊥) → told r ≡ record { number = 16; place = late_end c } → r.hops ≡ 0 → d ≡ cleared b → Ended trips b room k c r d
-  many : c.fifteen ≡ none → late_end c ≡ none → room < k → told r ≡ record { number = 17; place = 0 } → r.hops ≡ 0 → d ≡ cleared b → Ended trips b room k c r d
-  fits : c.fifteen ≡ none → late_end c ≡ none → k ≤ room → told r ≡ fine → r.hops ≡ k → d ≡ filled b (joined (λ i. hop_out (trip_at trips) (at (sorted (recs k b)) i)) k) → Ended trips b room k c r d
+pub data Ended (trips b : List ℕ) (room k : ℕ) (c : Carry) (r : Result ℕ Refusal) (d : List ℕ) : Type 0 where
+  repeats : (c.fifteen ≡ none → ⊥) → told r ≡ record { number = 15; place = c.fifteen } → hops_told r ≡ 0 → d ≡ cleared b → Ended trips b room k c r d
+  late : c.fifteen ≡ none → (late_end c ≡ none → ⊥) → told r ≡ record { number = 16; place = late_end c } → hops_told r ≡ 0 → d ≡ cleared b → Ended trips b room k c r d
+  many : c.fifteen ≡ none → late_end c ≡ none → room < k → told r ≡ record { number = 17; place = 0 } → hops_told r ≡ 0 → d ≡ cleared b → Ended trips b room k c r d
+  fits : c.fifteen ≡ none → late_end c ≡ none → k ≤ room → told r ≡ fine → hops_told r ≡ k → d ≡ filled b (joined (λ i. hop_out (trip_at trips) (at (sorted (recs k b)) i)) k) → Ended trips b room k c r d

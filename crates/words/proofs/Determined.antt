@@ -6,8 +6,6 @@ use Rattle.words.proofs.Told.{told-injective}
 use Rattle.words.proofs.word.Reads as word
 use Rattle.words.proofs.word_at.Reads as word_at
 use Rattle.words.proofs.refused.Reads as refused
-use Rattle.words.proofs.fine.Reads as fine
-use Rattle.words.proofs.lesser.Reads as lesser
 use Rattle.words.proofs.zero.Reads as zero
 use Rattle.words.proofs.half_at.Reads as half_at
 use Rattle.words.proofs.seconds_of.Reads as seconds-of
@@ -21,12 +19,6 @@ use Rattle.words.proofs.put_word.Reads as put_word
 -- ---- answers
 pub one-refused : (κs : _) (a : _) (z z' : _) (e e' : _) → refused.Post κs a z e → refused.Post κs a z' e' → z ≡ z'
 one-refused κs a z z' e e' p q = told-injective z z' (p ∙ sym q)
-
-pub one-fine : (κs : _) (a : _) (z z' : _) (e e' : _) → fine.Post κs a z e → fine.Post κs a z' e' → z ≡ z'
-one-fine κs a z z' e e' p q = told-injective z z' (p ∙ sym q)
-
-pub one-lesser : (κs : _) (a : _) (z z' : _) (e e' : _) → lesser.Post κs a z e → lesser.Post κs a z' e' → z ≡ z'
-one-lesser κs a z z' e e' p q = p ∙ sym q
 
 pub one_word : (κs : _) (a : _) (z z' : _) (e e' : _) → word.Post κs a z e → word.Post κs a z' e' → z ≡ z'
 one_word κs a z z' e e' p q = p ∙ sym q

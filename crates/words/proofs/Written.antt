@@ -9,7 +9,7 @@ use lib.ListN.{length, get_or, take, drop, set, length-append, length-drop, drop
 use lib.Seq.{sets-eq, take_at, drop-append-add, drop-drop, length-take-le, take_all, get_or-append-add, get_or-take, get_or-drop}
 use borrow.Rule.Slice.PartMut.{put_mid}
 use Rattle.journeys.specs.Bytes.{be32, word}
-use Rattle.words.specs.Written.{written, swapped}
+use Rattle.words.specs.Written.{written}
 
 -- four stores, as the code numbers their places
 pub four : (l : List ℕ) (i a b c d : ℕ) → i + 4 ≤ length l
@@ -125,22 +125,16 @@ be32-word a b x =
     let first = rw z at (get_or-append-add a l 0 0) in
     rw append_assoc (rw (first, get_or-append-add a l 1 0, get_or-append-add a l 2 0, get_or-append-add a l 3 0) (word_back x))
 
--- ---- bytes the other way round
-bytes_apart : (a b c d x : ℕ) → a < 256 → b < 256 → c < 256 → d < 256 → x ≡ a * 16777216 + b * 65536 + c * 256 + d
-    → (x / 16777216 ≡ a) × (x / 65536 % 256 ≡ b) × (x / 256 % 256 ≡ c) × (x % 256 ≡ d)
-bytes_apart a b c d x ha hb hc hd e = (omega arith, omega arith, omega arith, omega arith)
+-- bytes copied to a place, and the four of a number
+pub copied : (d p : List ℕ) (at k : ℕ) → k ≡ length p → put_mid at k d p ≡ written d at p
+unfolding written
+copied d p at k e = rw (e, drop-drop) (sym (append_assoc (take at d) p (drop (at + length p) d)))
 
-pub swapped-read : (a b c d x : ℕ) → a < 256 → b < 256 → c < 256 → d < 256 → x ≡ d * 16777216 + c * 65536 + b * 256 + a
-    → swapped x ≡ a * 16777216 + b * 65536 + c * 256 + d
-swapped-read a b c d x ha hb hc hd e =
-    let p = bytes_apart d c b a x hd hc hb ha e in
-    rw (p.0, p.1, p.2, p.3)
-
-pub swapped-word : (x y : ℕ) → x < 4294967296 → y ≡ swapped x → y % 256 ∷ y / 256 % 256 ∷ y / 65536 % 256 ∷ y / 16777216 ∷ [] ≡ word x
+pub word-copied : (d p : List ℕ) (at k x : ℕ) → k ≡ 4 → x < 4294967296 → p ≡ x / 16777216 % 256 ∷ x / 65536 % 256 ∷ x / 256 % 256 ∷ x % 256 ∷ [] → put_mid at k d p ≡ written d at (word x)
 unfolding word
-swapped-word x y h e =
-    let p = bytes_apart (x % 256) (x / 256 % 256) (x / 65536 % 256) (x / 16777216) y (omega arith) (omega arith) (omega arith) (omega arith) e in
-    rw (p.0, p.1, p.2, p.3)
+word-copied d p at k x e h f =
+    let top : x / 16777216 % 256 ≡ x / 16777216 = omega arith in
+    copied d p at k (e ∙ ap length (sym f)) ∙ ap (written d at) (f ∙ rw top refl)
 
 -- what stands behind is as it was
 pub rest-kept : (p l : List ℕ) (k : ℕ) → get_or (p ++ drop (length p) l) (length p + k) 0 ≡ get_or l (length p + k) 0

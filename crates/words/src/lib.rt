@@ -1,94 +1,132 @@
-// Numbers in bytes, bytes written at a place, the three quantities of RULES 5.2, and refusals by number and place.
+// Numbers in bytes, bytes written at a place, the three quantities of RULES 5.2, and refusals by reason and place.
 // Promises: what is read is what `journeys` decodes, what is written reads back, and seconds, ticks and offsets meet in the named conversions alone.
 // Rests on: the definitions of `journeys` alone.
 #![tactic(auto)]
 
-ghost use Rattle.std.specs.Prelude.{◌≡◌, ◌+◌, ◌*◌, ◌≤◌, min, leb, pos, nat_abs, ◌-ℤ◌, length, replicate, ◌≤ℤ◌};
+ghost use Rattle.std.specs.Prelude.{◌≡◌, ◌+◌, ◌*◌, ◌≤◌, leb, pos, nat_abs, ◌-ℤ◌, length, replicate, ◌≤ℤ◌};
 ghost use Rattle.journeys.specs.Bytes as bytes;
 ghost use Rattle.journeys.specs.Bytes.{be16, be32, clock, clocked};
-ghost use Rattle.journeys.specs.Refusals as refusals;
 ghost use Rattle.words.specs.Quantities.{seconds_of, DayTime, ticks_before};
-ghost use Rattle.words.specs.Told.{told};
-ghost use Rattle.words.specs.Written.{written, swapped};
+ghost use Rattle.words.specs.Told.{number_of, told};
+ghost use Rattle.words.specs.Written.{written};
 
 // Seconds from midnight of the service day, ticks, and decimetres on a walk record: three quantities, joined by the conversions below alone.
-#[derive(Clone, Copy)]
+#[derive(Clone, Copy, PartialEq, Eq, PartialOrd, Ord)]
 pub struct Seconds(pub i32);
 
 #[derive(Clone, Copy)]
 pub struct Ticks(pub u32);
 
-#[derive(Clone, Copy)]
+#[derive(Clone, Copy, PartialEq, Eq)]
 pub struct Offset(pub u32);
 
-// Number and place; both 0 where nothing is refused.
+// Why something is refused, in the order of the numbers of RULES 12, of which the first is 1.
+#[derive(Clone, Copy)]
+pub enum Reason {
+    Length,
+    Walk,
+    Hop,
+    WalkOrder,
+    HopOrder,
+    Vertex,
+    Query,
+    HeldRoom,
+    SettledRoom,
+    PartRoom,
+    Trip,
+    Columns,
+    Line,
+    UnknownId,
+    Sequence,
+    StopTimes,
+    HopRoom,
+    Scratch,
+    Patients,
+    Evening,
+    Entry,
+    RecordList,
+    Coordinate,
+    EmptyList,
+    BoughtVertex,
+    BoughtDistance,
+    BoughtRecord,
+    BoughtOffer,
+    IdLine,
+}
+
+impl From<Reason> for u32 {
+    ghost from_gives = { λ reason number. number ≡ number_of reason };
+
+    fn from(reason: Reason) -> u32 {
+        match reason {
+            Reason::Length => 1,
+            Reason::Walk => 2,
+            Reason::Hop => 3,
+            Reason::WalkOrder => 4,
+            Reason::HopOrder => 5,
+            Reason::Vertex => 6,
+            Reason::Query => 7,
+            Reason::HeldRoom => 8,
+            Reason::SettledRoom => 9,
+            Reason::PartRoom => 10,
+            Reason::Trip => 11,
+            Reason::Columns => 12,
+            Reason::Line => 13,
+            Reason::UnknownId => 14,
+            Reason::Sequence => 15,
+            Reason::StopTimes => 16,
+            Reason::HopRoom => 17,
+            Reason::Scratch => 18,
+            Reason::Patients => 19,
+            Reason::Evening => 20,
+            Reason::Entry => 21,
+            Reason::RecordList => 22,
+            Reason::Coordinate => 23,
+            Reason::EmptyList => 24,
+            Reason::BoughtVertex => 25,
+            Reason::BoughtDistance => 26,
+            Reason::BoughtRecord => 27,
+            Reason::BoughtOffer => 28,
+            Reason::IdLine => 29,
+        }
+    }
+}
+
+// A reason and a place: what a refusal tells.
 #[derive(Clone, Copy)]
 pub struct Refusal {
-    pub number: u32,
+    pub reason: Reason,
     pub place: u32,
 }
 
 pub const NONE: u32 = 0xFFFF_FFFF;
 
-pub fn refused(number: u32, place: u32) -> Refusal
-    ensures { told result ≡ record { number = number; place = place } }
+pub fn refused(reason: Reason, place: u32) -> Result<(), Refusal>
+    ensures { told result ≡ record { number = number_of reason; place = place } }
 {
-    Refusal {
-        number: number,
-        place: place,
-    }
-}
-
-pub fn fine() -> Refusal
-    ensures { told result ≡ refusals.fine }
-{
-    refused(0, 0)
-}
-
-pub fn lesser(a: usize, b: usize) -> usize
-    ensures { result ≡ min a b }
-{
-    if a < b { a } else { b }
+    Err(Refusal { reason, place })
 }
 
 // Four bytes, the first the most significant.
 pub fn word(a: u8, b: u8, c: u8, d: u8) -> u32
     ensures { result ≡ a * 16777216 + b * 65536 + c * 256 + d }
 {
-    (a as u32) * 16777216 + (b as u32) * 65536 + (c as u32) * 256 + (d as u32)
+    u32::from_be_bytes([a, b, c, d])
 }
 
-// The bytes of a number the other way round. The machine has its own bytes that way: so a read compiles to one load and a byte swap, and a
-// write to a byte swap and one store.
-fn swap(x: u32) -> u32
-    ensures { result ≡ swapped x }
-{
-    word(
-        (x % 256) as u8,
-        (x / 256 % 256) as u8,
-        (x / 65536 % 256) as u8,
-        (x / 16777216) as u8,
-    )
-}
-
+// A number in the bytes at a place. A read compiles to one load and a byte swap, and a write to a byte swap and one store.
 pub fn word_at(s: &[u8], at: usize) -> u32
     requires { at + 4 ≤ length s.now }
     ensures { result ≡ be32 s.now at }
 {
-    swap(word(s[at + 3], s[at + 2], s[at + 1], s[at]))
-}
-
-fn half(a: u8, b: u8) -> u32
-    ensures { result ≡ a * 256 + b }
-{
-    (a as u32) * 256 + (b as u32)
+    u32::from_be_bytes([s[at], s[at + 1], s[at + 2], s[at + 3]])
 }
 
 pub fn half_at(s: &[u8], at: usize) -> u32
     requires { at + 2 ≤ length s.now }
     ensures { result ≡ be16 s.now at }
 {
-    half(s[at], s[at + 1])
+    u16::from_be_bytes([s[at], s[at + 1]]) as u32
 }
 
 // A number's four bytes at a place of a buffer.
@@ -96,22 +134,14 @@ pub fn put_word(out: &mut [u8], at: usize, x: u32)
     requires { at + 4 ≤ length out.old }
     ensures { out.new ≡ written out.old at (bytes.word x) }
 {
-    let swapped = swap(x);
-    out[at] = (swapped % 256) as u8;
-    out[at + 1] = (swapped / 256 % 256) as u8;
-    out[at + 2] = (swapped / 65536 % 256) as u8;
-    out[at + 3] = (swapped / 16777216) as u8;
+    out[at..at + 4].copy_from_slice(&x.to_be_bytes());
 }
 
 // Every byte becomes zero.
 pub fn zero(out: &mut [u8])
     ensures { out.new ≡ replicate (length out.old) 0 }
 {
-    let mut i = 0;
-    while i < out.len() {
-        out[i] = 0;
-        i += 1;
-    }
+    out.fill(0);
 }
 
 // The 32 bits of a signed number, which count from midnight.
@@ -128,7 +158,7 @@ pub fn seconds_of(bits: u32) -> Seconds
 pub fn not_after(a: Seconds, b: Seconds) -> bool
     ensures { result ≡ leb (clocked a.0) (clocked b.0) }
 {
-    a.0 <= b.0
+    a <= b
 }
 
 // The seconds from one time to another, below zero where the other is sooner.

@@ -1,11 +1,11 @@
 -- Any two results that a contract allows are equal: the answers, the map afterwards, and in `finish` every byte.
+use Rattle.std.specs.Prelude.{Option, Some, None}
 use mathlib.Core.Path.{◌≡◌, refl, sym, ap, ◌∙◌}
 use mathlib.Core.List.{List}
 use Prim.Native.Nat.{ℕ}
 use Rattle.worktable.specs.Map.{Entry, Map, empty}
 use Rattle.worktable.specs.Table.{map_of, InOrder, Holds, Place, Gives, FoundIs, PassedIs, NearestIs}
 use Rattle.worktable.specs.declared.Table.{Table}
-use Rattle.worktable.specs.declared.Found.{Found}
 use Rattle.worktable.specs.declared.Nearest.{Nearest}
 use Rattle.worktable.specs.declared.Passed.{Passed}
 use Rattle.journeys.proofs.Tests.{never}
@@ -25,12 +25,12 @@ room-one κs a z z' e e' p q = p ∙ sym q
 pub free_one : (κs : _) (a : _) (z z' : _) (e e' : _) → free.Post κs a z e → free.Post κs a z' e' → z ≡ z'
 free_one κs a z z' e e' p q = p ∙ sym q
 
-found-same : (t : Table) (b : List ℕ) (u : ℕ) (f g : Found) → InOrder t b → FoundIs t b u f → FoundIs t b u g → f ≡ g
+found-same : (t : Table) (b : List ℕ) (u : ℕ) (f g : Option ℕ) → InOrder t b → FoundIs t b u f → FoundIs t b u g → f ≡ g
 unfolding FoundIs
-found-same t b u (Found.At s) (Found.At x) o p q = ap Found.At (place-one o p q)
-found-same t b u (Found.At s) Found.Absent o p q = absurd (absent-known (sym q ∙ place-entry o p refl))
-found-same t b u Found.Absent (Found.At x) o p q = absurd (absent-known (sym p ∙ place-entry o q refl))
-found-same t b u Found.Absent Found.Absent o p q = refl
+found-same t b u (Some s) (Some x) o p q = ap Some (place-one o p q)
+found-same t b u (Some s) None o p q = absurd (absent-known (sym q ∙ place-entry o p refl))
+found-same t b u None (Some x) o p q = absurd (absent-known (sym p ∙ place-entry o q refl))
+found-same t b u None None o p q = refl
 
 pub find-one : (κs : _) (a : _) (z z' : _) (e e' : _) → find.Pre κs a → find.Post κs a z e → find.Post κs a z' e' → z ≡ z'
 find-one κs a z z' e e' o p q = found-same _ _ _ z z' o p q
@@ -54,15 +54,15 @@ look_one κs a z z' e e' o p q = passed-same _ _ _ _ _ z z' o.0 p q
 pub settle-at-one : (κs : _) (a : _) (z z' : _) (e e' : _) → settle-at.Post κs a z e → settle-at.Post κs a z' e' → z ≡ z'
 settle-at-one κs a z z' e e' p q = p.1 ∙ sym q.1
 
-nearest-same : (t : Table) (b : List ℕ) (f g : Nearest) → InOrder t b → NearestIs t b f → NearestIs t b g → f ≡ g
+nearest-same : (t : Table) (b : List ℕ) (f g : Option Nearest) → InOrder t b → NearestIs t b f → NearestIs t b g → f ≡ g
 unfolding NearestIs
-nearest-same t b (Nearest.At s v d) (Nearest.At x w e) o p q = same x w e (foremost-one p.1 q.1) q.0
+nearest-same t b (Some x) (Some y) o p q = same y (foremost-one p.1 q.1) q.0
   where
-    same : (x w e : ℕ) → (v ≡ w) × (d ≡ e) → Place t b w x → Nearest.At s v d ≡ Nearest.At x w e
-    same x w e k r = let z : s ≡ x = place-one o p.0 (rw k.0 r) in rw (z, k.0, k.1)
-nearest-same t b (Nearest.At s v d) Nearest.Nothing o p q = absurd (q v d p.1.waits)
-nearest-same t b Nearest.Nothing (Nearest.At x w e) o p q = absurd (p w e q.1.waits)
-nearest-same t b Nearest.Nothing Nearest.Nothing o p q = refl
+    same : (y : Nearest) → (x.vertex ≡ y.vertex) × (x.distance ≡ y.distance) → Place t b y.vertex y.slot → Some x ≡ Some y
+    same y k r = let z : x.slot ≡ y.slot = place-one o p.0 (rw k.0 r) in rw (z, k.0, k.1)
+nearest-same t b (Some x) None o p q = absurd (q x.vertex x.distance p.1.waits)
+nearest-same t b None (Some y) o p q = absurd (p y.vertex y.distance q.1.waits)
+nearest-same t b None None o p q = refl
 
 pub least-one : (κs : _) (a : _) (z z' : _) (e e' : _) → least.Pre κs a → least.Post κs a z e → least.Post κs a z' e' → z ≡ z'
 least-one κs a z z' e e' o p q = nearest-same _ _ z z' o p q

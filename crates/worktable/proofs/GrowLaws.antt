@@ -10,11 +10,11 @@ use Rattle.table_bytes.specs.Columns.{Cols, cols, at}
 use Rattle.table_bytes.proofs.Access.{sized}
 use Rattle.table_tree.specs.Words.{vacant, vertex_in, bucket_of}
 use Rattle.table_tree.specs.Tree.{Win, Kept, Spared}
-use Rattle.table_tree.specs.Chains.{Mem, Chain, Chained}
+use Rattle.table_tree.specs.Chains.{Mem, Chain}
 use Rattle.table_tree.proofs.ChainLaws.{chain-other, chain-iff}
 use Rattle.worktable.specs.Map.{size, size_to}
-use Rattle.worktable.specs.Inside.{entry_in, lookup, Outside, Vacancies, Layout}
-use Rattle.worktable.specs.Table.{map_of, InOrder, Place, Gives}
+use Rattle.worktable.specs.Inside.{entry_in, Outside, Vacancies, Layout}
+use Rattle.worktable.specs.Table.{map_of, InOrder, Gives}
 use Rattle.worktable.specs.declared.Table.{Table}
 use Rattle.worktable.proofs.LookupLaws.{lookup-more}
 use Rattle.worktable.proofs.LayoutLaws.{vacancies-mod}

@@ -6,5 +6,6 @@ pub mod TableLaws
 pub mod GrowLaws
 pub mod PassLaws
 pub mod NearestLaws
+pub mod Ones
 pub mod FinishLaws
 pub mod Determined

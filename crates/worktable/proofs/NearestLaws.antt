@@ -1,4 +1,5 @@
 -- The root of the tree is the foremost entry, if any entry waits.
+use Rattle.std.specs.Prelude.{Option, Some, None}
 use mathlib.Core.Path.{◌≡◌, refl, sym, ap, subst, ◌∙◌}
 use mathlib.Core.Logic.{◌≢◌, ◌⊎◌, inl, inr}
 use mathlib.Core.List.{List}
@@ -67,7 +68,7 @@ module _ {t : Table} {b : List ℕ} (o : InOrder t b) (pos : 0 < t.capacity) whe
     root : (i : ℕ) → i < t.capacity → key w ≤ key (at (cols t.slots b).w i)
     root i l = rw (ew, es) (least t.capacity (cols t.slots b).w (cols t.slots b).t (o.layout pos).win i l)
 
-    pub nearest-at : {v d : ℕ} → w < 9223371968135299072 → v ≡ vertex_in w → d ≡ distance_in w → NearestIs t b (Nearest.At s v d)
+    pub nearest-at : {v d : ℕ} → w < 9223371968135299072 → v ≡ vertex_in w → d ≡ distance_in w → NearestIs t b (Some record { slot = s; vertex = v; distance = d })
     unfolding NearestIs
     nearest-at {v} {d} h ev ed = (
       p,
@@ -96,7 +97,7 @@ module _ {t : Table} {b : List ℕ} (o : InOrder t b) (pos : 0 < t.capacity) whe
             go (yes q) r = inr (q, omega arith)
             go (no q) r = inl (omega (arith, vertex-low (at (cols t.slots b).w i), a.vertex))
 
-    pub nearest-none : 9223371968135299072 ≤ w → NearestIs t b Nearest.Nothing
+    pub nearest-none : 9223371968135299072 ≤ w → NearestIs t b None
     unfolding NearestIs
     nearest-none h u e q =
         let k = waiting u e q in
@@ -105,17 +106,17 @@ module _ {t : Table} {b : List ℕ} (o : InOrder t b) (pos : 0 < t.capacity) whe
         let kw = high-key w h in
         omega (arith, low-distance (at (cols t.slots b).w k.0) k.2, vertex-low (at (cols t.slots b).w k.0), k.2)
 
-pub nearest-empty : {t : Table} {b : List ℕ} → InOrder t b → t.capacity ≡ 0 → NearestIs t b Nearest.Nothing
+pub nearest-empty : {t : Table} {b : List ℕ} → InOrder t b → t.capacity ≡ 0 → NearestIs t b None
 unfolding NearestIs map_of distance_of
 nearest-empty {t} {b} o e u d q =
     let m : lookup t.capacity (cols t.slots b).w u ≢ vacant = λ z. absurd (omega (arith, ap distance_of (entry_vacant z), q.at, q.some)) in
     omega (arith, (lookup-slot m).1.low)
 
 -- what the answer of `least` tells in each of its cases
-pub nearest-is : {t : Table} {b : List ℕ} {s v d : ℕ} {x : Nearest} → NearestIs t b x → x ≡ Nearest.At s v d → Place t b v s × Foremost (map_of t b) v d
+pub nearest-is : {t : Table} {b : List ℕ} {y : Nearest} {x : Option Nearest} → NearestIs t b x → x ≡ Some y → Place t b y.vertex y.slot × Foremost (map_of t b) y.vertex y.distance
 unfolding NearestIs
 nearest-is {t} {b} h e = subst (NearestIs t b) e h
 
-pub nearest-nothing : (t : Table) (b : List ℕ) {x : Nearest} → NearestIs t b x → x ≡ Nearest.Nothing → (u d : ℕ) → Waits (map_of t b) u d → ⊥
+pub nearest-nothing : (t : Table) (b : List ℕ) {x : Option Nearest} → NearestIs t b x → x ≡ None → (u d : ℕ) → Waits (map_of t b) u d → ⊥
 unfolding NearestIs
 nearest-nothing t b h e = subst (NearestIs t b) e h

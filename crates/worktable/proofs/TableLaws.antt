@@ -1,4 +1,5 @@
 -- The table and its map: reading at a place, and what a store at one slot gives.
+use Rattle.std.specs.Prelude.{Bool, true, false, not, Option, Some, None, is_some}
 use mathlib.Core.Path.{◌≡◌, refl, sym, ap, subst, fun_ext, ◌∙◌}
 use mathlib.Core.Logic.{◌≢◌, inl, inr}
 use mathlib.Core.List.{List}
@@ -16,7 +17,7 @@ use Rattle.worktable.specs.Map.{Entry, absent, known, Map, distance_of, state_of
 use Rattle.worktable.specs.Inside.{entry_in, lookup, Single, Layout}
 use Rattle.worktable.specs.Table.{map_of, Roomy, InOrder, Holds, Place, Gives, FoundIs}
 use Rattle.worktable.specs.declared.Table.{Table}
-use Rattle.worktable.specs.declared.Found.{Found}
+use Rattle.journeys.proofs.Tests.{never}
 use Rattle.worktable.proofs.MapLaws.{put_same, size-put, size-empty}
 use Rattle.worktable.proofs.WordLaws.{entry_vacant, entry-used, absent-vacant, vertex-low}
 use Rattle.worktable.proofs.LookupLaws.{lookup-none, lookup-missing, lookup-at, Fit, set_at, set-stays, set-map}
@@ -42,31 +43,42 @@ unfolding map_of
 high-absent {t} {b} {u} o h = entry_vacant (lookup-none t.capacity (cols t.slots b).w u (λ i l n e. omega (arith, vertex-low (at (cols t.slots b).w i))))
 
 -- what the answer of `find` tells in each of its cases
-pub found-place : {t : Table} {b : List ℕ} {u s : ℕ} {f : Found} → FoundIs t b u f → f ≡ Found.At s → Place t b u s
+pub found-place : {t : Table} {b : List ℕ} {u s : ℕ} {f : Option ℕ} → FoundIs t b u f → f ≡ Some s → Place t b u s
 unfolding FoundIs
 found-place {t} {b} {u} h e = subst (FoundIs t b u) e h
 
-pub found-absent : (t : Table) (b : List ℕ) (u : ℕ) {f : Found} → FoundIs t b u f → f ≡ Found.Absent → map_of t b u ≡ absent
+pub found-absent : (t : Table) (b : List ℕ) (u : ℕ) {f : Option ℕ} → FoundIs t b u f → f ≡ None → map_of t b u ≡ absent
 unfolding FoundIs
 found-absent t b u h e = subst (FoundIs t b u) e h
+
+-- and what it tells to who asks only whether there is a slot
+pub found-nowhere : (t : Table) (b : List ℕ) (u : ℕ) (f : Option ℕ) {r : Bool} → FoundIs t b u f → is_some f ≡ not r → r ≡ true → map_of t b u ≡ absent
+unfolding FoundIs
+found-nowhere t b u None h e q = h
+found-nowhere t b u (Some s) h e q = never refl (e ∙ ap not q)
+
+pub found-somewhere : (t : Table) (b : List ℕ) (u : ℕ) (f : Option ℕ) {r : Bool} → FoundIs t b u f → is_some f ≡ not r → r ≡ false → (s : ℕ) × Place t b u s
+unfolding FoundIs
+found-somewhere t b u None h e q = never refl (sym (e ∙ ap not q))
+found-somewhere t b u (Some s) h e q = (s, h)
 
 module _ {t : Table} {b : List ℕ} (o : InOrder t b) where
   pub free-some : size (map_of t b) < t.capacity → 0 < t.free
   free-some h = omega (arith, o.counted)
 
-  pub found-not : {u : ℕ} → Missing t.capacity (cols t.slots b).w u → FoundIs t b u Found.Absent
+  pub found-not : {u : ℕ} → Missing t.capacity (cols t.slots b).w u → FoundIs t b u None
   unfolding FoundIs map_of
   found-not {u} f = entry_vacant (lookup-none t.capacity (cols t.slots b).w u f)
 
-  pub found_at : {u s : ℕ} → At t.capacity (cols t.slots b).w u s → FoundIs t b u (Found.At s)
+  pub found_at : {u s : ℕ} → At t.capacity (cols t.slots b).w u s → FoundIs t b u (Some s)
   unfolding FoundIs
   found_at p = record { slot = p }
 
-  pub found_none : {u s : ℕ} → Slot t.capacity (cols t.slots b).w u s → s ≡ t.capacity → FoundIs t b u Found.Absent
+  pub found_none : {u s : ℕ} → Slot t.capacity (cols t.slots b).w u s → s ≡ t.capacity → FoundIs t b u None
   found_none (inl p) e = absurd (omega (arith, p.low))
   found_none (inr p) e = found-not p.1
 
-  pub found_some : {u s : ℕ} → Slot t.capacity (cols t.slots b).w u s → s ≢ t.capacity → FoundIs t b u (Found.At s)
+  pub found_some : {u s : ℕ} → Slot t.capacity (cols t.slots b).w u s → s ≢ t.capacity → FoundIs t b u (Some s)
   found_some (inl p) e = found_at p
   found_some (inr p) e = absurd (e p.0)
 

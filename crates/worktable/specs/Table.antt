@@ -1,12 +1,11 @@
 -- What the buffer holds. Callers use `map_of`, `InOrder`, `Holds`, `Place` and `Gives` as they stand and never what is inside.
-use Rattle.std.specs.Prelude.{◌≡◌, true, false, ◌≢◌, List, ℕ, ◌+◌, ◌<◌, ◌≤◌}
+use Rattle.std.specs.Prelude.{◌≡◌, true, false, ◌≢◌, List, ℕ, Option, Some, None, ◌+◌, ◌<◌, ◌≤◌}
 use Rattle.table_bytes.specs.Columns.{cols}
 use Rattle.table_tree.specs.Words.{Slotted}
 use Rattle.table_tree.specs.Chains.{At}
 use Rattle.worktable.specs.Map.{Entry, absent, Map, spent, size, Foremost, Waits}
 use Rattle.worktable.specs.Inside.{entry_in, lookup, Layout}
 use Rattle.worktable.specs.declared.Table.{Table}
-use Rattle.worktable.specs.declared.Found.{Found}
 use Rattle.worktable.specs.declared.Nearest.{Nearest}
 use Rattle.worktable.specs.declared.Passed.{Passed}
 
@@ -44,9 +43,9 @@ pub record Gives (t r : Table) (b c : List ℕ) (m : Map) : Type 0 where
   pub stays : (v s : ℕ) → m v ≢ absent → Place t b v s → Place r c v s
 
 -- the answer of `find`
-unfoldable pub FoundIs : Table → List ℕ → ℕ → Found → Type 0
-FoundIs t b u (Found.At s) = Place t b u s
-FoundIs t b u Found.Absent = map_of t b u ≡ absent
+unfoldable pub FoundIs : Table → List ℕ → ℕ → Option ℕ → Type 0
+FoundIs t b u (Some s) = Place t b u s
+FoundIs t b u None = map_of t b u ≡ absent
 
 -- the answer of `pass` and `look`, where D is allowed and the vertex u has the entry e: a spent one is told with its slot
 unfoldable pub PassedIs : ℕ → Table → List ℕ → ℕ → Entry → Passed → Type 0
@@ -55,6 +54,6 @@ PassedIs D t b u e Passed.Kept = (e ≢ absent) × (spent D e ≡ false)
 PassedIs D t b u e (Passed.Spent s) = Place t b u s × (spent D e ≡ true)
 
 -- the answer of `least`
-unfoldable pub NearestIs : Table → List ℕ → Nearest → Type 0
-NearestIs t b (Nearest.At s v d) = Place t b v s × Foremost (map_of t b) v d
-NearestIs t b Nearest.Nothing = (u d : ℕ) → Waits (map_of t b) u d → ⊥
+unfoldable pub NearestIs : Table → List ℕ → Option Nearest → Type 0
+NearestIs t b (Some x) = Place t b x.vertex x.slot × Foremost (map_of t b) x.vertex x.distance
+NearestIs t b None = (u d : ℕ) → Waits (map_of t b) u d → ⊥

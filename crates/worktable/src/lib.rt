@@ -19,7 +19,7 @@ ghost use Rattle.worktable.specs.Table.{map_of, InOrder, Holds, Place, Gives, Fo
 use table_bytes::{next, set_next, set_word, tree, word};
 use table_records::{distance_in, pack, sort, spread};
 use table_tree::{
-    VACANT, build, change_word, cut, lesser, link, lower_word, mask_of, plant, spare, vertex_in,
+    VACANT, build, change_word, cut, link, lower_word, mask_of, plant, spare, vertex_in,
 };
 
 const SETTLED: u64 = 0x8000_0000_0000_0000;
@@ -35,12 +35,6 @@ pub struct Table {
     free: usize,
 }
 
-#[derive(Clone, Copy)]
-pub enum Found {
-    At(usize),
-    Absent,
-}
-
 // What a vertex has after a look at it: no entry, one that stays, or a spent one at its slot, for the caller to drop.
 #[derive(Clone, Copy)]
 pub enum Passed {
@@ -49,11 +43,12 @@ pub enum Passed {
     Spent(usize),
 }
 
-// Slot, vertex, distance.
+// An entry that waits: its slot, its vertex, its distance.
 #[derive(Clone, Copy)]
-pub enum Nearest {
-    At(usize, usize, u32),
-    Nothing,
+pub struct Nearest {
+    pub slot: usize,
+    pub vertex: usize,
+    pub distance: u32,
 }
 
 // The mask of the buckets of a table with that room.
@@ -73,7 +68,7 @@ pub fn start(b: &[u8], n: usize) -> Table
     ensures { Holds result b.now empty × (result.room ≡ min (length b.now / 16) (min n 65536)) }
 {
     let r = b.len() / 16;
-    let room = lesser(r, lesser(n, 65536));
+    let room = r.min(n.min(65536));
     Table {
         slots: r,
         room: room,
@@ -99,35 +94,39 @@ pub fn free(b: &[u8], t: Table) -> usize
     t.room - t.capacity + t.free
 }
 
-// The slot of vertex u.
-pub fn find(b: &[u8], t: Table, u: usize) -> Found
+// The slot of vertex u, if it has one.
+pub fn find(b: &[u8], t: Table, u: usize) -> Option<usize>
     requires { InOrder t b.now }
     ensures { FoundIs t b.now u result }
 {
     if t.capacity == 0 {
-        return Found::Absent;
+        return None;
     }
     let s = table_tree::find(b, t.slots, t.capacity, t.mask, u);
     if s == t.capacity {
-        return Found::Absent;
+        return None;
     }
-    Found::At(s)
+    Some(s)
 }
 
 // The unsettled vertex with the least distance, by number among equals.
-pub fn least(b: &[u8], t: Table) -> Nearest
+pub fn least(b: &[u8], t: Table) -> Option<Nearest>
     requires { InOrder t b.now }
     ensures { NearestIs t b.now result }
 {
     if t.capacity == 0 {
-        return Nearest::Nothing;
+        return None;
     }
     let s = tree(b, t.slots, 1);
     let w = word(b, t.slots, s);
     if w < 0x7FFF_FFF0_0000_0000 {
-        return Nearest::At(s, vertex_in(w), distance_in(w));
+        return Some(Nearest {
+            slot: s,
+            vertex: vertex_in(w),
+            distance: distance_in(w),
+        });
     }
-    Nearest::Nothing
+    None
 }
 
 // The fields side by side.
@@ -135,7 +134,7 @@ fn word_of(u: usize, d: u32, n: u32) -> u64
     requires { (u < 65536) × (n < remaining_limit) }
     ensures { result ≡ word_of u d n }
 {
-    let k = lesser(d as usize, 134217727);
+    let k = d.min(134217727);
     (k as u64) * 68719476736 + (u as u64) * 1048576 + (n as u64)
 }
 
@@ -164,7 +163,7 @@ fn larger(capacity: usize, room: usize) -> usize
 {
     let most = room - room / 16;
     if capacity < most {
-        return lesser(most, 2 * capacity + 64);
+        return most.min(2 * capacity + 64);
     }
     room
 }
@@ -228,7 +227,7 @@ pub fn pass(b: &mut [u8], t: Table, u: usize, offer: u32, allowed: u32) -> Passe
     ensures gives { Gives t t b.old b.new (put (map_of t b.old) u (touched offer (map_of t b.old u))) }
     ensures passed_is { PassedIs allowed t b.new u (touched offer (map_of t b.old u)) result }
 {
-    let Found::At(s) = find(b, t, u) else {
+    let Some(s) = find(b, t, u) else {
         return Passed::Absent;
     };
     let w = word(b, t.slots, s) - 1;
@@ -251,7 +250,7 @@ pub fn look(b: &[u8], t: Table, u: usize, allowed: u32) -> Passed
     requires { InOrder t b.now × (allowed < distance_limit) }
     ensures { PassedIs allowed t b.now u (map_of t b.now u) result }
 {
-    let Found::At(s) = find(b, t, u) else {
+    let Some(s) = find(b, t, u) else {
         return Passed::Absent;
     };
     let w = word(b, t.slots, s);

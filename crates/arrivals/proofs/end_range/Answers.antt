@@ -1,21 +1,17 @@
 -- `arrivals::end_range` meets its contract: the step is over for the blocks below the one to come. Assumes nothing.
-use mathlib.Core.Path.{◌≡◌, refl, sym, ap, subst, ◌∙◌}
-use Prim.Native.Nat.{ℕ, suc, ◌+◌, ◌-◌, ◌*◌, ◌≤◌, ◌<◌}
+use mathlib.Core.Path.{◌≡◌, refl, sym, ap, ◌∙◌}
+use Prim.Native.Nat.{ℕ, suc, ◌+◌, ◌*◌, ◌≤◌, ◌<◌}
 use native.Mathlib.Omega.{arith}
-use lib.ListN.{length, replicate}
 use Rattle.passing.specs.Row.{passes}
 use Rattle.directed.specs.Directed.{row_in}
 use Rattle.worktable.specs.Map.{Map, size}
 use Rattle.worktable.specs.Table.{map_of}
 use Rattle.meeting.specs.Passing.{leaving}
-use Rattle.meeting.specs.Answer.{Leads}
 use Rattle.meeting.proofs.Leading.{leads-here, leads-same, leads-on, fits-leads, none-fits}
 use Rattle.blocks.specs.Block.{over}
 use Rattle.surveys.proofs.BlockByBlock.{gap-none}
 use Rattle.arrivals.specs.Range.{over_to, RangeIs}
 use Rattle.arrivals.proofs.BlocksAreStep as bs
-use Rattle.directed.proofs.Either.{numbered}
-use borrow.Author.Rules.{rules}
 use Rattle.arrivals.proofs.end_range.Goals as goal
 
 pub loop-block-init : goal.loop-block-init
@@ -47,9 +43,8 @@ end_block-requires c =
       L.invariant.3,
     )
 
-pub returns-in_default : goal.returns-in_default
-unfolding RangeIs
-returns-in_default c =
+pub returns-in_err-table : goal.returns-in_err-table
+returns-in_err-table c =
     let a = c.args in
     let L = c.loop-block in
     let R = row_in a.vertices.now a.walks.now a.hops.now a.list.now a.row in
@@ -58,8 +53,8 @@ returns-in_default c =
     let w = L.invariant.2 in
     let x = c.end_block in
     let e = ap (over R n L.block) w.holds.map ∙ bs.range-next R n m a.first L.block L.invariant.0 in
-    let z = none-fits L.table x.new.held (over R n L.block (map_of L.table L.held)) x.ensures.0 c.in_default.is in
-    ((suc L.block, omega (arith, L.invariant.0), omega (arith, c.loop-block-test.true), omega (arith, z, w.room, ap size e)), x.ensures.1)
+    let z = none-fits L.table x.new.held (over R n L.block (map_of L.table L.held)) x.ensures.0 c.in_err-table.was in
+    (bs.range-lacks R n a.first a.end a.t x.new.held m (suc L.block, omega (arith, L.invariant.0), omega (arith, c.loop-block-test.true), omega (arith, z, w.room, ap size e)) c.from_residual.ensures, x.ensures.1)
 
 pub loop-block-preserved : goal.loop-block-preserved
 loop-block-preserved c =
@@ -75,7 +70,7 @@ loop-block-preserved c =
     let none : (u : ℕ) → 2048 * suc b ≤ u → u < 2048 * r → leaving R u n ≡ 0 =
     λ u p q. gap-none a.vertices.now a.walks.now a.hops.now a.list.now a.row (b + 1) r x.2 u (omega arith) q in
     let w = L.invariant.2 in
-    let k = fits-leads {m = over R n b (map_of L.table L.held)} v.ensures.0 c.in-Fits.is in
+    let k = fits-leads {m = over R n b (map_of L.table L.held)} v.ensures.0 c.in_ok-table.was in
     let e = ap (over R n b) w.holds.map ∙ bs.range-next R n m a.first b L.invariant.0 ∙ bs.range-gap R n m a.first (suc b) r (omega (arith, x.0)) none in
     (omega (arith, L.invariant.0, x.0), x.1, leads-on w (leads-same k e), v.ensures.1, v.auto.held ∙ L.invariant.4, v.auto.counters ∙ L.invariant.5)
 

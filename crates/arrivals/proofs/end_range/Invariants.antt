@@ -1,20 +1,11 @@
-use mathlib.Core.Path.{◌≡◌, refl, sym, ap, subst, ◌∙◌}
-use Prim.Native.Nat.{ℕ, suc, ◌+◌, ◌-◌, ◌*◌, ◌≤◌, ◌<◌}
-use native.Mathlib.Omega.{arith}
+use mathlib.Core.Path.{◌≡◌}
+use Prim.Native.Nat.{◌-◌, ◌≤◌}
 use lib.ListN.{length, replicate}
 use Rattle.passing.specs.Row.{passes}
 use Rattle.directed.specs.Directed.{row_in}
-use Rattle.worktable.specs.Map.{Map, size}
 use Rattle.worktable.specs.Table.{map_of}
-use Rattle.meeting.specs.Passing.{leaving}
 use Rattle.meeting.specs.Answer.{Leads}
-use Rattle.meeting.proofs.Leading.{leads-here, leads-same, leads-on, fits-leads, none-fits}
-use Rattle.blocks.specs.Block.{over}
-use Rattle.surveys.proofs.BlockByBlock.{gap-none}
-use Rattle.arrivals.specs.Range.{over_to, RangeIs}
-use Rattle.arrivals.proofs.BlocksAreStep as bs
-use Rattle.directed.proofs.Either.{numbered}
-use borrow.Author.Rules.{rules}
+use Rattle.arrivals.specs.Range.{over_to}
 use Rattle.arrivals.proofs.end_range.Given as goal
 
 abbrev pub invariant-loop-block : goal.invariant-loop-block

@@ -7,13 +7,11 @@ use borrow.Author.Tests.{leb-true}
 use Rattle.journeys.proofs.Counting.{count_most}
 use Rattle.passing.specs.Row.{passes}
 use Rattle.directed.specs.Directed.{row_in}
-use Rattle.directed.proofs.Either.{numbered, few}
 use Rattle.worktable.specs.Table.{map_of}
 use Rattle.meeting.specs.Passing.{futile}
 use Rattle.meeting.proofs.Leading.{here-room}
 use Rattle.meeting.proofs.Loops.{from_low}
 use Rattle.meeting.proofs.Space.{few-comers, every-vertex}
-use borrow.Author.Rules.{rules}
 use Rattle.arrivals.proofs.suffices.Goals as goal
 
 pub returns-then-vertices-room : goal.returns-then-vertices-room

@@ -1,10 +1,7 @@
 -- `audit::hops_ok` meets its contract: the size decides before the table is asked. Assumes nothing.
-use mathlib.Core.Path.{sym, ◌∙◌}
-use Prim.Native.Nat.{◌<◌}
-use native.Mathlib.Omega.{arith}
+use mathlib.Core.Path.{sym}
 use Rattle.journeys.specs.Refusals.{hop_size_ok, table_of}
 use Rattle.journeys.proofs.Tests.{and_left}
-use Rattle.journeys.proofs.Valid.{of-sizes}
 use Rattle.audit.proofs.hops_ok.Goals as goal
 
 pub returns-then-size : goal.returns-then-size

@@ -1,13 +1,12 @@
 -- `audit::judge` meets its contract: what is left of the scan gives the answer of the whole. Assumes nothing.
 use mathlib.Core.Path.{◌≡◌, sym, ap, ◌∙◌}
-use Prim.Native.Nat.{◌+◌, ◌-◌, ◌≤◌}
+use Prim.Native.Nat.{◌+◌, ◌-◌}
 use native.Mathlib.Nat.{sub-zero, add-zero}
 use Rattle.journeys.specs.Tables.{tables_of}
 use Rattle.journeys.specs.Refusals.{vertex_ok, first_from}
 use Rattle.records.proofs.Answered.{good-vertex, bad-vertex}
 use Rattle.audit.specs.Judging.{vertex_refusals}
 use Rattle.audit.proofs.Scan.{refusing, scan_step, scan-stop, scan-end}
-use borrow.Author.Rules.{rules}
 use native.Mathlib.Omega.{arith}
 use Rattle.audit.proofs.judge.Goals as goal
 
@@ -28,7 +27,7 @@ unfolding vertex_refusals
 loop-k-preserved c =
     let loop = c.loop-k in
     let a = c.args in
-    let good = good-vertex (tables_of a.hop_size a.vertices.now a.walks.now a.hops.now) (a.base + loop.k) c.read_vertex.ensures c.in-Good.is in
+    let good = good-vertex (tables_of a.hop_size a.vertices.now a.walks.now a.hops.now) (a.base + loop.k) c.read_vertex.ensures c.in-Ok.is in
     let e : a.base + loop.k + 1 ≡ a.base + (loop.k + 1) = omega arith in (
       omega arith,
       ap (first_from (refusing 6 (vertex_ok (tables_of a.hop_size a.vertices.now a.walks.now a.hops.now))) (a.low - (loop.k + 1))) (sym e)
@@ -41,4 +40,4 @@ unfolding vertex_refusals
 returns c =
     let loop = c.loop-k in
     let a = c.args in
-    c.fine.ensures ∙ sym (scan-end 6 (vertex_ok (tables_of a.hop_size a.vertices.now a.walks.now a.hops.now)) (a.low - loop.k) (a.base + loop.k) (omega arith)) ∙ loop.invariant.1
+    sym (scan-end 6 (vertex_ok (tables_of a.hop_size a.vertices.now a.walks.now a.hops.now)) (a.low - loop.k) (a.base + loop.k) (omega arith)) ∙ loop.invariant.1

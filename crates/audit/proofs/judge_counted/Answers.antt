@@ -1,14 +1,13 @@
 -- `audit::judge_counted` meets its contract: what is left of the scan gives the answer of the whole. Assumes nothing.
-use mathlib.Core.Path.{◌≡◌, sym, ap, ◌∙◌}
-use Prim.Native.Nat.{◌+◌, ◌-◌, ◌/◌, ◌<◌, ◌≤◌}
+use mathlib.Core.Path.{sym, ◌∙◌}
+use Prim.Native.Nat.{◌+◌, ◌-◌, ◌/◌, ◌<◌}
 use native.Mathlib.Nat.{sub-zero}
 use lib.ListN.{length}
 use Rattle.journeys.specs.Tables.{tables_of, vertex_at}
-use Rattle.journeys.specs.Refusals.{vertex_ok, first_from}
+use Rattle.journeys.specs.Refusals.{vertex_ok}
 use Rattle.records.proofs.Answered.{good-vertex, bad-vertex}
 use Rattle.audit.specs.Judging.{vertex_refusals}
-use Rattle.audit.proofs.Scan.{refusing, scan_step, scan-stop, scan-end}
-use borrow.Author.Rules.{rules}
+use Rattle.audit.proofs.Scan.{scan_step, scan-stop, scan-end}
 use native.Mathlib.Omega.{arith}
 use Rattle.audit.proofs.judge_counted.Goals as goal
 
@@ -42,7 +41,7 @@ loop-v-preserved c =
     let a = c.args in
     let N = tables_of a.hop_size a.vertices.now a.walks.now a.hops.now in
     let n = length a.vertices.now / 12 in
-    let good = good-vertex N c.loop-v.v c.read_vertex.ensures c.in-Good.is in
+    let good = good-vertex N c.loop-v.v c.read_vertex.ensures c.in-Ok.is in
     (omega arith, sym (scan_step 6 (vertex_ok N) (n - c.loop-v.v) (n - (c.loop-v.v + 1)) c.loop-v.v (omega arith) good) ∙ c.loop-v.invariant.1)
 
 pub returns : goal.returns
@@ -50,4 +49,4 @@ unfolding vertex_refusals
 returns c =
     let a = c.args in
     let n = length a.vertices.now / 12 in
-    c.fine.ensures ∙ sym (scan-end 6 (vertex_ok (tables_of a.hop_size a.vertices.now a.walks.now a.hops.now)) (n - c.loop-v.v) c.loop-v.v (omega arith)) ∙ c.loop-v.invariant.1
+    sym (scan-end 6 (vertex_ok (tables_of a.hop_size a.vertices.now a.walks.now a.hops.now)) (n - c.loop-v.v) c.loop-v.v (omega arith)) ∙ c.loop-v.invariant.1

@@ -2,7 +2,6 @@
 use mathlib.Core.Path.{◌∙◌}
 use Rattle.journeys.specs.Refusals.{table_lengths, or_else, unless}
 use borrow.Author.Tests.{not-true, not-false}
-use borrow.Author.Rules.{rules}
 use Rattle.audit.proofs.lengths.Goals as goal
 
 pub returns-then-not-table_ok : goal.returns-then-not-table_ok
@@ -19,4 +18,4 @@ returns-then-not-hops_ok c = c.refused-then-not-hops_ok.ensures ∙ simp (← c.
 
 pub returns : goal.returns
 unfolding table_lengths or_else unless
-returns c = c.fine.ensures ∙ simp (← c.table_ok.ensures, not-false c.table_ok.result c.if-not-table_ok.false-raw, ← c.table_ok-2.ensures, not-false c.table_ok-2.result c.if-not-table_ok-2.false-raw, ← c.hops_ok.ensures, not-false c.hops_ok.result c.if-not-hops_ok.false-raw)
+returns c = simp (← c.table_ok.ensures, not-false c.table_ok.result c.if-not-table_ok.false-raw, ← c.table_ok-2.ensures, not-false c.table_ok-2.result c.if-not-table_ok-2.false-raw, ← c.hops_ok.ensures, not-false c.hops_ok.result c.if-not-hops_ok.false-raw)

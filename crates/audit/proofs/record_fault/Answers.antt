@@ -8,7 +8,6 @@ use Rattle.records.specs.Arriving.{size_of}
 use Rattle.records.proofs.Answered.{good-walk, bad-walk, good-hop, bad-hop}
 use Rattle.audit.specs.Judging.{record_fault}
 use native.Mathlib.Omega.{arith}
-use borrow.Author.Rules.{rules}
 use Rattle.audit.proofs.record_fault.Goals as goal
 
 pub read_walk-requires : goal.read_walk-requires
@@ -34,16 +33,16 @@ returns-in_default-read_hop c =
     let N = tables_of a.size a.vertices.now [] a.table.now in
     rw c.in-Hops.is (c.refused-in_default-read_hop.ensures ∙ sym (unless-bad (hop_ok N a.i) 3 a.i (bad-hop N a.i c.read_hop.ensures c.in_default-read_hop.is)))
 
-pub returns-in-Good : goal.returns-in-Good
+pub returns-in-Ok : goal.returns-in-Ok
 unfolding record_fault
-returns-in-Good c =
+returns-in-Ok c =
     let a = c.args in
     let N = tables_of 16 a.vertices.now a.table.now [] in
-    rw c.in-Walks.is (c.fine.ensures ∙ sym (unless-good (walk_ok N a.i) 2 a.i (good-walk N a.i c.read_walk.ensures c.in-Good.is)))
+    rw c.in-Walks.is (sym (unless-good (walk_ok N a.i) 2 a.i (good-walk N a.i c.read_walk.ensures c.in-Ok.is)))
 
-pub returns-in-Good-read_hop : goal.returns-in-Good-read_hop
+pub returns-in-Ok-read_hop : goal.returns-in-Ok-read_hop
 unfolding record_fault
-returns-in-Good-read_hop c =
+returns-in-Ok-read_hop c =
     let a = c.args in
     let N = tables_of a.size a.vertices.now [] a.table.now in
-    rw c.in-Hops.is (c.fine-in-Hops.ensures ∙ sym (unless-good (hop_ok N a.i) 3 a.i (good-hop N a.i c.read_hop.ensures c.in-Good-read_hop.is)))
+    rw c.in-Hops.is (sym (unless-good (hop_ok N a.i) 3 a.i (good-hop N a.i c.read_hop.ensures c.in-Ok-read_hop.is)))

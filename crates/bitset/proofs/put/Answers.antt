@@ -1,9 +1,7 @@
 -- `bitset::put` meets its contract: adding a power sets one bit that was not set. Assumes nothing.
 use Rattle.marks.proofs.Bits.{is-marked, mark-fits, mark-sets, marked-again, power-above-zero}
 use Rattle.bitset.proofs.Joins.{bits-joined}
-use Prim.Native.Nat.{◌/◌}
 use native.Mathlib.Omega.{arith}
-use borrow.Author.Rules.{rules}
 use Rattle.bitset.proofs.put.Goals as goal
 
 pub nonzero_div-set : goal.nonzero_div-set

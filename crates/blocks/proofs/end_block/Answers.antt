@@ -1,6 +1,5 @@
 -- `blocks::end_block` meets its contract: noted, swept and added is the block of the step. Assumes nothing.
 use mathlib.Core.Path.{ap, ◌∙◌}
-use native.Mathlib.Omega.{arith}
 use Rattle.passing.specs.Row.{passes}
 use Rattle.directed.specs.Directed.{row_in}
 use Rattle.worktable.specs.Table.{map_of}
@@ -8,8 +7,6 @@ use Rattle.meeting.specs.Passing.{goes}
 use Rattle.blocks.specs.Block.{adds}
 use Rattle.blocks.proofs.BlockOfStep.{block-done, block-news}
 use Rattle.blocks.proofs.NextRecord as nx
-use Rattle.directed.proofs.Either.{numbered, allowed-low}
-use borrow.Author.Rules.{rules}
 use Rattle.blocks.proofs.end_block.Goals as goal
 
 pub add-ended-requires : goal.add-ended-requires

@@ -1,13 +1,12 @@
 -- `blocks::lacks_slot` meets its contract: only a new vertex asks for a slot. Assumes nothing.
 use mathlib.Core.Path.{sym, ap, ◌∙◌}
-use mathlib.Core.Bool.{Bool, ◌&&◌}
+use mathlib.Core.Bool.{◌&&◌}
 use Prim.Native.Nat.{ℕ, ◌-◌}
 use lib.Dec.{eqb}
 use Rattle.worktable.specs.Map.{size}
 use Rattle.worktable.specs.Table.{map_of}
 use Rattle.worktable.specs.declared.Passed.{Passed}
 use Rattle.blocks.specs.Lack.{is_new}
-use borrow.Author.Rules.{rules}
 use Rattle.blocks.proofs.lacks_slot.Goals as goal
 
 pub returns-in-Absent : goal.returns-in-Absent

@@ -1,18 +1,16 @@
 -- `blocks::note_new` meets its contract: the counters are those after the first j records. Assumes nothing.
-use mathlib.Core.Path.{◌≡◌, refl, ap, ◌∙◌}
+use mathlib.Core.Path.{refl, ◌∙◌}
 use mathlib.Core.Bool.{◌&&◌}
-use Prim.Native.Nat.{ℕ, ◌-◌, ◌/◌, ◌%◌, ◌≤◌, ◌<◌}
+use Prim.Native.Nat.{◌-◌, ◌%◌}
 use native.Mathlib.Omega.{arith}
 use lib.Dec.{eqb}
-use lib.ListN.{length, get_or}
+use lib.ListN.{get_or}
 use Rattle.passing.specs.Row.{passes}
 use Rattle.directed.specs.Directed.{row_in}
-use Rattle.directed.proofs.Either.{numbered, few}
 use Rattle.worktable.specs.Table.{map_of}
 use Rattle.meeting.specs.Passing.{missing}
 use Rattle.blocks.specs.Block.{chance, noting}
 use Rattle.blocks.proofs.NextRecord as nx
-use borrow.Author.Rules.{rules}
 use Rattle.blocks.proofs.note_new.Goals as goal
 
 pub loop-j-init : goal.loop-j-init

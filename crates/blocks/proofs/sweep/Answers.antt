@@ -1,15 +1,11 @@
 -- `blocks::sweep` meets its contract, record by record. Assumes nothing.
 use mathlib.Core.Path.{refl}
 use mathlib.Core.Bool.{cond}
-use Prim.Native.Nat.{ℕ, ◌-◌}
-use native.Mathlib.Omega.{arith}
+use Prim.Native.Nat.{◌-◌}
 use Rattle.directed.specs.Directed.{near_of}
 use Rattle.worktable.specs.Map.{swept}
 use Rattle.meeting.proofs.Loops as lo
-use Rattle.meeting.proofs.Loops.{Went}
-use Rattle.blocks.specs.Block.{in_block, sweeps}
-use Rattle.directed.proofs.Either.{few}
-use borrow.Author.Rules.{rules}
+use Rattle.blocks.specs.Block.{in_block}
 use Rattle.blocks.proofs.sweep.Goals as goal
 
 pub loop-j-init : goal.loop-j-init

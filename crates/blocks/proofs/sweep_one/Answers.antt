@@ -9,7 +9,6 @@ use Rattle.worktable.proofs.MapLaws.{swept-spent, swept_kept}
 use Rattle.worktable.proofs.PassLaws.{passed-absent, passed-kept, passed-spent}
 use Rattle.meeting.proofs.Leading as le
 use Rattle.blocks.proofs.NextRecord as nx
-use borrow.Author.Rules.{rules}
 use Rattle.blocks.proofs.sweep_one.Goals as goal
 
 pub drop-requires : goal.drop-requires

@@ -1,5 +1,4 @@
 use Rattle.frame.proofs.SixWords.{six-numbers}
-use borrow.Author.Rules.{rules}
 use Rattle.calls.proofs.put_answer.Goals as goal
 
 pub returns : goal.returns

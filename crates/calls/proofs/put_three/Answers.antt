@@ -1,5 +1,4 @@
 use Rattle.calls.proofs.ThreeWords.{three-numbers}
-use borrow.Author.Rules.{rules}
 use Rattle.calls.proofs.put_three.Goals as goal
 
 pub returns : goal.returns

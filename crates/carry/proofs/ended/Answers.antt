@@ -1,6 +1,5 @@
 -- `ended`: a timed stop is no such end.
-use borrow.Author.Rules.{rules}
-use mathlib.Core.Path.{◌≡◌, refl, sym, ap, ◌∙◌}
+use mathlib.Core.Path.{sym, ◌∙◌}
 use Rattle.journeys.proofs.Tests.{cond-true, cond-false}
 use Rattle.carry.specs.Carried as spec
 use Rattle.carry.proofs.ended.Goals as goal

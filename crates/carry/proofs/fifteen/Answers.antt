@@ -1,6 +1,5 @@
 -- `fifteen`: the line is told if trip and sequence are those of the stop before.
-use borrow.Author.Rules.{rules}
-use mathlib.Core.Path.{◌≡◌, refl, sym, ap, ap₂, ◌∙◌}
+use mathlib.Core.Path.{◌≡◌, refl, ◌∙◌}
 use mathlib.Core.Bool.{Bool, cond, ◌&&◌}
 use Prim.Native.Nat.{ℕ, min}
 use lib.Dec.{eqb}

@@ -1,6 +1,5 @@
 -- `latest`: a timed stop is the last one.
-use borrow.Author.Rules.{rules}
-use mathlib.Core.Path.{◌≡◌, refl, sym, ap, ◌∙◌}
+use mathlib.Core.Path.{sym, ◌∙◌}
 use Rattle.journeys.proofs.Tests.{cond-true, cond-false}
 use Rattle.carry.specs.Carried as spec
 use Rattle.carry.proofs.latest.Goals as goal

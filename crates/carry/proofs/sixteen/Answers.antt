@@ -1,6 +1,5 @@
 -- `sixteen`: first the stop before, then this one.
-use borrow.Author.Rules.{rules}
-use mathlib.Core.Path.{◌≡◌, refl, sym, ap, ap₂, ◌∙◌}
+use mathlib.Core.Path.{◌≡◌, refl, ◌∙◌}
 use mathlib.Core.Bool.{Bool, cond}
 use Prim.Native.Nat.{ℕ, min}
 use Rattle.journeys.specs.Counting.{none}

@@ -1,15 +1,12 @@
-use Prim.Native.Nat.{◌-◌, ◌/◌, ◌≤◌}
-use native.Mathlib.Omega.{arith}
-use lib.ListN.{length}
-use borrow.Author.Rules.{rules}
-use Rattle.parts.proofs.Laws.{listed-is}
-use Rattle.covering.specs.Covering.{entry_in}
-use Rattle.covering.proofs.Entries.{Going, over-same, no-first, go-start, go-room, go_same, go-next, go-full, go-done}
+-- Whatever each call lists, the parts of the entries passed stand behind those of step 0. Assumes nothing.
+use Rattle.std.proofs.Common.{List, ℕ, ◌/◌, ◌≤◌, length}
+use Rattle.journeys.specs.Parts.{Part}
+use Rattle.parts.specs.Listing.{ListedIs}
+use Rattle.covering.specs.Covering.{Lists}
+use Rattle.covering.proofs.Entries.{Going}
 use Rattle.covering.proofs.cover.Given as goal
 
 abbrev pub invariant-loop-i : goal.invariant-loop-i
-invariant-loop-i l =
-    Going (entry_in l.courier l.hop_size l.vertices l.walks l.hops l.records l.list l.road l.allowed.0) l.initial.parts l.first l.parts l.count l.i × (l.i ≤ length l.list / 8)
-
-abbrev pub decreases-loop-i : goal.decreases-loop-i
-decreases-loop-i l = length l.list / 8 - l.i
+invariant-loop-i g l =
+    (l.count ≤ length l.parts / 12)
+    × ((b : List ℕ) (step : List Part) (f : ℕ → List Part) → ListedIs 0 step b l.initial.parts l.fn.first → Lists f l.n (goal.F-post g l.entry) → Going f l.initial.parts l.known l.parts l.count l.i)

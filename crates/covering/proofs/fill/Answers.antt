@@ -1,6 +1,4 @@
 use mathlib.Core.Path.{refl}
-use native.Mathlib.Omega.{arith}
-use borrow.Author.Rules.{rules}
 use Rattle.words.proofs.Rest.{rest-cleared}
 use Rattle.covering.proofs.fill.Goals as goal
 

@@ -1,5 +1,4 @@
 use mathlib.Core.Path.{◌∙◌}
-use borrow.Author.Rules.{rules}
 use Rattle.covering.proofs.FirstFault.{list-cut, parts_cut, none-cut}
 use Rattle.covering.proofs.lengths.Goals as goal
 
@@ -10,4 +9,4 @@ pub returns-then-parts-ne0 : goal.returns-then-parts-ne0
 returns-then-parts-ne0 c = c.refused-then-parts-ne0.ensures ∙ parts_cut _ _ c.if-list-ne0.false c.if-parts-ne0.true
 
 pub returns : goal.returns
-returns c = c.fine.ensures ∙ none-cut _ _ c.if-list-ne0.false c.if-parts-ne0.false
+returns c = none-cut _ _ c.if-list-ne0.false c.if-parts-ne0.false

@@ -1,6 +1,4 @@
-use native.Mathlib.Omega.{arith}
-use borrow.Author.Rules.{rules}
-use Rattle.covering.proofs.Entries.{first_fits, run_fits, entry_listed}
+use Rattle.covering.proofs.Entries.{entry_listed}
 use Rattle.covering.proofs.list_entry.Goals as goal
 
 pub returns : goal.returns

@@ -1,5 +1,4 @@
 use native.Mathlib.Omega.{arith}
-use borrow.Author.Rules.{rules}
 use Rattle.covering.proofs.Entries.{stretch-in, stretch-fits, ahead-listed}
 use Rattle.covering.proofs.list_entry_ahead.Goals as goal
 

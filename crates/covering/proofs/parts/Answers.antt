@@ -1,28 +1,57 @@
--- `parts`: what is refused leaves the buffer as it was; the rest is answered as in either direction. Assumes nothing.
+-- `parts`: what is refused leaves the buffer as it was; the rest is listed entry by entry. Assumes nothing.
 use borrow.Author.Rules.{rules}
-use mathlib.Core.Path.{ap, ◌∙◌}
+use native.Mathlib.Omega.{arith}
+use mathlib.Core.Path.{refl, ap, ◌∙◌}
+use Rattle.std.proofs.lemmas.Result.{err_from_is_err_and}
 use Rattle.records.specs.Asked.{query_of}
-use Rattle.intake.proofs.RefusalOrder.{fine-so-far}
-use Rattle.covering.specs.Lending.{parts_lent, parts_answer_of}
-use Rattle.covering.specs.declared.PartsAnswer.{PartsAnswer}
-use Rattle.covering.proofs.Accepting.{ordinary-refused, ordinary-accepted, ordinary-answer}
+use Rattle.words.proofs.Chains.{kept, refuses, passes}
+use Rattle.covering.specs.Covering.{entry_on}
+use Rattle.covering.specs.Lending.{parts_lent, parts_answer_of, count_in}
+use Rattle.parts.specs.Listing.{first_on}
+use Rattle.covering.proofs.Accepting.{ordinary-refused, ordinary-road, ordinary-query, ordinary-ready, ordinary-ends, ordinary-as}
+use Rattle.covering.proofs.Entries.{room-kept}
 use Rattle.covering.proofs.parts.Goals as goal
 
-pub returns-then-found-ne0 : goal.returns-then-found-ne0
-returns-then-found-ne0 c =
+pub returns-in_err-fault : goal.returns-in_err-fault
+returns-in_err-fault c =
     let b = parts_lent c.args.vertices.now c.args.walks.now c.args.hops.now c.args.hop_size c.args.list.now c.args.parts.now in
-    ap (λ (r : PartsAnswer). parts_answer_of r c.args.parts.now) c.refusal.ensures ∙ ordinary-refused b (query_of c.args.q) _ c.fault-found.ensures c.if-found-ne0.true
+    let p = err_from_is_err_and c.from_residual.result c.from_residual.ensures.1 in
+    ordinary-refused b (query_of c.args.q) c.from_residual.result (kept _ c.in_err-fault.was c.from_residual.ensures ∙ c.fault.ensures) (ap count_in p.1) (refuses c.in_err-fault.was c.fault.ensures)
 
-pub answer-requires : goal.answer-requires
-answer-requires c =
+pub read_road-road-requires : goal.read_road-road-requires
+read_road-road-requires c =
     let b = parts_lent c.args.vertices.now c.args.walks.now c.args.hops.now c.args.hop_size c.args.list.now c.args.parts.now in
-    let Q = query_of c.args.q in
-    let e = fine-so-far _ c.fault-found.ensures c.if-found-ne0.false in
-    ordinary-accepted b Q e _
+    ordinary-road b (query_of c.args.q) (passes c.in_ok-fault.was c.fault.ensures)
+
+pub allowed-allowed-requires : goal.allowed-allowed-requires
+allowed-allowed-requires c =
+    let b = parts_lent c.args.vertices.now c.args.walks.now c.args.hops.now c.args.hop_size c.args.list.now c.args.parts.now in
+    ordinary-query b (query_of c.args.q) (passes c.in_ok-fault.was c.fault.ensures)
+
+pub cover-covered-requires : goal.cover-covered-requires
+cover-covered-requires c =
+    let a = c.args in
+    let b = parts_lent a.vertices.now a.walks.now a.hops.now a.hop_size a.list.now a.parts.now in
+    let R = ordinary-ready b (query_of a.q) (passes c.in_ok-fault.was c.fault.ensures) c.read_road-road.result c.read_road-road.ensures c.allowed-allowed.result.0 c.allowed-allowed.ensures in
+    record {
+      room = room-kept 0 _ _ _ _ (omega arith) c.list_first-first.ensures;
+      callable = λ p count i h l. let s = R.here refl i l in let few = R.few in let fast = R.speed in search rules;
+      keeps = λ p p' count i r h l x. room-kept count (entry_on a.vertices.now a.walks.now a.list.now c.read_road-road.result c.allowed-allowed.result.0 i) p.now p'.now r h (search rules);
+    }
+
+pub finish-requires : goal.finish-requires
+finish-requires c =
+    let a = c.args in
+    let b = parts_lent a.vertices.now a.walks.now a.hops.now a.hop_size a.list.now a.parts.now in
+    ordinary-ends b (query_of a.q) (passes c.in_ok-fault.was c.fault.ensures) c.read_road-road.result c.read_road-road.ensures c.allowed-allowed.result.0 c.allowed-allowed.ensures _ c.cover-covered.result
+    (c.cover-covered.ensures a.parts.now (first_on c.read_road-road.result c.allowed-allowed.result.0) (entry_on a.vertices.now a.walks.now a.list.now c.read_road-road.result c.allowed-allowed.result.0) c.list_first-first.ensures
+    (λ p p' count i r l x. search rules))
 
 pub returns : goal.returns
 returns c =
-    let b = parts_lent c.args.vertices.now c.args.walks.now c.args.hops.now c.args.hop_size c.args.list.now c.args.parts.now in
-    let Q = query_of c.args.q in
-    let e = fine-so-far _ c.fault-found.ensures c.if-found-ne0.false in
-    c.answer.ensures ∙ ordinary-answer b Q e
+    let a = c.args in
+    let b = parts_lent a.vertices.now a.walks.now a.hops.now a.hop_size a.list.now a.parts.now in
+    ordinary-as b (query_of a.q) (passes c.in_ok-fault.was c.fault.ensures) c.read_road-road.result c.read_road-road.ensures c.allowed-allowed.result.0 c.allowed-allowed.ensures _ c.cover-covered.result
+    (c.cover-covered.ensures a.parts.now (first_on c.read_road-road.result c.allowed-allowed.result.0) (entry_on a.vertices.now a.walks.now a.list.now c.read_road-road.result c.allowed-allowed.result.0) c.list_first-first.ensures
+    (λ p p' count i r l x. search rules))
+    (parts_answer_of c.finish.result c.finish.new.parts) c.finish.ensures

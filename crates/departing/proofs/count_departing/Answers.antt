@@ -7,7 +7,6 @@ use Rattle.departing.specs.Scratch.{Outside, Counted}
 use Rattle.departing.proofs.Ranges.{noted-kept, outside-then}
 use Rattle.departing.proofs.Counters.{counted_same, zeroed, zeroed-outside}
 use native.Mathlib.Omega.{arith}
-use borrow.Author.Rules.{rules}
 use Rattle.departing.proofs.count_departing.Goals as goal
 use Rattle.departing.proofs.count_departing.Goals.{After-count_block-low, After-zero}
 

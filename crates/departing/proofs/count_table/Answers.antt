@@ -1,11 +1,8 @@
 -- `departing::count_table` meets its contract: the records before the range and behind it leave none of these vertices. Assumes nothing.
 use mathlib.Core.Path.{◌≡◌, refl, ap, ◌∙◌}
-use Prim.Native.Nat.{ℕ, ◌+◌, ◌-◌, ◌≤◌}
-use lib.ListN.{length}
-use Rattle.departing.specs.Scratch.{Outside, Counted}
+use Prim.Native.Nat.{ℕ, ◌+◌}
 use Rattle.departing.proofs.Ranges.{outside-then}
 use Rattle.departing.proofs.Counters.{counted_same, leaving_to, none_before, none-behind, leaving-more}
-use borrow.Author.Rules.{rules}
 use native.Mathlib.Omega.{arith}
 use Rattle.departing.proofs.count_table.Goals as goal
 

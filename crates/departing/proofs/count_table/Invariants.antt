@@ -1,11 +1,8 @@
-use mathlib.Core.Path.{◌≡◌, refl, ap, ◌∙◌}
-use Prim.Native.Nat.{ℕ, ◌+◌, ◌-◌, ◌≤◌}
+use mathlib.Core.Path.{◌≡◌}
+use Prim.Native.Nat.{ℕ, ◌+◌, ◌≤◌}
 use lib.ListN.{length}
 use Rattle.departing.specs.Scratch.{Outside, Counted}
-use Rattle.departing.proofs.Ranges.{outside-then}
-use Rattle.departing.proofs.Counters.{counted_same, leaving_to, none_before, none-behind, leaving-more}
-use borrow.Author.Rules.{rules}
-use native.Mathlib.Omega.{arith}
+use Rattle.departing.proofs.Counters.{leaving_to}
 use Rattle.departing.proofs.count_table.Given as goal
 
 abbrev pub invariant-loop-i : goal.invariant-loop-i
@@ -15,6 +12,3 @@ invariant-loop-i l =
     × (length l.scratch ≡ 2048)
     × ((all : ℕ → ℕ) → Counted l.len l.first l.initial.scratch all → Counted l.len l.low l.scratch (λ k. all k + leaving_to l.size l.table (l.base + k) l.i))
     × Outside 0 1904 l.initial.scratch l.scratch
-
-abbrev pub decreases-loop-i : goal.decreases-loop-i
-decreases-loop-i l = l.end - l.i

@@ -1,9 +1,9 @@
 -- `refuse`: a refusal leaves nothing.
-use mathlib.Core.Path.{◌≡◌, refl, sym, ap, ◌∙◌}
+use mathlib.Core.Path.{refl}
 use Rattle.journeys.specs.Bytes.{cleared}
 use borrow.Author.Rules.{rules}
 use Rattle.departures.proofs.refuse.Goals as goal
 
 pub returns : goal.returns
 unfolding cleared
-returns c = (refl, refl, c.zero.ensures)
+returns c = (refl, refl, (c.fill.ensures.after (λ y e. search rules)))

@@ -1,7 +1,6 @@
 -- `directed::arrive_at` meets its contract. Assumes nothing.
 use native.Mathlib.Omega.{arith}
 use Rattle.directed.specs.Directed.{arrive_at}
-use borrow.Author.Rules.{rules}
 use Rattle.directed.proofs.arrive_at.Goals as goal
 
 pub returns : goal.returns

@@ -1,7 +1,5 @@
 -- `directed::due_at` meets its contract: two bytes are far below the limit of an entry. Assumes nothing.
-use mathlib.Core.Path.{◌≡◌, sym, ◌∙◌}
-use Rattle.journeys.proofs.Tests.{cond-true}
-use Rattle.directed.specs.Directed.{arrive_at}
+use mathlib.Core.Path.{◌≡◌}
 use mathlib.Core.List.{List}
 use Prim.Native.Nat.{ℕ, ◌+◌, ◌*◌, ◌<◌}
 use native.Mathlib.Omega.{arith}
@@ -9,7 +7,6 @@ use lib.ListN.{get_or}
 use Rattle.journeys.specs.Bytes.{be16}
 use Rattle.journeys.specs.Tables.{vertex_at}
 use Rattle.worktable.specs.Map.{remaining_limit}
-use borrow.Author.Rules.{rules}
 use Rattle.directed.proofs.due_at.Goals as goal
 
 half-low : (v : List ℕ) (at n : ℕ) → n ≡ be16 v at → ((i : ℕ) → get_or v i 0 < 256) → n < remaining_limit

@@ -10,7 +10,6 @@ use native.Mathlib.Omega.{arith}
 use Prim.Native.Nat.{◌+◌, ◌-◌, ◌/◌, ◌<◌}
 use lib.ListN.{length}
 use mathlib.Core.Logic.{inl}
-use borrow.Author.Rules.{rules}
 use Rattle.directed.proofs.offer_listed.Goals as goal
 use Rattle.directed.proofs.offer_listed.Goals.{Then-r-row}
 

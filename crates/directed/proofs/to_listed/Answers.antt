@@ -5,7 +5,6 @@ use borrow.Author.Tests.{lt-ltb, le-ltb}
 use lib.ListN.{length}
 use Rattle.journeys.specs.Tables.{walk_at, hop_at}
 use Rattle.directed.specs.Directed.{listed_of}
-use borrow.Author.Rules.{rules}
 use Rattle.directed.proofs.to_listed.Goals as goal
 use Rattle.directed.proofs.to_listed.Goals.{Then-r-row}
 

@@ -1,10 +1,6 @@
 use mathlib.Core.Path.{refl, ap}
 use Prim.Native.Nat.{ℕ}
-use native.Mathlib.Omega.{arith}
-use Rattle.worktable.specs.Table.{map_of}
 use Rattle.words.proofs.Rest.{rest-cleared}
-use Rattle.ending.proofs.FewEntries.{size_low}
-use borrow.Author.Rules.{rules}
 use Rattle.ending.proofs.conclude.Goals as goal
 
 pub returns : goal.returns

@@ -1,7 +1,6 @@
 -- `entries::entry_fault` meets its contract: 25, then 26, and 27 where neither is found. Assumes nothing.
 use mathlib.Core.Path.{◌∙◌}
 use native.Mathlib.Omega.{arith}
-use borrow.Author.Rules.{rules}
 use Rattle.entries.proofs.InOrder.{old-few, old-told, late-told, wrong-told}
 use Rattle.entries.proofs.entry_fault.Goals as goal
 

@@ -1,9 +1,7 @@
 -- `entries::first_late` meets its contract: it stops at the first distance above D. Assumes nothing.
 use mathlib.Core.Path.{◌≡◌}
 use mathlib.Core.Bool.{true}
-use Prim.Native.Nat.{ℕ, suc, ◌+◌, ◌-◌, ◌/◌, ◌≤◌, ◌<◌}
 use native.Mathlib.Omega.{arith}
-use lib.ListN.{length}
 use borrow.Author.Tests.{le-leb, lt-leb}
 use Rattle.journeys.specs.Lists.{distance_at}
 use Rattle.journeys.specs.VendorLists.{in_time}

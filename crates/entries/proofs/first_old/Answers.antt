@@ -1,17 +1,14 @@
 -- `entries::first_old` meets its contract: the array has a distance at every vertex that was read. Assumes nothing.
-use mathlib.Core.Path.{◌≡◌, refl, sym, ◌∙◌}
+use mathlib.Core.Path.{◌≡◌, sym, ◌∙◌}
 use mathlib.Core.Bool.{true}
-use Prim.Native.Nat.{ℕ, ◌-◌, ◌/◌, ◌≤◌, ◌<◌}
+use Prim.Native.Nat.{◌<◌}
 use native.Mathlib.Omega.{arith}
-use lib.Dec.{ltb}
-use lib.ListN.{length, length-set}
-use borrow.Author.Rules.{rules}
+use lib.ListN.{length-set}
 use borrow.Author.Tests.{not-true, not-false, ltb-true}
 use Rattle.journeys.specs.Counting.{none}
 use Rattle.journeys.specs.Lists.{entry_ok}
 use Rattle.journeys.proofs.Counting.{below_suc}
 use Rattle.journeys.proofs.Tests.{and_both}
-use Rattle.entries.specs.Noted.{Noted, Before}
 use Rattle.entries.proofs.Noting.{more-noted, fresh-is}
 use Rattle.entries.proofs.first_old.Goals as goal
 

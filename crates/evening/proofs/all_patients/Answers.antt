@@ -1,10 +1,9 @@
 -- `patients::all_patients` meets its contract: the sum of those before v. Assumes nothing.
-use mathlib.Core.Path.{◌≡◌, refl, sym, ap₂, ◌∙◌}
-use Prim.Native.Nat.{ℕ, ◌+◌, ◌-◌, ◌≤◌}
+use mathlib.Core.Path.{refl, sym, ap₂, ◌∙◌}
+use Prim.Native.Nat.{ℕ, ◌+◌}
 use native.Mathlib.Omega.{arith}
-use Rattle.evening.specs.Patients.{sum, patients_of, all_patients}
+use Rattle.evening.specs.Patients.{sum, patients_of}
 use Rattle.evening.proofs.Sums.{sum-most, sum-next}
-use borrow.Author.Rules.{rules}
 use Rattle.evening.proofs.all_patients.Goals as goal
 
 pub loop-v-init : goal.loop-v-init

@@ -1,14 +1,11 @@
 -- `patients::evening_fault` meets its contract: each return is the first test that fails. Assumes nothing.
 use mathlib.Core.Path.{◌≡◌, sym, ap, ◌∙◌}
-use mathlib.Core.Bool.{true, false}
 use Prim.Native.Nat.{ℕ, ◌+◌}
-use native.Mathlib.Omega.{arith}
 use lib.Dec.{leb}
 use borrow.Author.Tests.{not-true, not-false}
 use Rattle.journeys.specs.Bytes.{midnight}
 use Rattle.records.specs.Asked.{query_of}
-use Rattle.evening.proofs.AskedEvening.{gap-fault, many-fault, last-fault, evening-good, some-arrivals, short, last_ok}
-use borrow.Author.Rules.{rules}
+use Rattle.evening.proofs.AskedEvening.{gap-fault, many-fault, last-fault, evening-good, last_ok}
 use Rattle.evening.proofs.evening_fault.Goals as goal
 use Rattle.evening.proofs.evening_fault.Goals.{After-not_after}
 
@@ -28,4 +25,4 @@ returns-then-not-not_after c =
 
 pub returns : goal.returns
 returns c =
-    c.fine.ensures ∙ evening-good _ _ _ (not-false _ c.if-not-gap.false-raw) (not-false _ c.if-not-arrivals.false-raw) (sym (tested (goal.at.returns c).After-not_after) ∙ not-false _ c.if-not-not_after.false-raw)
+    evening-good _ _ _ (not-false _ c.if-not-gap.false-raw) (not-false _ c.if-not-arrivals.false-raw) (sym (tested (goal.at.returns c).After-not_after) ∙ not-false _ c.if-not-not_after.false-raw)

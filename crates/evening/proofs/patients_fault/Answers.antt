@@ -1,14 +1,13 @@
 -- `patients::patients_fault` meets its contract: the counts before v are good. Assumes nothing.
 use mathlib.Core.Path.{◌≡◌, sym, ap, ◌∙◌}
 use mathlib.Core.Bool.{true}
-use Prim.Native.Nat.{ℕ, ◌-◌, ◌≤◌, ◌<◌}
+use Prim.Native.Nat.{ℕ}
 use native.Mathlib.Omega.{arith}
 use lib.Dec.{leb}
 use borrow.Author.Tests.{le-leb, lt-leb}
 use Rattle.journeys.proofs.Counting.{below_suc}
 use Rattle.lists.proofs.Entries.{first-refused, none-refused}
 use Rattle.evening.specs.Asked.{patients_ok}
-use borrow.Author.Rules.{rules}
 use Rattle.evening.proofs.patients_fault.Goals as goal
 
 pub returns-then-patients_of-gt65535 : goal.returns-then-patients_of-gt65535
@@ -31,5 +30,4 @@ pub returns : goal.returns
 returns c =
     let L = c.loop-v in
     let t = c.args.patients.now in
-    c.fine.ensures
-    ∙ none-refused 19 (omega arith) (patients_ok t) c.args.n L.v (record { within = L.invariant.0; before = L.invariant.1; fails = λ h. absurd (omega (arith, c.loop-v-test.false)) }) c.loop-v-test.false
+    none-refused 19 (omega arith) (patients_ok t) c.args.n L.v (record { within = L.invariant.0; before = L.invariant.1; fails = λ h. absurd (omega (arith, c.loop-v-test.false)) }) c.loop-v-test.false

@@ -1,8 +1,6 @@
 -- `patients::report_fault` meets its contract: each return is the first test that fails. Assumes nothing.
 use mathlib.Core.Path.{◌∙◌}
-use native.Mathlib.Omega.{arith}
 use Rattle.evening.proofs.AskedEvening.{patients-cut, report-cut, none-cut}
-use borrow.Author.Rules.{rules}
 use Rattle.evening.proofs.report_fault.Goals as goal
 
 pub returns-then-patients-n : goal.returns-then-patients-n
@@ -12,4 +10,4 @@ pub returns-then-report-n : goal.returns-then-report-n
 returns-then-report-n c = c.refused-then-report-n.ensures ∙ report-cut _ _ _ _ c.if-patients-n.false c.if-report-n.true
 
 pub returns : goal.returns
-returns c = c.fine.ensures ∙ none-cut _ _ _ _ c.if-patients-n.false c.if-report-n.false
+returns c = none-cut _ _ _ _ c.if-patients-n.false c.if-report-n.false

@@ -1,15 +1,12 @@
 -- `patients::tally` meets its contract: the entries before i are tallied. Assumes nothing.
 use mathlib.Core.Path.{◌≡◌, refl, sym, ap, ap₂, ◌∙◌}
-use Prim.Native.Nat.{ℕ, ◌+◌, ◌-◌, ◌*◌, ◌/◌, ◌≤◌, ◌<◌}
+use Prim.Native.Nat.{ℕ, ◌+◌}
 use native.Mathlib.Omega.{arith}
-use lib.ListN.{length}
-use Rattle.journeys.specs.Bytes.{be32}
 use Rattle.journeys.specs.Lists.{vertex_in}
 use Rattle.evening.specs.Patients.{sum, patients_of}
 use Rattle.evening.specs.Tallied.{tallied, listed_patients}
 use Rattle.evening.proofs.Sums.{sum-most, sum-next}
 use Rattle.evening.proofs.Tallying.{tally-turn}
-use borrow.Author.Rules.{rules}
 use Rattle.evening.proofs.tally.Goals as goal
 use Rattle.evening.proofs.tally.Goals.{After-patients_of-sum}
 

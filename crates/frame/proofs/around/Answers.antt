@@ -1,9 +1,7 @@
 -- `frame::around` meets its contract: before the entry i stands the frame of those before it. Assumes nothing.
 use mathlib.Core.Path.{◌≡◌, sym, ap, ◌∙◌}
-use Prim.Native.Nat.{ℕ, suc, ◌+◌, ◌-◌, ◌/◌, ◌≤◌}
+use Prim.Native.Nat.{ℕ, suc, ◌+◌, ◌-◌}
 use native.Mathlib.Omega.{arith}
-use lib.ListN.{length}
-use borrow.Author.Rules.{rules}
 use Rattle.journeys.specs.Lists.{vertex_in}
 use Rattle.frame.specs.Frames.{bounds_to}
 use Rattle.frame.specs.Floats.{point_at, widened_by, frame_from}

@@ -1,6 +1,5 @@
 -- `frame::coordinate` meets its contract: the bits are no NaN's. Assumes nothing.
 use Rattle.frame.proofs.Stored.{no-nan-bits}
-use borrow.Author.Rules.{rules}
 use Rattle.frame.proofs.coordinate.Goals as goal
 
 pub float_from_bits-result : goal.float_from_bits-result

@@ -1,19 +1,18 @@
 -- `frame::entries` meets its contract: the judge's answer with the number 21. Assumes nothing.
 use mathlib.Core.Path.{sym, ap, ◌∙◌}
 use Rattle.lists.specs.Lists.{told}
-use borrow.Author.Rules.{rules}
 use Rattle.frame.proofs.entries.Goals as goal
 
-pub returns-in_default : goal.returns-in_default
+pub returns-in-Ok : goal.returns-in-Ok
 unfolding told
-returns-in_default c = record {
-  result_value = c.fine.ensures ∙ sym (ap (told 21) c.in_default.is) ∙ c.judge-judged.ensures.result_value;
-  marks_after = c.judge-judged.ensures.marks_after;
+returns-in-Ok c = record {
+  result_value = sym (ap (told 21) c.in-Ok.is) ∙ c.judge.ensures.result_value;
+  marks_after = c.judge.ensures.marks_after;
 }
 
-pub returns : goal.returns
+pub returns-in-Err : goal.returns-in-Err
 unfolding told
-returns c = record {
-  result_value = c.refused.ensures ∙ sym (ap (told 21) c.in-Bad.is) ∙ c.judge-judged.ensures.result_value;
-  marks_after = c.judge-judged.ensures.marks_after;
+returns-in-Err c = record {
+  result_value = c.refused.ensures ∙ sym (ap (told 21) c.in-Err.is) ∙ c.judge.ensures.result_value;
+  marks_after = c.judge.ensures.marks_after;
 }

@@ -3,7 +3,6 @@ use mathlib.Core.Path.{sym, ◌∙◌}
 use Prim.Native.Nat.{◌*◌, ◌/◌, ◌%◌}
 use lib.ListN.{length}
 use borrow.Author.Tests.{not-true, not-false, eq-eqb, ne_eqb}
-use borrow.Author.Rules.{rules}
 use Rattle.journeys.specs.Refusals.{or_else, unless, whole_of}
 use Rattle.frame.specs.Frames.{frame_lengths}
 use Rattle.frame.proofs.lengths.Goals as goal
@@ -31,5 +30,4 @@ pub returns : goal.returns
 unfolding frame_lengths or_else unless whole_of
 returns c =
     let a = c.args in
-    c.fine.ensures
-    ∙ rw (sym c.table_ok.ensures ∙ not-false c.table_ok.result c.if-not-table_ok.false-raw, eq-eqb (length a.list.now % 8) 0 c.if-list-ne0.false, eq-eqb (length a.coordinates.now) (8 * (length a.vertices.now / 12)) c.if-coordinates-vertices.false)
+    rw (sym c.table_ok.ensures ∙ not-false c.table_ok.result c.if-not-table_ok.false-raw, eq-eqb (length a.list.now % 8) 0 c.if-list-ne0.false, eq-eqb (length a.coordinates.now) (8 * (length a.vertices.now / 12)) c.if-coordinates-vertices.false)

@@ -4,14 +4,13 @@ use Prim.Native.Nat.{◌/◌}
 use lib.Dec.{ltb}
 use lib.ListN.{length}
 use borrow.Author.Tests.{lt-ltb, le-ltb}
-use borrow.Author.Rules.{rules}
 use Rattle.journeys.proofs.Refusals.{unless-good, unless-bad}
 use Rattle.frame.proofs.nonempty.Goals as goal
 
 pub returns-then-list-gt0 : goal.returns-then-list-gt0
 returns-then-list-gt0 c =
     let n = length c.args.list.now / 8 in
-    c.fine.ensures ∙ sym (unless-good (ltb 0 n) 24 0 (lt-ltb 0 n c.if-list-gt0.true))
+    sym (unless-good (ltb 0 n) 24 0 (lt-ltb 0 n c.if-list-gt0.true))
 
 pub returns : goal.returns
 returns c =

@@ -2,7 +2,6 @@
 use mathlib.Core.Path.{ap, ◌∙◌}
 use Rattle.journeys.proofs.Tests.{and_both}
 use Rattle.frame.specs.Frames.{x_bits, y_bits, finite_bits, point_ok}
-use borrow.Author.Rules.{rules}
 use Rattle.frame.proofs.point_at.Goals as goal
 
 pub coordinate-requires : goal.coordinate-requires

@@ -1,6 +1,5 @@
 -- `frame::point_ok` meets its contract: its test is the definition's. Assumes nothing.
 use Rattle.frame.specs.Frames.{point_ok}
-use borrow.Author.Rules.{rules}
 use Rattle.frame.proofs.point_ok.Goals as goal
 
 pub returns : goal.returns

@@ -1,11 +1,7 @@
 -- `frame::points` meets its contract: the points before v are finite. Assumes nothing.
-use mathlib.Core.Path.{◌≡◌, sym, ◌∙◌}
-use mathlib.Core.Bool.{true}
-use Prim.Native.Nat.{ℕ, ◌-◌, ◌≤◌, ◌<◌}
+use mathlib.Core.Path.{sym, ◌∙◌}
 use native.Mathlib.Omega.{arith}
-use borrow.Author.Tests.{not-true, not-false}
-use borrow.Author.Rules.{rules}
-use Rattle.journeys.proofs.Counting.{below_suc}
+use borrow.Author.Tests.{not-true}
 use Rattle.lists.proofs.Entries.{first-refused, none-refused}
 use Rattle.frame.specs.Frames.{point_ok}
 use Rattle.frame.proofs.points.Goals as goal
@@ -21,5 +17,4 @@ pub returns : goal.returns
 returns c =
     let L = c.loop-v in
     let t = c.args.coordinates.now in
-    c.fine.ensures
-    ∙ none-refused 23 (omega arith) (point_ok t) c.args.n L.v (record { within = L.invariant.0; before = L.invariant.1; fails = λ h. absurd (omega (arith, c.loop-v-test.false)) }) c.loop-v-test.false
+    none-refused 23 (omega arith) (point_ok t) c.args.n L.v (record { within = L.invariant.0; before = L.invariant.1; fails = λ h. absurd (omega (arith, c.loop-v-test.false)) }) c.loop-v-test.false

@@ -1,7 +1,6 @@
 -- `frame::put` meets its contract: six numbers one behind the other. Assumes nothing.
 use Rattle.frame.specs.Frames.{frame_bytes}
 use Rattle.frame.proofs.SixWords.{six-numbers}
-use borrow.Author.Rules.{rules}
 use Rattle.frame.proofs.put.Goals as goal
 
 pub returns : goal.returns

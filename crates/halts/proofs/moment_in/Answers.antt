@@ -1,13 +1,12 @@
-use borrow.Author.Rules.{rules}
-use mathlib.Core.Path.{◌≡◌, refl, sym, ap, ◌∙◌}
-use Rattle.rows.proofs.Fields.{within, as-time, as-blank}
-use Rattle.halts.specs.Halts.{seconds_read}
-use Rattle.halts.proofs.Readings.{seconds-read}
+use Rattle.std.proofs.Common.{sym, ap, ◌∙◌}
+use Rattle.values.specs.Readings.{time_read}
+use Rattle.rows.proofs.Fields.{within, as-time}
+use Rattle.halts.proofs.Readings.{moment-read}
 use Rattle.halts.proofs.moment_in.Goals as goal
 
-pub seconds_between-seconds-requires : goal.seconds_between-seconds-requires
-seconds_between-seconds-requires c = within _ _ c.requires.0 _ c.span_from-span.ensures
+pub bytes-requires : goal.bytes-requires
+bytes-requires c = within _ _ c.requires.0 _ c.span_from-span.ensures
 
 pub returns : goal.returns
 returns c =
-    (as-blank _ _ c.requires.0 _ c.span_from-span.ensures, c.seconds_between-seconds.ensures ∙ seconds-read _ _ (sym (as-time _ _ c.requires.0 _ c.span_from-span.ensures)) c.requires.1)
+    moment-read _ _ (sym (c.read_time.ensures ∙ ap time_read c.bytes.ensures ∙ as-time _ _ c.requires.0 _ c.span_from-span.ensures)) c.requires.1

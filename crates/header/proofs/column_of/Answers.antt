@@ -1,10 +1,5 @@
-use Prim.Native.Nat.{◌+◌, ◌≤◌, ◌-◌}
 use native.Mathlib.Omega.{arith}
-use mathlib.Core.Path.{◌≡◌, refl, sym, ap, ◌∙◌}
-use lib.ListN.{length}
-use Rattle.feed.specs.Fields.{row_of}
-use Rattle.feed.specs.Stops.{column_from, column}
-use Rattle.lines.specs.Rows.{row_at}
+use mathlib.Core.Path.{refl, sym, ◌∙◌}
 use Rattle.header.proofs.Names.{goes-field, last-field, broken-field, column-here, column-on, column-none, column-whole}
 use Rattle.header.proofs.column_of.Goals as goal
 

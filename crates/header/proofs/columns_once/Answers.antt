@@ -1,9 +1,7 @@
 use Rattle.header.proofs.Names.{all-five}
-use native.Mathlib.Omega.{arith}
-use mathlib.Core.Path.{◌≡◌, refl, sym, ap, ◌∙◌}
+use mathlib.Core.Path.{refl}
 use Rattle.feed.specs.Stops.{columns_once}
 use Rattle.lines.specs.Spans.{quotes}
-use borrow.Author.Rules.{rules}
 use Rattle.header.proofs.columns_once.Goals as goal
 
 pub once-trip-requires : goal.once-trip-requires

@@ -1,9 +1,5 @@
-use Prim.Native.Nat.{◌+◌, ◌≤◌, ◌-◌}
 use native.Mathlib.Omega.{arith}
-use mathlib.Core.Path.{◌≡◌, refl, sym, ap, ◌∙◌}
-use lib.ListN.{length}
-use Rattle.feed.specs.Fields.{row_of}
-use Rattle.lines.specs.Rows.{row_at}
+use mathlib.Core.Path.{sym, ◌∙◌}
 use Rattle.header.proofs.Names.{goes-field, count-goes, count-ends, count-breaks, count-whole}
 use Rattle.header.proofs.count_fields.Goals as goal
 

@@ -1,10 +1,8 @@
 use Prim.Native.Nat.{◌+◌, ◌≤◌, ◌-◌}
-use native.Mathlib.Omega.{arith}
-use mathlib.Core.Path.{◌≡◌, refl, sym, ap, ◌∙◌}
+use mathlib.Core.Path.{◌≡◌}
 use lib.ListN.{length}
 use Rattle.feed.specs.Fields.{row_of}
 use Rattle.lines.specs.Rows.{row_at}
-use Rattle.header.proofs.Names.{goes-field, count-goes, count-ends, count-breaks, count-whole}
 use Rattle.header.proofs.count_fields.Given as goal
 
 abbrev pub invariant-loop-next : goal.invariant-loop-next

@@ -1,10 +1,5 @@
-use Prim.Native.Nat.{◌+◌, ◌≤◌, ◌-◌}
 use native.Mathlib.Omega.{arith}
-use mathlib.Core.Path.{◌≡◌, refl, sym, ap, ◌∙◌}
-use lib.ListN.{length}
-use Rattle.feed.specs.Fields.{row_of}
-use Rattle.feed.specs.Stops.{times}
-use Rattle.lines.specs.Rows.{row_at}
+use mathlib.Core.Path.{refl, sym, ◌∙◌}
 use Rattle.header.proofs.Names.{goes-field, last-field, broken-field, times-one, times-other, times_none, times-whole}
 use Rattle.header.proofs.times_named.Goals as goal
 

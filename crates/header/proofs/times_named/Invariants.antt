@@ -1,11 +1,9 @@
 use Prim.Native.Nat.{◌+◌, ◌≤◌, ◌-◌}
-use native.Mathlib.Omega.{arith}
-use mathlib.Core.Path.{◌≡◌, refl, sym, ap, ◌∙◌}
+use mathlib.Core.Path.{◌≡◌}
 use lib.ListN.{length}
 use Rattle.feed.specs.Fields.{row_of}
 use Rattle.feed.specs.Stops.{times}
 use Rattle.lines.specs.Rows.{row_at}
-use Rattle.header.proofs.Names.{goes-field, last-field, broken-field, times-one, times-other, times_none, times-whole}
 use Rattle.header.proofs.times_named.Given as goal
 
 abbrev pub invariant-loop-next : goal.invariant-loop-next

@@ -1,10 +1,5 @@
-use borrow.Author.Rules.{rules}
-use mathlib.Core.Path.{◌≡◌, refl}
+use mathlib.Core.Path.{refl}
 use Rattle.lines.specs.Spans.{quotes}
-use Rattle.headings.proofs.columns_of.Reads as reads
-use Rattle.headings.proofs.columns_of.Lts as lts
-use Rattle.header.proofs.column_of.Reads as column-of-reads
-use Rattle.header.proofs.count_fields.Reads as count-fields-reads
 use Rattle.headings.proofs.columns_of.Goals as goal
 
 pub column_of-requires : goal.column_of-requires

@@ -1,14 +1,12 @@
 -- `trip_number`: the line that begins at the place ends where it does.
-use mathlib.Core.Path.{◌≡◌, refl, sym, ap, subst, ◌∙◌}
+use mathlib.Core.Path.{◌≡◌, subst}
 use mathlib.Core.Bool.{true}
 use mathlib.Core.List.{List}
 use Prim.Native.Nat.{ℕ}
-use native.Mathlib.Omega.{arith}
 use Rattle.journeys.specs.Counting.{none}
 use Rattle.feed.specs.Ids.{list_line}
 use Rattle.lines.proofs.Passes.{stop-within}
 use Rattle.hopbytes.proofs.OutLaws.{line-from, number-from}
-use borrow.Author.Rules.{rules}
 use Rattle.hopbytes.proofs.trip_number.Goals as goal
 
 pub slice_bounds-number_on-end : goal.slice_bounds-number_on-end

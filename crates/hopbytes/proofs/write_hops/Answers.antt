@@ -1,12 +1,10 @@
 -- `write_hops`: each record is read before it is written over.
-use mathlib.Core.Path.{◌≡◌, refl, sym, ap, subst, ◌∙◌}
-use Prim.Native.Nat.{ℕ, ◌-◌}
+use mathlib.Core.Path.{sym, subst}
+use Prim.Native.Nat.{◌-◌}
 use native.Mathlib.Omega.{arith}
-use lib.ListN.{length}
 use Rattle.table_bytes.proofs.Access.{col-length}
-use Rattle.sorting.specs.Sorted.{recs}
 use Rattle.hopbytes.specs.Listing.{OnTrip}
-use Rattle.hopbytes.proofs.OutLaws.{Writing, writing_start, still, writing-on, writing-end}
+use Rattle.hopbytes.proofs.OutLaws.{writing_start, still, writing-on, writing-end}
 use Rattle.hopbytes.proofs.write_hops.Goals as goal
 
 pub loop-i-init : goal.loop-i-init

@@ -1,14 +1,9 @@
 -- `write_out`: the fields of a record, and its trip's number, as five words.
-use mathlib.Core.Path.{◌≡◌, refl, sym, ap, subst, ◌∙◌}
-use mathlib.Core.Bool.{true}
-use Prim.Native.Nat.{ℕ, ◌+◌, ◌*◌, ◌/◌, ◌%◌, ◌≤◌, ◌^◌}
+use Prim.Native.Nat.{◌*◌}
 use native.Mathlib.Omega.{arith}
-use lib.ListN.{length}
 use Rattle.table_bytes.specs.Columns.{at}
 use Rattle.sorting.specs.Sorted.{recs}
-use Rattle.hopbytes.specs.Listing.{OnTrip}
-use Rattle.hopbytes.proofs.OutLaws.{from-fits, trip-above, trip-there, hop-written}
-use borrow.Author.Rules.{rules}
+use Rattle.hopbytes.proofs.OutLaws.{hop-written}
 use Rattle.hopbytes.proofs.write_out.Goals as goal
 
 pub returns : goal.returns

@@ -1,12 +1,8 @@
-use borrow.Author.Tests.{not-true, not-false}
-use borrow.Author.Rules.{rules}
-use Prim.Native.Nat.{◌≤◌, ◌-◌}
 use native.Mathlib.Omega.{arith}
-use mathlib.Core.Path.{◌≡◌, refl, sym, ap, ◌∙◌}
-use lib.ListN.{length, drop}
-use Rattle.journeys.specs.Counting.{none}
+use mathlib.Core.Path.{refl, sym, ap, ◌∙◌}
+use lib.ListN.{drop}
 use Rattle.feed.specs.Lines.{lines_of, first_bad_line}
-use Rattle.feed.specs.Ids.{list_line, ids_refusal}
+use Rattle.feed.specs.Ids.{list_line}
 use Rattle.ids.proofs.ListLines.{ids_refusal-is}
 use Rattle.lines.proofs.Passes.{place_is, next_place, pass-over, pass-good, pass-bad, stop-within, next-within, next-later}
 use Rattle.ids.proofs.list_fault.Goals as goal
@@ -18,7 +14,7 @@ pub line_good-requires : goal.line_good-requires
 line_good-requires c = stop-within c.args.text.now c.loop-at.at c.line_stop-stop.result 0 c.loop-at.invariant.0 c.line_stop-stop.ensures
 
 pub returns-then-not-line_good : goal.returns-then-not-line_good
-returns-then-not-line_good c = c.refused.ensures ∙ ap (λ n. record { number = 29; place = n }) (sym (place_is _ c.loop-at.invariant.1)) ∙ sym (pass-bad 29 (list_line c.args.most) c.args.text.now c.loop-at.line c.loop-at.at c.line_stop-stop.result _ (omega arith) c.line_stop-stop.ensures refl refl (sym c.line_good.ensures ∙ not-true _ c.if-not-line_good.true-raw)) ∙ c.loop-at.invariant.2
+returns-then-not-line_good c = c.refused.ensures ∙ ap (λ n. record { number = 29; place = n }) (sym (place_is _ c.loop-at.invariant.1)) ∙ sym (pass-bad 29 (list_line c.args.most) c.args.text.now c.loop-at.line c.loop-at.at c.line_stop-stop.result _ (omega arith) c.line_stop-stop.ensures refl refl (sym c.if-not-line_good.ensures)) ∙ c.loop-at.invariant.2
 
 pub line_next-at-requires : goal.line_next-at-requires
 line_next-at-requires c = (stop-within c.args.text.now c.loop-at.at c.line_stop-stop.result 0 c.loop-at.invariant.0 c.line_stop-stop.ensures).1
@@ -27,7 +23,7 @@ pub loop-at-smaller : goal.loop-at-smaller
 loop-at-smaller c = let later = next-later c.args.text.now c.loop-at.at c.line_stop-stop.result c.line_next-at.result c.loop-at.invariant.0 c.line_stop-stop.ensures (omega arith) c.line_next-at.ensures in omega arith
 
 pub loop-at-preserved : goal.loop-at-preserved
-loop-at-preserved c = ((next-within c.args.text.now c.loop-at.at c.line_stop-stop.result c.line_next-at.result c.loop-at.invariant.0 c.line_stop-stop.ensures c.line_next-at.ensures).1, omega arith, ap (λ n. first_bad_line 29 (list_line c.args.most) n (lines_of (drop c.line_next-at.result c.args.text.now))) c.next_number-line.ensures ∙ sym (next_place 29 (list_line c.args.most) c.loop-at.line (lines_of (drop c.line_next-at.result c.args.text.now)) c.loop-at.invariant.1) ∙ sym (pass-good 29 (list_line c.args.most) c.args.text.now c.loop-at.line c.loop-at.at c.line_stop-stop.result c.line_next-at.result (omega arith) c.line_stop-stop.ensures c.line_next-at.ensures (sym c.line_good.ensures ∙ not-false _ c.if-not-line_good.false-raw)) ∙ c.loop-at.invariant.2)
+loop-at-preserved c = ((next-within c.args.text.now c.loop-at.at c.line_stop-stop.result c.line_next-at.result c.loop-at.invariant.0 c.line_stop-stop.ensures c.line_next-at.ensures).1, omega arith, ap (λ n. first_bad_line 29 (list_line c.args.most) n (lines_of (drop c.line_next-at.result c.args.text.now))) c.next_number-line.ensures ∙ sym (next_place 29 (list_line c.args.most) c.loop-at.line (lines_of (drop c.line_next-at.result c.args.text.now)) c.loop-at.invariant.1) ∙ sym (pass-good 29 (list_line c.args.most) c.args.text.now c.loop-at.line c.loop-at.at c.line_stop-stop.result c.line_next-at.result (omega arith) c.line_stop-stop.ensures c.line_next-at.ensures (sym c.if-not-line_good.ensures)) ∙ c.loop-at.invariant.2)
 
 pub returns : goal.returns
-returns c = c.fine.ensures ∙ sym (pass-over 29 _ _ _ _ c.loop-at-test.false) ∙ c.loop-at.invariant.2
+returns c = sym (pass-over 29 _ _ _ _ c.loop-at-test.false) ∙ c.loop-at.invariant.2

@@ -1,14 +1,9 @@
-use borrow.Author.Tests.{not-true, not-false}
-use borrow.Author.Rules.{rules}
 use Prim.Native.Nat.{◌≤◌, ◌-◌}
-use native.Mathlib.Omega.{arith}
-use mathlib.Core.Path.{◌≡◌, refl, sym, ap, ◌∙◌}
+use mathlib.Core.Path.{◌≡◌}
 use lib.ListN.{length, drop}
 use Rattle.journeys.specs.Counting.{none}
 use Rattle.feed.specs.Lines.{lines_of, first_bad_line}
 use Rattle.feed.specs.Ids.{list_line, ids_refusal}
-use Rattle.ids.proofs.ListLines.{ids_refusal-is}
-use Rattle.lines.proofs.Passes.{place_is, next_place, pass-over, pass-good, pass-bad, stop-within, next-within, next-later}
 use Rattle.ids.proofs.list_fault.Given as goal
 
 abbrev pub invariant-loop-at : goal.invariant-loop-at

@@ -1,8 +1,4 @@
-use borrow.Author.Rules.{rules}
 use native.Mathlib.Omega.{arith}
-use Prim.Native.Nat.{◌<◌}
-use mathlib.Core.Path.{◌≡◌}
-use Rattle.idtable.specs.Table.{start_of}
 use Rattle.idtable.proofs.Mixing.{start_is, start-within, part-fits}
 use Rattle.idtable.proofs.first_slot.Goals as goal
 

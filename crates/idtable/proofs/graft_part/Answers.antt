@@ -1,4 +1,3 @@
-use borrow.Author.Rules.{rules}
 use native.Mathlib.Omega.{arith}
 use Rattle.naming.proofs.Places.{line_as, some-line-as}
 use Rattle.idtable.proofs.graft_part.Goals as goal
@@ -7,6 +6,6 @@ pub graft_line-requires : goal.graft_line-requires
 graft_line-requires c =
     let p = c.requires in
     let a = c.args in record {
-      b_len = (p.b_len.0, p.b_len.1, p.b_len.2, omega (arith, p.b_len.3, p.b_len.4), p.b_len.5);
-      place_value = (some-line-as a.text.now a.place a.stop (omega (arith, p.b_len.3, p.b_len.4)) p.stop_value.0 p.b_len.3, line_as _ _ _ p.stop_value.0, p.stop_value.1);
+      table_len = (p.table_len.0, p.table_len.1, omega (arith, p.table_len.2, p.table_len.3), p.table_len.4);
+      place_value = (some-line-as a.text.now a.place a.stop (omega (arith, p.table_len.2, p.table_len.3)) p.stop_value.0 p.table_len.2, line_as _ _ _ p.stop_value.0, p.stop_value.1);
     }

@@ -1,4 +1,3 @@
-use borrow.Author.Rules.{rules}
 use native.Mathlib.Omega.{arith}
 use Rattle.idtable.proofs.TableLaws.{next_last, next-on}
 use Rattle.idtable.proofs.next_slot.Goals as goal

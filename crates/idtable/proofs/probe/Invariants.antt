@@ -1,12 +1,7 @@
-use borrow.Author.Rules.{rules}
-use native.Mathlib.Omega.{arith}
-use Prim.Native.Nat.{◌<◌}
-use Rattle.idtable.specs.Table.{slots, Way}
-use Rattle.idtable.proofs.TableLaws.{way-from, ended-free, ended-has, ended-over, further}
+use Prim.Native.Nat.{◌<◌, ◌-◌}
+use lib.ListN.{length}
+use Rattle.idtable.specs.Table.{Way}
 use Rattle.idtable.proofs.probe.Given as goal
 
-abbrev pub invariant-loop-left : goal.invariant-loop-left
-invariant-loop-left l = (l.k < l.n) × Way l.text l.n (slots l.n l.b) l.name l.left l.k
-
-abbrev pub decreases-loop-left : goal.decreases-loop-left
-decreases-loop-left l = l.left
+abbrev pub invariant-loop-turn : goal.invariant-loop-turn
+invariant-loop-turn l = (l.k < length l.table) × Way l.text (length l.table) l.table l.name (length l.table - l._turn) l.k

@@ -3,8 +3,7 @@ use native.Mathlib.Omega.{arith}
 use Rattle.worktable.specs.Table.{map_of}
 use Rattle.worktable.proofs.PassLaws.{passed-absent, passed-kept, passed-spent}
 use Rattle.improving.specs.Figures.{figures}
-use Rattle.improving.proofs.Betters.{plain-spent, plain-kept, improved-above, improved-kept, bettered-same, absent-asks, absent-better}
-use borrow.Author.Rules.{rules}
+use Rattle.improving.proofs.Betters.{plain-spent, plain-kept, improved-kept, bettered-same, absent-asks, absent-better}
 use Rattle.improving.proofs.improve.Goals as goal
 
 pub insert-requires : goal.insert-requires

@@ -1,6 +1,5 @@
 -- `improving::lower` meets its contract. Assumes nothing.
 use Rattle.improving.proofs.Betters.{lower-asks, lower-better}
-use borrow.Author.Rules.{rules}
 use Rattle.improving.proofs.lower.Goals as goal
 
 pub insert-requires : goal.insert-requires

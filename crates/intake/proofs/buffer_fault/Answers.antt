@@ -1,6 +1,5 @@
 use mathlib.Core.Path.{◌∙◌}
 use Rattle.intake.proofs.FirstFault.{held_cut, settled-cut, none-cut}
-use borrow.Author.Rules.{rules}
 use Rattle.intake.proofs.buffer_fault.Goals as goal
 
 pub returns-then-held-ne0 : goal.returns-then-held-ne0
@@ -10,4 +9,4 @@ pub returns-then-settled-ne0 : goal.returns-then-settled-ne0
 returns-then-settled-ne0 c = c.refused-then-settled-ne0.ensures ∙ settled-cut _ _ c.if-held-ne0.false c.if-settled-ne0.true
 
 pub returns : goal.returns
-returns c = c.fine.ensures ∙ none-cut _ _ c.if-held-ne0.false c.if-settled-ne0.false
+returns c = none-cut _ _ c.if-held-ne0.false c.if-settled-ne0.false

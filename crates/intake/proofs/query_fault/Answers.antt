@@ -6,7 +6,6 @@ use Rattle.journeys.specs.Tables.{walk_at}
 use Rattle.records.specs.Asked.{query_of}
 use borrow.Author.Tests.{not-true, not-false}
 use Rattle.intake.proofs.FirstFault.{len_is, both-fail, both-pass, walk-fault, offset-fault, arrival-fault, duration-fault, speed-fault, no-fault}
-use borrow.Author.Rules.{rules}
 use Rattle.intake.proofs.query_fault.Goals as goal
 
 pub returns-then-walks-e : goal.returns-then-walks-e
@@ -55,4 +54,4 @@ returns c =
     let l : Q.walk < length a.walks.now / 16 = omega (arith, c.if-walks-e.false) in
     let o : Q.offset ≤ (walk_at a.walks.now Q.walk).len = omega (arith, len_is _ _ c.walk_at-road.ensures, c.if-road-q.false) in
     λ size v h.
-    c.fine.ensures ∙ no-fault size v a.walks.now h Q l o (both-pass _ _ _ _ c.not_after.ensures c.not_after-2.ensures c.if-not-not_after.false-raw) (not-false _ c.if-not-q.false-raw) (not-false _ c.if-not-q-2.false-raw)
+    no-fault size v a.walks.now h Q l o (both-pass _ _ _ _ c.not_after.ensures c.not_after-2.ensures c.if-not-not_after.false-raw) (not-false _ c.if-not-q.false-raw) (not-false _ c.if-not-q-2.false-raw)

@@ -6,7 +6,6 @@ use Rattle.words.specs.declared.Seconds.{Seconds}
 use Rattle.words.specs.Quantities.{seconds_of}
 use Rattle.job.specs.Job.{seconds, question_at}
 use Rattle.job.proofs.Seconds.{seconds-is}
-use borrow.Author.Rules.{rules}
 use Rattle.job.proofs.asked_at.Goals as goal
 
 pub returns : goal.returns

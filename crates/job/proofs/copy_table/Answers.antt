@@ -1,12 +1,9 @@
 -- `job::copy_table` meets its contract. The invariant: the first j bodies stand at the front of the buffer. Assumes nothing.
-use borrow.Author.Rules.{rules}
 use native.Mathlib.Omega.{arith}
-use mathlib.Core.Path.{◌≡◌, refl, sym, ap, ◌∙◌, subst}
-use Prim.Native.Nat.{ℕ, ◌+◌, ◌-◌, ◌*◌, ◌≤◌}
+use mathlib.Core.Path.{refl, sym, ap, ◌∙◌}
+use Prim.Native.Nat.{◌+◌}
 use native.Mathlib.Nat.{mul-zero}
 use lib.ListN.{length}
-use Rattle.job.specs.Steps.{bodies}
-use Rattle.copying.specs.Write.{Wrote}
 use Rattle.copying.proofs.Copied.{nothing, one-fits}
 use Rattle.job.proofs.Bodies.{length-body, body-lent, no-bodies, times_more, one_more}
 use Rattle.job.proofs.copy_table.Goals as goal

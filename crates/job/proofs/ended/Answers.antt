@@ -1,7 +1,6 @@
 -- `job::ended` meets its contract: each arm is the case of `ended_of` that its test picks. Assumes nothing.
 use borrow.Author.Tests.{eq-eqb, ne_eqb}
 use Rattle.job.specs.Steps.{ended_of}
-use borrow.Author.Rules.{rules}
 use Rattle.job.proofs.ended.Goals as goal
 
 pub returns-then-s-end : goal.returns-then-s-end

@@ -2,38 +2,37 @@
 use borrow.Author.Tests.{ne_eqb, lt-ltb, le-ltb}
 use Rattle.job.specs.Job.{kind_at}
 use Rattle.job.specs.Steps.{item_of}
-use borrow.Author.Rules.{rules}
 use Rattle.job.proofs.item_at.Goals as goal
 
-pub returns-then-walks-hops : goal.returns-then-walks-hops
+pub returns-then-passed-pad : goal.returns-then-passed-pad
 unfolding item_of kind_at
-returns-then-walks-hops c =
-    simp (← c.word_at-kind.ensures, c.in-1.is, ← c.word_at-pad.ensures, c.if-walks-hops.true)
+returns-then-passed-pad c =
+    simp (← c.word_at-kind.ensures, c.in-1.is, ← c.word_at-pad.ensures, c.if-passed-pad.true)
 
-pub returns-else-walks-hops : goal.returns-else-walks-hops
+pub returns-else-passed-pad : goal.returns-else-passed-pad
 unfolding item_of kind_at
-returns-else-walks-hops c =
-    simp (← c.word_at-kind.ensures, c.in-1.is, ← c.word_at-pad.ensures, c.if-walks-hops.false)
+returns-else-passed-pad c =
+    simp (← c.word_at-kind.ensures, c.in-1.is, ← c.word_at-pad.ensures, c.if-passed-pad.false)
 
-pub returns-then-hops-walks : goal.returns-then-hops-walks
+pub returns-then-passed : goal.returns-then-passed
 unfolding item_of kind_at
-returns-then-hops-walks c =
-    simp (← c.word_at-kind.ensures, c.in-2.is, c.if-hops-walks.true)
+returns-then-passed c =
+    simp (← c.word_at-kind.ensures, c.in-2.is, c.if-passed.true)
 
-pub returns-else-hops-walks : goal.returns-else-hops-walks
+pub returns-else-passed : goal.returns-else-passed
 unfolding item_of kind_at
-returns-else-hops-walks c =
-    simp (← c.word_at-kind.ensures, c.in-2.is, c.if-hops-walks.false)
+returns-else-passed c =
+    simp (← c.word_at-kind.ensures, c.in-2.is, c.if-passed.false)
 
-pub returns-then-hops-lt1024 : goal.returns-then-hops-lt1024
+pub returns-then-passed-lt1024 : goal.returns-then-passed-lt1024
 unfolding item_of kind_at
-returns-then-hops-lt1024 c =
-    simp (← c.word_at-kind.ensures, c.in-3.is, lt-ltb _ _ c.if-hops-lt1024.true)
+returns-then-passed-lt1024 c =
+    simp (← c.word_at-kind.ensures, c.in-3.is, lt-ltb _ _ c.if-passed-lt1024.true)
 
-pub returns-else-hops-lt1024 : goal.returns-else-hops-lt1024
+pub returns-else-passed-lt1024 : goal.returns-else-passed-lt1024
 unfolding item_of kind_at
-returns-else-hops-lt1024 c =
-    simp (← c.word_at-kind.ensures, c.in-3.is, le-ltb _ _ c.if-hops-lt1024.false)
+returns-else-passed-lt1024 c =
+    simp (← c.word_at-kind.ensures, c.in-3.is, le-ltb _ _ c.if-passed-lt1024.false)
 
 pub returns-in-4 : goal.returns-in-4
 unfolding item_of kind_at

@@ -1,7 +1,6 @@
 -- `job::three_bytes` meets its contract. Assumes nothing.
 use native.Mathlib.Omega.{arith}
 use Rattle.job.specs.Job.{be24}
-use borrow.Author.Rules.{rules}
 use Rattle.job.proofs.three_bytes.Goals as goal
 
 pub returns : goal.returns

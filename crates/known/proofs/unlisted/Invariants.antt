@@ -1,15 +1,10 @@
-use borrow.Author.Rules.{rules}
-use Prim.Native.Nat.{◌≤◌, ◌-◌, ◌+◌}
-use native.Mathlib.Omega.{arith}
-use mathlib.Core.Path.{◌≡◌, refl, sym, ap, ◌∙◌}
-use borrow.Author.Tests.{not-true, not-false}
+use Prim.Native.Nat.{◌≤◌, ◌-◌}
+use mathlib.Core.Path.{◌≡◌}
 use lib.ListN.{length, drop}
 use Rattle.journeys.specs.Counting.{none}
 use Rattle.journeys.specs.Refusals.{fine}
 use Rattle.feed.specs.Lines.{lines_of, first_bad_line}
-use Rattle.lines.proofs.Passes.{place_is, next_place, pass-over, pass-good, pass-bad, stop-within, next-within, next-later}
 use Rattle.known.specs.Counted.{counted, id_known}
-use Rattle.known.proofs.Lookups.{good-here, good-on}
 use Rattle.known.proofs.unlisted.Given as goal
 
 abbrev pub invariant-loop-at : goal.invariant-loop-at

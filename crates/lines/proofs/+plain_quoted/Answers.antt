@@ -1,7 +1,6 @@
-use Prim.Native.Nat.{ℕ, ◌+◌, ◌<◌, ◌-◌}
+use Prim.Native.Nat.{◌+◌}
 use native.Mathlib.Omega.{arith}
-use mathlib.Core.Path.{◌≡◌, sym, ◌∙◌}
-use lib.ListN.{length}
+use mathlib.Core.Path.{sym, ◌∙◌}
 use Rattle.lines.proofs.Steps.{opens-within, plain-within, quoted-within}
 use Rattle.lines.proofs.Stands.{none_left, plain-ends, plain-breaks, plain-goes, quoted-open, quoted-ends, quoted-breaks, quoted-goes}
 use Rattle.lines.proofs.+plain_quoted.Goals as goal

@@ -1,7 +1,6 @@
 use native.Mathlib.Omega.{arith}
-use mathlib.Core.Path.{◌≡◌, sym, ◌∙◌}
+use mathlib.Core.Path.{sym}
 use Rattle.lines.proofs.Steps.{ends-lf, ends-not, ends_last, ends-crlf}
-use borrow.Author.Rules.{rules}
 use Rattle.lines.proofs.ends_at.Goals as goal
 
 pub returns-then-b-eq10 : goal.returns-then-b-eq10

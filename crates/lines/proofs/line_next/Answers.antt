@@ -1,18 +1,16 @@
-use borrow.Author.Tests.{not-true, not-false}
 use native.Mathlib.Omega.{arith}
-use mathlib.Core.Path.{◌≡◌, sym, ◌∙◌}
+use mathlib.Core.Path.{sym}
 use Rattle.lines.proofs.Steps.{end-over, end-not, end-lf, end-crlf}
-use borrow.Author.Rules.{rules}
 use Rattle.lines.proofs.line_next.Goals as goal
 
 pub returns-then-stop-text : goal.returns-then-stop-text
 returns-then-stop-text c = omega (arith, end-over c.args.text.now c.args.stop (omega arith))
 
 pub returns-then-not-ends_at : goal.returns-then-not-ends_at
-returns-then-not-ends_at c = omega (arith, end-not c.args.text.now c.args.stop (omega arith) (sym c.ends_at.ensures ∙ not-true _ c.if-not-ends_at.true-raw))
+returns-then-not-ends_at c = omega (arith, end-not c.args.text.now c.args.stop (omega arith) (sym c.if-not-ends_at.ensures))
 
 pub returns-then-text-stop-eq10 : goal.returns-then-text-stop-eq10
-returns-then-text-stop-eq10 c = omega (arith, end-lf c.args.text.now c.args.stop (omega arith) (sym c.ends_at.ensures ∙ not-false _ c.if-not-ends_at.false-raw) c.if-text-stop-eq10.true)
+returns-then-text-stop-eq10 c = omega (arith, end-lf c.args.text.now c.args.stop (omega arith) (sym c.if-not-ends_at.ensures) c.if-text-stop-eq10.true)
 
 pub returns : goal.returns
-returns c = omega (arith, end-crlf c.args.text.now c.args.stop (omega arith) (sym c.ends_at.ensures ∙ not-false _ c.if-not-ends_at.false-raw) c.if-text-stop-eq10.false)
+returns c = omega (arith, end-crlf c.args.text.now c.args.stop (omega arith) (sym c.if-not-ends_at.ensures) c.if-text-stop-eq10.false)

@@ -1,9 +1,5 @@
-use borrow.Author.Rules.{rules}
 use native.Mathlib.Omega.{arith}
-use mathlib.Core.Path.{◌≡◌, sym, ◌∙◌}
-use Prim.Native.Nat.{◌+◌, ◌-◌, ◌≤◌}
-use lib.ListN.{length, drop}
-use Rattle.lines.specs.Ends.{width}
+use mathlib.Core.Path.{sym, ◌∙◌}
 use Rattle.lines.proofs.Steps.{width-over, width-ends, width-on}
 use Rattle.lines.proofs.line_stop.Goals as goal
 

@@ -1,7 +1,6 @@
 use native.Mathlib.Omega.{arith}
-use mathlib.Core.Path.{◌≡◌, sym, ◌∙◌}
+use mathlib.Core.Path.{sym}
 use Rattle.lines.proofs.Steps.{none-opens, opens-here}
-use borrow.Author.Rules.{rules}
 use Rattle.lines.proofs.opens.Goals as goal
 
 pub returns-then-at-line : goal.returns-then-at-line

@@ -1,9 +1,5 @@
-use borrow.Author.Rules.{rules}
-use Prim.Native.Nat.{◌≤◌}
 use native.Mathlib.Omega.{arith}
-use mathlib.Core.Path.{◌≡◌, refl, sym, ◌∙◌}
-use lib.ListN.{length}
-use Rattle.lines.specs.Passing.{stand}
+use mathlib.Core.Path.{sym, ◌∙◌}
 use Rattle.lines.proofs.Stands.{all-passed}
 use Rattle.lines.proofs.Passing.{goes_on, ends-here, breaks-here}
 use Rattle.lines.proofs.pass.Goals as goal

@@ -1,11 +1,7 @@
-use borrow.Author.Rules.{rules}
 use Prim.Native.Nat.{◌≤◌}
-use native.Mathlib.Omega.{arith}
-use mathlib.Core.Path.{◌≡◌, refl, sym, ◌∙◌}
+use mathlib.Core.Path.{◌≡◌}
 use lib.ListN.{length}
 use Rattle.lines.specs.Passing.{stand}
-use Rattle.lines.proofs.Stands.{all-passed}
-use Rattle.lines.proofs.Passing.{goes_on, ends-here, breaks-here}
 use Rattle.lines.proofs.pass.Given as goal
 
 abbrev pub invariant-loop-left : goal.invariant-loop-left

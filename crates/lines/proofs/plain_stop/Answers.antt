@@ -1,9 +1,6 @@
-use borrow.Author.Rules.{rules}
 use native.Mathlib.Omega.{arith}
 use mathlib.Core.Path.{◌≡◌, sym, ◌∙◌}
-use Prim.Native.Nat.{◌+◌, ◌-◌, ◌≤◌}
-use lib.ListN.{length, drop}
-use Rattle.lines.specs.Passing.{plain_stop}
+use lib.ListN.{length}
 use Rattle.lines.proofs.Steps.{plain_over, plain_here, plain-on}
 use Rattle.lines.proofs.plain_stop.Goals as goal
 
@@ -14,4 +11,4 @@ pub loop-i-preserved : goal.loop-i-preserved
 loop-i-preserved c = (omega arith, sym (plain-on _ _ (omega arith) c.if-b.false) ∙ c.loop-i.invariant.1)
 
 pub returns : goal.returns
-returns c = sym (plain_over _ _ (omega arith)) ∙ c.loop-i.invariant.1
+returns c = let over : length c.args.line.now ≡ c.loop-i.i = omega arith in over ∙ sym (plain_over c.args.line.now c.loop-i.i (omega arith)) ∙ c.loop-i.invariant.1

@@ -1,10 +1,8 @@
-use borrow.Author.Tests.{not-true, not-false}
 use native.Mathlib.Omega.{arith}
 use mathlib.Core.Path.{◌≡◌, sym, ◌∙◌}
-use Prim.Native.Nat.{◌+◌, ◌-◌, ◌≤◌}
+use Prim.Native.Nat.{◌+◌}
 use mathlib.Core.Bool.{true}
-use lib.ListN.{length, drop}
-use Rattle.lines.specs.Passing.{quoted_stop, opens_at}
+use Rattle.lines.specs.Passing.{opens_at}
 use Rattle.lines.proofs.Steps.{quoted-over, quoted-on, quoted-closes, quoted-doubled, opens-within}
 use Rattle.lines.proofs.quoted_stop.Goals as goal
 
@@ -12,11 +10,11 @@ pub loop-i-preserved-then-line-i-ne34 : goal.loop-i-preserved-then-line-i-ne34
 loop-i-preserved-then-line-i-ne34 c = (omega arith, sym (quoted-on _ _ (omega arith) c.if-line-i-ne34.true) ∙ c.loop-i.invariant.1)
 
 pub returns-then-not-opens : goal.returns-then-not-opens
-returns-then-not-opens c = sym (quoted-closes _ _ (omega arith) c.if-line-i-ne34.false (sym c.opens.ensures ∙ not-true _ c.if-not-opens.true-raw)) ∙ c.loop-i.invariant.1
+returns-then-not-opens c = sym (quoted-closes _ _ (omega arith) c.if-line-i-ne34.false (sym c.if-not-opens.ensures)) ∙ c.loop-i.invariant.1
 
 pub loop-i-preserved : goal.loop-i-preserved
 loop-i-preserved c =
-    let two : opens_at c.args.line.now (c.loop-i.i + 1) ≡ true = sym c.opens.ensures ∙ not-false _ c.if-not-opens.false-raw in
+    let two : opens_at c.args.line.now (c.loop-i.i + 1) ≡ true = sym c.if-not-opens.ensures in
     (omega (arith, opens-within _ _ two), sym (quoted-doubled _ _ (omega arith) c.if-line-i-ne34.false two) ∙ c.loop-i.invariant.1)
 
 pub returns : goal.returns

@@ -1,11 +1,7 @@
-use borrow.Author.Tests.{not-true, not-false}
-use native.Mathlib.Omega.{arith}
-use mathlib.Core.Path.{◌≡◌, sym, ◌∙◌}
-use Prim.Native.Nat.{◌+◌, ◌-◌, ◌≤◌}
-use mathlib.Core.Bool.{true}
-use lib.ListN.{length, drop}
-use Rattle.lines.specs.Passing.{quoted_stop, opens_at}
-use Rattle.lines.proofs.Steps.{quoted-over, quoted-on, quoted-closes, quoted-doubled, opens-within}
+use mathlib.Core.Path.{◌≡◌}
+use Prim.Native.Nat.{◌-◌, ◌≤◌}
+use lib.ListN.{length}
+use Rattle.lines.specs.Passing.{quoted_stop}
 use Rattle.lines.proofs.quoted_stop.Given as goal
 
 abbrev pub invariant-loop-i : goal.invariant-loop-i

@@ -1,7 +1,6 @@
 use native.Mathlib.Omega.{arith}
-use mathlib.Core.Path.{◌≡◌, sym, ◌∙◌}
+use mathlib.Core.Path.{sym, ◌∙◌}
 use Rattle.lines.proofs.Steps.{opens-within}
-use borrow.Author.Rules.{rules}
 use Rattle.lines.proofs.some_fields.Goals as goal
 
 pub quoted-requires : goal.quoted-requires

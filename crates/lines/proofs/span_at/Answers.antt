@@ -1,8 +1,7 @@
 use native.Mathlib.Omega.{arith}
-use mathlib.Core.Path.{◌≡◌, sym, ◌∙◌}
+use mathlib.Core.Path.{sym, ◌∙◌}
 use Rattle.lines.proofs.Steps.{opens-within}
 use Rattle.lines.proofs.Stands.{span-quoted, span-plain}
-use borrow.Author.Rules.{rules}
 use Rattle.lines.proofs.span_at.Goals as goal
 
 pub quoted_stop-requires : goal.quoted_stop-requires

@@ -1,5 +1,3 @@
-use borrow.Author.Rules.{rules}
-use mathlib.Core.Path.{◌≡◌}
 use Rattle.journeys.proofs.Tests.{and_both}
 use Rattle.lines.proofs.Strides.{two-plain-is}
 use Rattle.lines.proofs.two_plain.Goals as goal

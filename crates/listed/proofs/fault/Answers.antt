@@ -1,14 +1,12 @@
 -- `fault`: vertex after vertex; all places before the stretch of v are right.
-use borrow.Author.Rules.{rules}
-use mathlib.Core.Path.{◌≡◌, refl, sym, ap, ◌∙◌}
-use Prim.Native.Nat.{ℕ, suc, ◌+◌, ◌-◌, ◌*◌, ◌/◌, ◌<◌, ◌≤◌}
+use mathlib.Core.Path.{◌≡◌, sym, ap, ◌∙◌}
+use Prim.Native.Nat.{ℕ, suc, ◌+◌, ◌*◌, ◌<◌, ◌≤◌}
 use native.Mathlib.Omega.{arith}
 use lib.ListN.{length}
 use Rattle.journeys.proofs.Decoding.{vertex-count}
 use Rattle.listing.specs.Places.{total, from_of, below, same, Sound}
 use Rattle.listing.proofs.PlaceLaws.{below_none, below_next, below-most}
 use Rattle.listing.proofs.Froms.{sound, total-is, departs}
-use Rattle.listed.specs.Stretches.{Found}
 use Rattle.listed.proofs.Judging.{found_none, found-more, all_found, first-wrong}
 use Rattle.listed.proofs.fault.Goals as goal
 use Rattle.listed.proofs.fault.Goals.{After-departing_of, In-loop-v, Start}
@@ -61,8 +59,13 @@ overflow_cast-v c = record { fits = omega (arith, few (goal.at.overflow_cast-v c
 
 pub wrong_in-at-requires : goal.wrong_in-at-requires
 wrong_in-at-requires c = record {
-  le_hop_size = (c.requires.le_hop_size.0, (good (goal.at.wrong_in-at-requires c).Start).few, long (goal.at.wrong_in-at-requires c).Start, end_low (goal.at.wrong_in-at-requires c).After-departing_of);
-  first_value = (c.loop-v.invariant.0, ends (goal.at.wrong_in-at-requires c).After-departing_of);
+  fits = record {
+    hop_fits = c.requires.le_hop_size.0;
+    few = (good (goal.at.wrong_in-at-requires c).Start).few;
+    long = long (goal.at.wrong_in-at-requires c).Start;
+    within = end_low (goal.at.wrong_in-at-requires c).After-departing_of;
+  };
+  stretch = record { begins = c.loop-v.invariant.0; ends = ends (goal.at.wrong_in-at-requires c).After-departing_of };
 }
 
 pub overflow_cast-at : goal.overflow_cast-at
@@ -82,4 +85,4 @@ loop-v-preserved c =
 pub returns : goal.returns
 returns c =
     let a = c.args in
-    c.fine.ensures ∙ all_found a.hop_size a.vertices.now a.walks.now a.hops.now a.list.now (good (goal.at.returns c).Start) c.loop-v-test.false c.loop-v.invariant.1
+    all_found a.hop_size a.vertices.now a.walks.now a.hops.now a.list.now (good (goal.at.returns c).Start) c.loop-v-test.false c.loop-v.invariant.1

@@ -1,14 +1,13 @@
 -- `hops_wait`: one hop more that rises and waits.
-use borrow.Author.Rules.{rules}
-use mathlib.Core.Path.{◌≡◌, refl, sym, ap, subst, ◌∙◌}
+use mathlib.Core.Path.{◌≡◌, sym, ap, subst, ◌∙◌}
 use mathlib.Core.List.{List}
-use Prim.Native.Nat.{ℕ, ◌+◌, ◌-◌, ◌*◌, ◌/◌, ◌<◌, ◌≤◌}
+use Prim.Native.Nat.{ℕ, ◌+◌, ◌-◌, ◌<◌, ◌≤◌}
 use native.Mathlib.Omega.{arith}
 use lib.ListN.{length}
 use Rattle.records.specs.Columns.{records_in, from_at}
 use Rattle.listing.specs.Places.{total, from_of}
 use Rattle.listing.proofs.Froms.{of-hop}
-use Rattle.listed.specs.Stretches.{Rising, Risen}
+use Rattle.listed.specs.Stretches.{Rising}
 use Rattle.listed.specs.Waiting.{Leave, waited}
 use Rattle.listed.proofs.Judging.{rising-more}
 use Rattle.listed.proofs.WaitLaws.{leave-before, leave-here, waited-long, wrong-is, many_is}
@@ -17,7 +16,7 @@ use Rattle.listed.proofs.hops_wait.Goals.{At-loop-i}
 
 -- the scratch is as long as it was
 long : (c : At-loop-i) → length c.loop-i.scratch ≡ length c.args.scratch.now
-long c = c.loop-i.invariant.2 ∙ sym c.requires.7
+long c = c.loop-i.invariant.2 ∙ sym c.requires.at_le_end.3
 
 pub loop-i-preserved : goal.loop-i-preserved
 loop-i-preserved c =
@@ -25,14 +24,14 @@ loop-i-preserved c =
     let F = from_of a.hop_size a.walks.now a.hops.now in
     let G = from_at a.hop_size a.hops.now in
     let ways = records_in 16 a.walks.now in
-    let place = c.free_place-place.result in
-    let free : place < 512 = omega (arith, c.if-place-ge-PLACES.false) in
+    let place = c.in_ok-place.place in
+    let free : place < 512 = c.in_ok-place.ensures.0 in
     let x = c.word_at-x.result in
     let high : ways ≤ x = omega (arith, c.loop-i.invariant.3, c.if-x-least.false) in
-    let low : x < total a.hop_size a.walks.now a.hops.now = omega (arith, c.if-n-x.false, c.requires.2) in
+    let low : x < total a.hop_size a.walks.now a.hops.now = omega (arith, c.if-n-x.false, c.requires.fits.long) in
     let e = c.wait.ensures in
     let back : Leave G c.wait.new.scratch (place + 1) → Leave G (waited c.loop-i.scratch place (x - ways) a.v) (place + 1) = λ all. subst (λ (z : List ℕ). Leave G z (place + 1)) e all in
-    let before : Leave G c.wait.new.scratch (place + 1) → Leave G c.loop-i.scratch c.loop-i.many = λ all. c.free_place-place.ensures free (leave-before c.loop-i.scratch place (x - ways) a.v c.loop-i.invariant.2 free G (back all)) in (
+    let before : Leave G c.wait.new.scratch (place + 1) → Leave G c.loop-i.scratch c.loop-i.many = λ all. c.in_ok-place.ensures.1 (leave-before c.loop-i.scratch place (x - ways) a.v c.loop-i.invariant.2 free G (back all)) in (
       omega (arith, c.loop-i-test.true),
       omega (arith, free),
       ap length e ∙ waited-long c.loop-i.scratch place (x - ways) a.v c.loop-i.invariant.2 free,
@@ -59,5 +58,5 @@ returns-then-x-least c = wrong-is _ _ _ _ _ _ _ _ _ _
 pub returns-then-n-x : goal.returns-then-n-x
 returns-then-n-x c = wrong-is _ _ _ _ _ _ _ _ _ _
 
-pub returns-then-place-ge-PLACES : goal.returns-then-place-ge-PLACES
-returns-then-place-ge-PLACES c = wrong-is _ _ _ _ _ _ _ _ _ _
+pub returns-in_err-place : goal.returns-in_err-place
+returns-in_err-place c = rw c.from_residual.ensures (wrong-is _ _ _ _ _ _ _ _ _ _)

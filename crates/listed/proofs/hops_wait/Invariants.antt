@@ -1,16 +1,10 @@
-use borrow.Author.Rules.{rules}
-use mathlib.Core.Path.{◌≡◌, refl, sym, ap, subst, ◌∙◌}
-use mathlib.Core.List.{List}
-use Prim.Native.Nat.{ℕ, ◌+◌, ◌-◌, ◌*◌, ◌/◌, ◌<◌, ◌≤◌}
-use native.Mathlib.Omega.{arith}
+use mathlib.Core.Path.{◌≡◌}
+use Prim.Native.Nat.{ℕ, ◌≤◌}
 use lib.ListN.{length}
 use Rattle.records.specs.Columns.{records_in, from_at}
 use Rattle.listing.specs.Places.{total, from_of}
-use Rattle.listing.proofs.Froms.{of-hop}
-use Rattle.listed.specs.Stretches.{Rising, Risen}
-use Rattle.listed.specs.Waiting.{Leave, waited}
-use Rattle.listed.proofs.Judging.{rising-more}
-use Rattle.listed.proofs.WaitLaws.{leave-before, leave-here, waited-long, wrong-is, many_is}
+use Rattle.listed.specs.Stretches.{Rising}
+use Rattle.listed.specs.Waiting.{Leave}
 use Rattle.listed.proofs.hops_wait.Given as goal
 
 abbrev pub invariant-loop-i : goal.invariant-loop-i
@@ -18,6 +12,3 @@ invariant-loop-i l =
     (l.i ≤ l.end) × (l.many ≤ 512) × (length l.scratch ≡ 2048) × (records_in 16 l.walks ≤ l.least)
     × (Leave (from_at l.hop_size l.hops) l.scratch l.many → Leave (from_at l.hop_size l.hops) l.initial.scratch l.k)
     × (Leave (from_at l.hop_size l.hops) l.scratch l.many → (first : ℕ) → Rising (from_of l.hop_size l.walks l.hops) (total l.hop_size l.walks l.hops) l.v first l.at (records_in 16 l.walks) l.list → Rising (from_of l.hop_size l.walks l.hops) (total l.hop_size l.walks l.hops) l.v first l.i l.least l.list)
-
-abbrev pub decreases-loop-i : goal.decreases-loop-i
-decreases-loop-i l = l.end - l.i

@@ -1,19 +1,15 @@
 -- `sure`: one stretch more that rises, its hops waiting; at last all that wait leave, and there are as many numbers as records.
-use borrow.Author.Rules.{rules}
-use mathlib.Core.Path.{◌≡◌, refl, sym, ap, ap₂, subst, ◌∙◌}
-use mathlib.Core.List.{List}
-use Prim.Native.Nat.{ℕ, suc, ◌+◌, ◌-◌, ◌*◌, ◌/◌, ◌<◌, ◌≤◌}
+use mathlib.Core.Path.{◌≡◌, sym, ap, ap₂, ◌∙◌}
+use Prim.Native.Nat.{ℕ, suc, ◌+◌, ◌/◌}
 use native.Mathlib.Omega.{arith}
 use lib.ListN.{length}
 use borrow.Author.Tests.{eqb-true, not-false}
-use Rattle.journeys.proofs.Tests.{never}
 use Rattle.records.specs.Columns.{records_in, from_at}
-use Rattle.starts.specs.Sums.{departing_of, sums}
+use Rattle.starts.specs.Sums.{sums}
 use Rattle.starts.proofs.SumLaws.{sums-zero, sums-step}
 use Rattle.listing.specs.Places.{total, from_of}
 use Rattle.listing.proofs.Froms.{of-walk}
 use Rattle.listed.specs.Stretches.{Rising}
-use Rattle.listed.specs.Waiting.{Leave}
 use Rattle.listed.proofs.Counting.{Climbed, climbed-more, counts-right, found_all}
 use Rattle.listed.proofs.WaitLaws.{rising-among, is-many}
 use Rattle.listed.proofs.sure.Goals as goal
@@ -39,7 +35,7 @@ loop-v-preserved c =
     let n = total a.hop_size a.walks.now a.hops.now in
     let v = c.loop-v.v in
     let list = a.list.now in
-    let waits = is-many a.hop_size a.walks.now a.hops.now v c.walks_rise-middle.result (c.loop-v.first + c.departing_of.result) list c.loop-v.scratch c.loop-v.k _ _ _ c.in-Many.is c.hops_wait.ensures in
+    let waits = is-many a.hop_size a.walks.now a.hops.now v c.walks_rise-middle.result (c.loop-v.first + c.departing_of.result) list c.loop-v.scratch c.loop-v.k _ _ _ c.in-Some.is c.hops_wait.ensures in
     let walks : Rising F n v c.loop-v.first c.walks_rise-middle.result (records_in 16 a.walks.now) list =
     rising-among (from_at 16 a.walks.now) F (records_in 16 a.walks.now) (λ x l. of-walk a.hop_size a.walks.now a.walks.now a.hops.now x l) v (omega arith) c.walks_rise-middle.ensures.2 in (
       omega (arith, c.loop-v-test.true),

@@ -1,11 +1,10 @@
 -- `walks_rise`: one number more that rises and is a walk that leaves v.
-use borrow.Author.Rules.{rules}
-use mathlib.Core.Path.{◌≡◌, refl, sym, ap, ◌∙◌}
-use Prim.Native.Nat.{ℕ, ◌+◌, ◌-◌, ◌*◌, ◌<◌, ◌≤◌}
+use mathlib.Core.Path.{◌≡◌, sym, ◌∙◌}
+use Prim.Native.Nat.{◌≤◌}
 use native.Mathlib.Omega.{arith}
 use Rattle.records.specs.Columns.{records_in, from_at}
 use Rattle.listed.specs.Stretches.{Rising}
-use Rattle.listed.proofs.Judging.{rising_none, rising-more}
+use Rattle.listed.proofs.Judging.{rising-more}
 use Rattle.listed.proofs.WaitLaws.{rising-later}
 use Rattle.listed.proofs.walks_rise.Goals as goal
 use Rattle.listed.proofs.walks_rise.Goals.{At-loop-i}
@@ -30,4 +29,6 @@ pub returns-then-from_at-v : goal.returns-then-from_at-v
 returns-then-from_at-v c = stops (goal.at.returns-then-from_at-v c).At-loop-i
 
 pub returns : goal.returns
-returns c = stops (goal.at.returns c).At-loop-i
+returns c =
+    let e : c.loop-i.i ≡ c.args.end = omega (arith, c.loop-i.invariant.1) in
+    let s = stops (goal.at.returns c).At-loop-i in rw e at s

@@ -1,6 +1,5 @@
 -- `lists::judge` meets its contract: two passes find the first entry that is not good. Assumes nothing.
 use native.Mathlib.Omega.{arith}
-use borrow.Author.Rules.{rules}
 use Rattle.lists.specs.Lists.{told}
 use Rattle.journeys.specs.Lists.{entries, entry_ok, list_refusal}
 use Rattle.lists.proofs.Entries.{both-passes, good-few, first-refused, none-refused}

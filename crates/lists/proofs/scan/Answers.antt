@@ -1,18 +1,16 @@
 -- `lists::scan` meets its contract: the marks are the vertices of the half that earlier entries name. Assumes nothing.
-use mathlib.Core.Path.{◌≡◌, refl, sym, ap, ◌∙◌}
+use mathlib.Core.Path.{◌≡◌, refl, sym, ◌∙◌}
 use mathlib.Core.Bool.{true, ◌&&◌}
-use Prim.Native.Nat.{ℕ, suc, ◌+◌, ◌-◌, ◌*◌, ◌≤◌, ◌<◌}
+use Prim.Native.Nat.{suc, ◌+◌, ◌*◌}
 use native.Mathlib.Omega.{arith}
 use lib.Dec.{ltb}
-use lib.ListN.{length, length-replicate}
 use borrow.Author.Tests.{not-true, not-false}
-use borrow.Author.Rules.{rules}
 use Rattle.journeys.proofs.Counting.{below_suc}
 use Rattle.marks.specs.Marks.{bit}
 use Rattle.marks.proofs.Bits.{zero_bit}
-use Rattle.journeys.specs.Lists.{allows, vertex_in, distance_at, named}
+use Rattle.journeys.specs.Lists.{allows, vertex_in, distance_at}
 use Rattle.lists.specs.Passes.{half_ok}
-use Rattle.lists.proofs.Entries.{start_fits, judged-by-marks, marks-more, none_named}
+use Rattle.lists.proofs.Entries.{judged-by-marks, marks-more, none_named}
 use Rattle.lists.proofs.scan.Goals as goal
 
 pub loop-i-init : goal.loop-i-init

@@ -1,11 +1,6 @@
 -- `list_length`: one number for each record. Assumes nothing.
-use mathlib.Core.Path.{◌≡◌, sym, ◌∙◌}
+use mathlib.Core.Path.{◌∙◌}
 use Rattle.making.proofs.InOrder.{long-enough, other_length}
-use borrow.Author.Rules.{rules}
-use Rattle.making.proofs.list_length.Reads as reads
-use Rattle.making.proofs.list_length.Lts as lts
-use Rattle.words.proofs.fine.Reads as fine-reads
-use Rattle.words.proofs.refused.Reads as refused-reads
 use Rattle.making.proofs.list_length.Goals as goal
 
 pub returns-then-list-walks : goal.returns-then-list-walks
@@ -16,4 +11,4 @@ returns-then-list-walks c =
 pub returns : goal.returns
 returns c =
     let a = c.args in
-    c.fine.ensures ∙ long-enough a.hop_size a.vertices.now a.walks.now a.hops.now a.list.now c.if-list-walks.false
+    long-enough a.hop_size a.vertices.now a.walks.now a.hops.now a.list.now c.if-list-walks.false

@@ -1,13 +1,9 @@
 -- `marking::alight` meets its contract: the hops below i have been asked. Assumes nothing.
-use mathlib.Core.Path.{◌≡◌, refl, sym, ◌∙◌}
-use Prim.Native.Nat.{◌-◌}
+use mathlib.Core.Path.{refl, ◌∙◌}
 use native.Mathlib.Omega.{arith}
-use lib.ListN.{length}
 use Rattle.heldmap.proofs.ArrivingRun.{hop-run}
 use Rattle.marking.specs.Setting.{tables, query, mode}
-use Rattle.marking.specs.Pends.{state}
-use Rattle.marking.proofs.Moving.{Asking, asking-none, asking-one, asking-all}
-use borrow.Author.Rules.{rules}
+use Rattle.marking.proofs.Moving.{asking-none, asking-one, asking-all}
 use Rattle.marking.proofs.alight.Goals as goal
 
 pub loop-i-init : goal.loop-i-init

@@ -1,12 +1,8 @@
-use mathlib.Core.Path.{◌≡◌, refl, sym, ◌∙◌}
-use Prim.Native.Nat.{◌-◌}
-use native.Mathlib.Omega.{arith}
+use mathlib.Core.Path.{◌≡◌}
 use lib.ListN.{length}
-use Rattle.heldmap.proofs.ArrivingRun.{hop-run}
 use Rattle.marking.specs.Setting.{tables, query, mode}
 use Rattle.marking.specs.Pends.{state}
-use Rattle.marking.proofs.Moving.{Asking, asking-none, asking-one, asking-all}
-use borrow.Author.Rules.{rules}
+use Rattle.marking.proofs.Moving.{Asking}
 use Rattle.marking.proofs.alight.Given as goal
 
 abbrev pub invariant-loop-i : goal.invariant-loop-i
@@ -15,6 +11,3 @@ invariant-loop-i l =
     × (length l.table ≡ length l.initial.table)
     × (length l.marks ≡ length l.initial.marks)
     × (length l.stack ≡ length l.initial.stack)
-
-abbrev pub decreases-loop-i : goal.decreases-loop-i
-decreases-loop-i l = l.end - l.i

@@ -1,14 +1,12 @@
 -- `marking::alight_by` meets its contract. Assumes nothing.
-use mathlib.Core.Path.{◌≡◌, refl, sym, ap, ◌∙◌}
+use mathlib.Core.Path.{refl, sym, ap, ◌∙◌}
 use native.Mathlib.Omega.{arith}
-use borrow.Author.Tests.{not-true, not-false}
 use Rattle.journeys.specs.Tables.{Hop}
 use Rattle.journeys.proofs.Valid.{good-hop}
 use Rattle.marking.specs.Setting.{tables, query, mode}
 use Rattle.marking.specs.Moves.{alights_test}
 use Rattle.marking.proofs.Hops.{at-arrival, hop-low, hop-is, arrives}
-use Rattle.marking.proofs.Moving.{test-alights, alights-mark, alights-not, alights-already}
-use borrow.Author.Rules.{rules}
+use Rattle.marking.proofs.Moving.{test-alights, alights-mark, alights-not}
 use Rattle.marking.proofs.alight_by.Goals as goal
 
 pub alights-requires : goal.alights-requires
@@ -23,7 +21,7 @@ returns-then-not-alights c =
     let a = c.args in
     let e = ap (λ (x : Hop). alights_test (query a.a) a.d x.arrival) (hop-is c.requires.judged.0 a.i c.requires.i_bound) in
     alights-not (tables a.vertices.now a.walks.now a.hops.now a.a) (query a.a) (mode a.hops.now a.a) a.i a.d c.requires.judged.1
-    (e ∙ sym c.alights.ensures ∙ not-true c.alights.result c.if-not-alights.true-raw)
+    (e ∙ sym c.alights.ensures ∙ c.if-not-alights.true)
 
 pub mark_hop-requires : goal.mark_hop-requires
 mark_hop-requires c =
@@ -31,7 +29,7 @@ mark_hop-requires c =
     let k = c.requires.judged.0 in
     let N = tables a.vertices.now a.walks.now a.hops.now a.a in
     let e = ap (λ (x : Hop). alights_test (query a.a) a.d x.arrival) (hop-is k a.i c.requires.i_bound) in
-    let t = test-alights N (query a.a) (mode a.hops.now a.a) _ a.d a.i refl (e ∙ sym c.alights.ensures ∙ not-false c.alights.result c.if-not-alights.false-raw) in record {
+    let t = test-alights N (query a.a) (mode a.hops.now a.a) _ a.d a.i refl (e ∙ sym c.alights.ensures ∙ c.if-not-alights.false) in record {
       judged = c.requires.judged;
       markable = record {
         there = c.requires.i_bound;
@@ -45,4 +43,4 @@ returns c =
     let a = c.args in
     let e = ap (λ (x : Hop). alights_test (query a.a) a.d x.arrival) (hop-is c.requires.judged.0 a.i c.requires.i_bound) in
     alights-mark (tables a.vertices.now a.walks.now a.hops.now a.a) (query a.a) (mode a.hops.now a.a) a.i a.d c.requires.i_bound
-    (e ∙ sym c.alights.ensures ∙ not-false c.alights.result c.if-not-alights.false-raw) c.mark_hop.ensures
+    (e ∙ sym c.alights.ensures ∙ c.if-not-alights.false) c.mark_hop.ensures

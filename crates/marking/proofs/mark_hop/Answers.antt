@@ -1,9 +1,7 @@
 -- `marking::mark_hop` meets its contract. Assumes nothing.
-use native.Mathlib.Omega.{arith}
 use Rattle.marking.specs.Setting.{tables, query, mode}
 use Rattle.marking.specs.Pends.{state}
 use Rattle.marking.proofs.Pushing.{hop-marked}
-use borrow.Author.Rules.{rules}
 use Rattle.marking.proofs.mark_hop.Goals as goal
 
 pub returns : goal.returns

@@ -1,12 +1,10 @@
 -- `marking::release` meets its contract: an offer is made, or one of the two ends says that there is none. Assumes nothing.
 use mathlib.Core.Path.{sym, ap, ◌∙◌}
 use native.Mathlib.Omega.{arith}
-use borrow.Author.Tests.{not-true, not-false}
 use Rattle.marks.specs.Marks.{bit}
 use Rattle.improving.specs.Figures.{figures}
 use Rattle.marking.specs.Setting.{tables, query, mode}
 use Rattle.marking.proofs.Hops.{at-arrival, allowed-fits, hop-low, to_is, from_is, to_low, from_low, departs, leaves_by, stands, not_there, gone-already, is-offered}
-use borrow.Author.Rules.{rules}
 use Rattle.marking.proofs.release.Goals as goal
 
 pub to_at-requires : goal.to_at-requires
@@ -22,7 +20,7 @@ returns-then-not-member c =
     let x = c.to_at.ensures in (
       p.1,
       not_there (tables a.vertices.now a.walks.now a.hops.now a.a) (query a.a) (mode a.hops.now a.a) (bit a.set.now) a.j (figures a.t a.table.now)
-          (ap (bit a.set.now) (sym (to_is p.0 a.j p.3) ∙ sym x) ∙ sym c.member.ensures ∙ not-true c.member.result c.if-not-member.true-raw),
+          (ap (bit a.set.now) (sym (to_is p.0 a.j p.3) ∙ sym x) ∙ sym c.member.ensures ∙ c.if-not-member.true),
     )
 
 pub from_at-from-requires : goal.from_at-from-requires
@@ -61,7 +59,7 @@ returns c =
       c.improve.ensures.ready,
       c.improve.ensures.figures_are
           ∙ is-offered (tables a.vertices.now a.walks.now a.hops.now a.a) (query a.a) (mode a.hops.now a.a) (bit a.set.now) a.j (figures a.t a.table.now)
-          (ap (bit a.set.now) (sym (to_is p.0 a.j p.3) ∙ sym x) ∙ sym c.member.ensures ∙ not-false c.member.result c.if-not-member.false-raw)
+          (ap (bit a.set.now) (sym (to_is p.0 a.j p.3) ∙ sym x) ∙ sym c.member.ensures ∙ c.if-not-member.false)
           (ap (bit a.set.now) (sym (from_is p.0 a.j p.3) ∙ sym e) ∙ sym c.member-2.ensures ∙ c.if-member.false)
           p.0.allowed (e ∙ from_is p.0 a.j p.3) (stands p.0 a.j p.3 c.standing_at-offer.ensures),
     )

@@ -1,7 +1,6 @@
 -- `marks::mark` meets its contract: adding a power sets one bit that was not set. Assumes nothing.
 use Rattle.marks.proofs.Bits.{is-marked, not-marked, mark-fits, mark-sets, marked-again, power-above-zero}
 use Rattle.journeys.proofs.Tests.{cond-true, cond-false}
-use Prim.Native.Nat.{◌/◌}
 use native.Mathlib.Omega.{arith}
 use mathlib.Core.Path.{sym}
 use borrow.Author.Rules.{rules}
@@ -21,7 +20,7 @@ returns-then-marks-at-eq1 c =
 pub overflow_add-marks : goal.overflow_add-marks
 overflow_add-marks c =
     let a = c.args in
-    record { fits = mark-fits a.marks.now a.k _ c.power-p.ensures c.if-marks-at-eq1.false (omega (arith, c.slice_known-3-1.given (a.k / 16))) }
+    record { fits = mark-fits a.marks.now a.k _ c.power-p.ensures c.if-marks-at-eq1.false (search rules) }
 
 pub returns : goal.returns
 returns c =

@@ -1,6 +1,5 @@
 -- `marks::marked` meets its contract. Assumes nothing.
 use Rattle.marks.proofs.Bits.{test-is, power-above-zero}
-use borrow.Author.Rules.{rules}
 use Rattle.marks.proofs.marked.Goals as goal
 
 pub nonzero_div-result-2 : goal.nonzero_div-result-2

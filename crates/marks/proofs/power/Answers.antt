@@ -1,5 +1,4 @@
 use Rattle.marks.proofs.Bits.{shifted}
-use borrow.Author.Rules.{rules}
 use Rattle.marks.proofs.power.Goals as goal
 
 pub returns : goal.returns

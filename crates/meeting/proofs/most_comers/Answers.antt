@@ -1,16 +1,13 @@
 -- `meeting::most_comers` meets its contract: the loop has counted the first i records. Assumes nothing.
-use mathlib.Core.Path.{◌≡◌, refl, ap, ◌∙◌}
+use mathlib.Core.Path.{refl}
 use mathlib.Core.Bool.{not}
-use Prim.Native.Nat.{ℕ, ◌-◌, ◌+◌, ◌*◌, ◌≤◌}
+use Prim.Native.Nat.{◌+◌}
 use native.Mathlib.Omega.{arith}
 use Rattle.journeys.specs.Counting.{count}
-use Rattle.journeys.proofs.Counting.{one-most, count_most}
-use Rattle.passing.specs.Row.{passes}
+use Rattle.journeys.proofs.Counting.{count_most}
 use Rattle.directed.specs.Directed.{row_in}
-use Rattle.directed.proofs.Either.{numbered, few}
-use Rattle.meeting.specs.Passing.{futile, comers}
+use Rattle.meeting.specs.Passing.{futile}
 use Rattle.meeting.proofs.Sizes.{comers-more}
-use borrow.Author.Rules.{rules}
 use Rattle.meeting.proofs.most_comers.Goals as goal
 
 pub loop-i-init : goal.loop-i-init

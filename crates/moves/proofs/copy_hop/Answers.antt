@@ -1,14 +1,13 @@
--- `moves::copy_hop` meets its contract: both records lie inside their tables, and four words are their sixteen bytes. Assumes nothing.
-use mathlib.Core.Path.{ap, ap₂, ◌∙◌}
-use mathlib.Core.List.{List}
-use Prim.Native.Nat.{ℕ, ◌+◌, ◌*◌, ◌≤◌}
-use lib.ListN.{length, take, drop}
+-- `moves::copy_hop` meets its contract: both records lie inside their tables. Assumes nothing.
+use mathlib.Core.Path.{◌≡◌, ap, ap₂, ◌∙◌}
+use Prim.Native.Nat.{ℕ, ◌+◌, ◌-◌, ◌*◌, ◌≤◌}
+use lib.ListN.{length, take, drop, length-drop}
+use lib.Seq.{length-take-le}
 use native.Mathlib.Omega.{arith}
-use borrow.Author.Rules.{rules}
 use Rattle.words.specs.Written.{written}
+use Rattle.words.proofs.Written.{copied}
 use Rattle.records.proofs.Sizes.{start_fits}
 use Rattle.moves.specs.Moved.{common}
-use Rattle.moves.proofs.Words.{sixteen}
 use Rattle.moves.proofs.copy_hop.Goals as goal
 use Rattle.moves.proofs.copy_hop.Goals.{Start}
 
@@ -25,8 +24,10 @@ returns c =
     let t = c.args.target.now in
     let at = c.hop_start-at.result in
     let place = c.hop_start-place.result in
-    let put : ℕ → List ℕ → List ℕ = λ k l. written l (place + k) (take 4 (drop (at + k) b)) in
-    c.copy_word-4.ensures
-    ∙ ap (put 12) (c.copy_word-3.ensures ∙ ap (put 8) (c.copy_word-2.ensures ∙ ap (put 4) c.copy_word.ensures))
-    ∙ sixteen t b place at (omega (arith, c.hop_start-at.ensures, c.hop_start-place.ensures, inside (goal.at.returns c).Start)) (omega (arith, c.hop_start-at.ensures, c.hop_start-place.ensures, inside (goal.at.returns c).Start))
-    ∙ ap₂ (λ (p q : ℕ). written t p (take 16 (drop q b))) c.hop_start-place.ensures c.hop_start-at.ensures
+    let fits = inside (goal.at.returns c).Start in
+    let sixteen : at + 16 - at ≡ 16 = omega arith in
+    let taken : c.copy_from_slice.new.self ≡ take 16 (drop at b) = c.copy_from_slice.ensures.after ∙ ap (λ (k : ℕ). take k (drop at b)) sixteen in
+    let long : length (take 16 (drop at b)) ≡ 16 = length-take-le 16 (drop at b) (simp length-drop (omega (arith, c.hop_start-at.ensures, c.requires.le_from, fits))) in
+    let room : place + 16 - place ≡ length c.copy_from_slice.new.self = omega (arith, ap length taken, long) in
+    copied t c.copy_from_slice.new.self place _ room
+    ∙ ap₂ (written t) c.hop_start-place.ensures (taken ∙ ap (λ (p : ℕ). take 16 (drop p b)) c.hop_start-at.ensures)

@@ -1,29 +1,26 @@
 -- `moves::forward` meets its contract: the lengths are judged before anything is written. Assumes nothing.
 use mathlib.Core.Path.{sym, ◌∙◌}
-use borrow.Author.Rules.{rules}
-use Rattle.audit.proofs.Scan.{same_number}
+use Rattle.words.proofs.Chains.{kept, refuses, passes}
 use Rattle.moves.specs.Moved.{forward_refusal}
 use Rattle.moves.proofs.GoodLengths.{target-long}
 use Rattle.moves.proofs.Left.{refused-leaves, done-leaves}
 use Rattle.moves.proofs.forward.Goals as goal
 
-pub returns-then-one-ne0 : goal.returns-then-one-ne0
-returns-then-one-ne0 c =
-    let one = c.lengths-one.ensures in
+pub returns-in_err-lengths : goal.returns-in_err-lengths
+returns-in_err-lengths c =
     let s = c.args in record {
-      result_value = one;
-      target_after = sym (refused-leaves (forward_refusal s.source.now s.target.now) _ _ (λ e. c.if-one-ne0.true (same_number one ∙ e)));
+      result_value = kept _ c.in_err-lengths.was c.from_residual.ensures ∙ c.lengths.ensures;
+      target_after = sym (refused-leaves (forward_refusal s.source.now s.target.now) _ _ (refuses c.in_err-lengths.was c.lengths.ensures));
     }
 
 pub lengthen-requires : goal.lengthen-requires
 lengthen-requires c =
     let s = c.args in
-    target-long 16 20 s.source.now s.target.now (sym (same_number c.lengths-one.ensures) ∙ c.if-one-ne0.false)
+    target-long 16 20 s.source.now s.target.now (passes c.in_ok-lengths.was c.lengths.ensures)
 
 pub returns : goal.returns
 returns c =
-    let one = c.lengths-one.ensures in
     let s = c.args in record {
-      result_value = one;
-      target_after = c.lengthen.ensures ∙ sym (done-leaves (forward_refusal s.source.now s.target.now) _ _ (sym (same_number one) ∙ c.if-one-ne0.false));
+      result_value = c.in_ok-lengths.ensures;
+      target_after = c.lengthen.ensures ∙ sym (done-leaves (forward_refusal s.source.now s.target.now) _ _ (passes c.in_ok-lengths.was c.lengths.ensures));
     }

@@ -7,7 +7,6 @@ use native.Mathlib.Omega.{arith}
 use lib.Dec.{leb}
 use lib.ListN.{length}
 use borrow.Author.Tests.{not-true, not-false, eq-eqb, ne_eqb, leb-true}
-use borrow.Author.Rules.{rules}
 use Rattle.journeys.specs.Refusals.{whole_of, table_of, or_else, unless}
 use Rattle.journeys.proofs.Tests.{and_both}
 use Rattle.moves.specs.Moved.{move_lengths}
@@ -35,4 +34,4 @@ pub returns : goal.returns
 unfolding move_lengths or_else unless
 returns c =
     let ok = not-false c.table_ok.result c.if-not-table_ok.false-raw in
-    c.fine.ensures ∙ simp (← c.table_ok.ensures, ok, eq-eqb _ _ c.if-target-to.false)
+    simp (← c.table_ok.ensures, ok, eq-eqb _ _ c.if-target-to.false)

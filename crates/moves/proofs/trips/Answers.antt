@@ -1,13 +1,11 @@
 -- `moves::trips` meets its contract: what is left of the scan gives the answer of the whole. Assumes nothing.
-use mathlib.Core.Path.{◌≡◌, sym, ◌∙◌}
-use Prim.Native.Nat.{◌-◌, ◌/◌, ◌≤◌}
+use mathlib.Core.Path.{refl, sym, ◌∙◌}
+use Prim.Native.Nat.{◌/◌}
 use lib.Dec.{eqb}
 use lib.ListN.{length}
 use native.Mathlib.Omega.{arith}
-use borrow.Author.Rules.{rules}
 use borrow.Author.Tests.{eq-eqb, ne_eqb}
-use Rattle.journeys.specs.Refusals.{first_bad}
-use Rattle.moves.proofs.Scanned.{left, left-start, left-good, left-bad, left-none}
+use Rattle.moves.proofs.Scanned.{left-start, left-good, left-bad, left-none}
 use Rattle.moves.specs.Moved.{trip}
 use Rattle.moves.proofs.trips.Goals as goal
 
@@ -32,4 +30,4 @@ pub returns : goal.returns
 returns c =
     let L = c.loop-i in
     let b = c.args.source.now in
-    left-none 11 (λ j. eqb (trip b j) 0) (length b / 20) L.i (omega arith) L.invariant.2 c.fine.ensures
+    left-none 11 (λ j. eqb (trip b j) 0) (length b / 20) L.i (omega arith) L.invariant.2 refl

@@ -1,7 +1,5 @@
-use borrow.Author.Rules.{rules}
 use native.Mathlib.Omega.{arith}
-use mathlib.Core.Path.{refl, sym, ◌∙◌}
-use Rattle.journeys.proofs.Tests.{never}
+use mathlib.Core.Path.{sym, ◌∙◌}
 use Rattle.naming.proofs.Plainly.{plain-id}
 use Rattle.naming.proofs.comma_behind.Goals as goal
 

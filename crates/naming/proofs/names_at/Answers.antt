@@ -1,7 +1,6 @@
 use native.Mathlib.Omega.{arith}
 use mathlib.Core.Path.{sym, ◌∙◌}
 use borrow.Author.Tests.{not-true}
-use borrow.Author.Rules.{rules}
 use Rattle.journeys.proofs.Tests.{and_both}
 use Rattle.lines.proofs.Passes.{stop-within}
 use Rattle.naming.proofs.Places.{line-named}

@@ -1,19 +1,15 @@
-use borrow.Author.Rules.{rules}
-use Prim.Native.Nat.{◌≤◌, ◌-◌}
 use native.Mathlib.Omega.{arith}
-use mathlib.Core.Path.{◌≡◌, refl, sym, ◌∙◌}
-use lib.ListN.{length, drop}
-use Rattle.naming.specs.Named.{above}
+use mathlib.Core.Path.{sym, ◌∙◌}
 use Rattle.naming.proofs.Plainly.{above-not, above-next, above-over}
 use Rattle.naming.proofs.plain_name.Goals as goal
 
-pub returns-then-name-i-le44 : goal.returns-then-name-i-le44
-returns-then-name-i-le44 c =
-    sym (sym c.loop-i.invariant.1 ∙ above-not c.args.name.now c.loop-i.i c.loop-i-test.true c.if-name-i-le44.true)
+pub returns-then-b-le44 : goal.returns-then-b-le44
+returns-then-b-le44 c =
+    sym (sym c.loop-b.invariant.1 ∙ above-not c.args.name.now c.loop-b.b-index c.loop-b-test.true c.if-b-le44.true)
 
-pub loop-i-preserved : goal.loop-i-preserved
-loop-i-preserved c =
-    (omega (arith, c.loop-i-test.true), sym (above-next c.args.name.now c.loop-i.i c.loop-i-test.true (omega (arith, c.if-name-i-le44.false))) ∙ c.loop-i.invariant.1)
+pub loop-b-preserved : goal.loop-b-preserved
+loop-b-preserved c =
+    (omega (arith, c.loop-b-test.true), sym (above-next c.args.name.now c.loop-b.b-index c.loop-b-test.true (omega (arith, c.if-b-le44.false))) ∙ c.loop-b.invariant.1)
 
 pub returns : goal.returns
-returns c = sym (sym c.loop-i.invariant.1 ∙ above-over c.args.name.now c.loop-i.i c.loop-i-test.false)
+returns c = sym (sym c.loop-b.invariant.1 ∙ above-over c.args.name.now c.loop-b.b-index c.loop-b-test.false)

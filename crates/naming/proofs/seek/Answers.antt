@@ -1,8 +1,6 @@
-use Prim.Native.Nat.{◌≤◌, ◌-◌}
 use native.Mathlib.Omega.{arith}
 use native.Mathlib.Numerals.{add-one}
-use mathlib.Core.Path.{◌≡◌, refl, sym, ap, ◌∙◌}
-use lib.ListN.{length}
+use mathlib.Core.Path.{sym, ap, ◌∙◌}
 use Rattle.journeys.proofs.Tests.{cond-true, cond-false}
 use Rattle.lines.proofs.Passes.{stop-within, next-within, next-later}
 use Rattle.naming.specs.Named.{found_from}

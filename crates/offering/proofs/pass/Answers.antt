@@ -1,7 +1,6 @@
 -- `offering::pass` meets its contract: first the walks, then the hops. Assumes nothing.
 use Rattle.marking.specs.Setting.{tables, query, mode}
 use Rattle.offering.proofs.Along.{passes_on, passes-all}
-use borrow.Author.Rules.{rules}
 use Rattle.offering.proofs.pass.Goals as goal
 
 pub returns : goal.returns

@@ -1,14 +1,10 @@
 -- `offering::pass_hops` meets its contract: the records below i have made their offers. Assumes nothing.
-use mathlib.Core.Path.{◌≡◌, refl, ◌∙◌}
-use Prim.Native.Nat.{◌+◌, ◌-◌, ◌≤◌}
+use mathlib.Core.Path.{refl, ◌∙◌}
 use native.Mathlib.Omega.{arith}
-use lib.ListN.{length}
-use Rattle.journeys.specs.Tables.{walk_count, hop_count}
+use Rattle.journeys.specs.Tables.{hop_count}
 use Rattle.heldmap.proofs.ArrivingRun.{hop-run}
 use Rattle.marking.specs.Setting.{tables, query, mode}
-use Rattle.offering.specs.Offers.{Passes}
 use Rattle.offering.proofs.Along.{vertex-low, passes_same, passes-skip, passes-hop, no-hops}
-use borrow.Author.Rules.{rules}
 use Rattle.offering.proofs.pass_hops.Goals as goal
 
 pub end_arriving-end-requires : goal.end_arriving-end-requires

@@ -1,13 +1,9 @@
-use mathlib.Core.Path.{◌≡◌, refl, ◌∙◌}
-use Prim.Native.Nat.{◌+◌, ◌-◌, ◌≤◌}
-use native.Mathlib.Omega.{arith}
+use mathlib.Core.Path.{◌≡◌}
+use Prim.Native.Nat.{◌+◌, ◌≤◌}
 use lib.ListN.{length}
-use Rattle.journeys.specs.Tables.{walk_count, hop_count}
-use Rattle.heldmap.proofs.ArrivingRun.{hop-run}
+use Rattle.journeys.specs.Tables.{walk_count}
 use Rattle.marking.specs.Setting.{tables, query, mode}
 use Rattle.offering.specs.Offers.{Passes}
-use Rattle.offering.proofs.Along.{vertex-low, passes_same, passes-skip, passes-hop, no-hops}
-use borrow.Author.Rules.{rules}
 use Rattle.offering.proofs.pass_hops.Given as goal
 
 abbrev pub invariant-loop-i : goal.invariant-loop-i
@@ -16,6 +12,3 @@ invariant-loop-i l =
     × (l.i ≤ l.end)
     × Passes (tables l.vertices l.walks l.hops l.a) (query l.a) (mode l.hops l.a) l.set l.marks l.x l.d (walk_count (tables l.vertices l.walks l.hops l.a)) (walk_count (tables l.vertices l.walks l.hops l.a) + l.i) l.initial.q l.q l.initial.table l.table
     × (length l.table ≡ length l.initial.table)
-
-abbrev pub decreases-loop-i : goal.decreases-loop-i
-decreases-loop-i l = l.end - l.i

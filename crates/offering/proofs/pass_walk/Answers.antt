@@ -2,15 +2,12 @@
 use mathlib.Core.Path.{sym, ap, ◌∙◌}
 use Prim.Native.Nat.{ℕ, ◌+◌}
 use native.Mathlib.Omega.{arith}
-use Rattle.journeys.specs.Tables.{walk}
-use Rattle.journeys.specs.Query.{allowed, walk_ticks}
+use Rattle.journeys.specs.Query.{allowed}
 use Rattle.marks.specs.Marks.{bit}
 use Rattle.improving.specs.Figures.{figures}
-use Rattle.marking.specs.Setting.{tables, query, mode}
+use Rattle.marking.specs.Setting.{query}
 use Rattle.marking.proofs.Hops.{allowed-fits}
-use Rattle.offering.proofs.Offered.{way-fits}
 use Rattle.offering.proofs.Along.{walk_low, from_is, from_low, way-is, taken_not, taken_is}
-use borrow.Author.Rules.{rules}
 use Rattle.offering.proofs.pass_walk.Goals as goal
 
 pub from_at-from-requires : goal.from_at-from-requires

@@ -1,6 +1,5 @@
 use mathlib.Core.Path.{refl}
 use Rattle.opening.specs.Seeds.{from_is_seed}
-use borrow.Author.Rules.{rules}
 use Rattle.opening.proofs.from_is_seed.Goals as goal
 
 pub returns : goal.returns

@@ -3,7 +3,6 @@ use mathlib.Core.Path.{◌∙◌, ap₂}
 use Prim.Native.Nat.{ℕ, ◌+◌}
 use native.Mathlib.Omega.{arith}
 use Rattle.opening.proofs.OpenEnds.{sent-none, sent-some}
-use borrow.Author.Rules.{rules}
 use Rattle.opening.proofs.sent_ticks.Goals as goal
 
 pub returns-then-left-eq0 : goal.returns-then-left-eq0

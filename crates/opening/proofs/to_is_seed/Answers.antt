@@ -3,7 +3,6 @@ use mathlib.Core.Bool.{Bool, not, ◌||◌}
 use lib.Dec.{eqb}
 use Rattle.journeys.specs.Counting.{none}
 use Rattle.opening.specs.Seeds.{to_is_seed}
-use borrow.Author.Rules.{rules}
 use Rattle.opening.proofs.to_is_seed.Goals as goal
 
 pub returns : goal.returns

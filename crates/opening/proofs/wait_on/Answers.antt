@@ -3,7 +3,6 @@ use mathlib.Core.Path.{◌∙◌, ap}
 use Prim.Native.Nat.{ℕ, ◌*◌}
 use Rattle.journeys.specs.Tables.{wait_of, walk_at}
 use Rattle.opening.proofs.OpenEnds.{wait-there, no-wait}
-use borrow.Author.Rules.{rules}
 use Rattle.opening.proofs.wait_on.Goals as goal
 
 pub returns-then-at-walks : goal.returns-then-at-walks

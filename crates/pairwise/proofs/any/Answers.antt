@@ -1,11 +1,10 @@
-use borrow.Author.Rules.{rules}
-use Prim.Native.Nat.{ℕ, ◌≤◌, ◌-◌, ◌+◌}
+use Prim.Native.Nat.{◌-◌}
 use native.Mathlib.Omega.{arith}
-use mathlib.Core.Path.{◌≡◌, refl, sym, ap, ◌∙◌}
+use mathlib.Core.Path.{sym, ap, ◌∙◌}
 use mathlib.Core.Bool.{false}
 use Rattle.feed.specs.Stops.{Stop}
-use Rattle.feed.specs.Trips.{stop, some}
-use Rattle.reread.specs.Read.{stop_is, stops_here}
+use Rattle.feed.specs.Trips.{stop}
+use Rattle.reread.specs.Read.{stops_here}
 use Rattle.pairwise.specs.Asked.{asked}
 use Rattle.pairwise.proofs.Answers.{some-start, some_more, some-found}
 use Rattle.pairwise.proofs.any.Goals as goal
@@ -16,9 +15,9 @@ loop-k-init c = (omega arith, some-start _)
 pub returns-then-ask : goal.returns-then-ask
 returns-then-ask c =
     let a = c.args in
-    some-found (λ j. asked a.question (stop_is a.a) (stop_is a.b) (stop (stops_here a.c a.stops.now a.trips.now a.text.now a.from) j)) _ c.loop-k.k c.loop-k-test.true (ap (λ (s : Stop). asked a.question (stop_is a.a) (stop_is a.b) s) (sym c.stop_at-h.ensures) ∙ sym c.ask.ensures ∙ c.if-ask.true)
+    some-found (λ j. asked a.question (stop (stops_here a.c a.stops.now a.trips.now a.text.now a.from) j)) _ c.loop-k.k c.loop-k-test.true (ap (λ (s : Stop). asked a.question s) (sym c.stop_at-h.ensures) ∙ sym c.ask.ensures ∙ c.if-ask.true)
 
 pub loop-k-preserved : goal.loop-k-preserved
 loop-k-preserved c =
     let a = c.args in
-    (omega (arith, c.loop-k-test.true), some_more (λ j. asked a.question (stop_is a.a) (stop_is a.b) (stop (stops_here a.c a.stops.now a.trips.now a.text.now a.from) j)) c.loop-k.k c.loop-k.invariant.1 (ap (λ (s : Stop). asked a.question (stop_is a.a) (stop_is a.b) s) (sym c.stop_at-h.ensures) ∙ sym c.ask.ensures ∙ c.if-ask.false))
+    (omega (arith, c.loop-k-test.true), some_more (λ j. asked a.question (stop (stops_here a.c a.stops.now a.trips.now a.text.now a.from) j)) c.loop-k.k c.loop-k.invariant.1 (ap (λ (s : Stop). asked a.question s) (sym c.stop_at-h.ensures) ∙ sym c.ask.ensures ∙ c.if-ask.false))

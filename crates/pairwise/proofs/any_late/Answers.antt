@@ -1,10 +1,9 @@
-use borrow.Author.Rules.{rules}
-use Prim.Native.Nat.{ℕ, ◌≤◌, ◌<◌, ◌-◌, ◌+◌}
+use Prim.Native.Nat.{◌-◌}
 use native.Mathlib.Omega.{arith}
-use mathlib.Core.Path.{◌≡◌, refl, sym, ap, ◌∙◌}
-use mathlib.Core.Bool.{Bool, true, false, not, ◌&&◌}
-use Rattle.reread.specs.Read.{stop_is, stops_here}
-use Rattle.feed.specs.Trips.{some, too_soon}
+use mathlib.Core.Path.{sym, ◌∙◌}
+use mathlib.Core.Bool.{true, false}
+use Rattle.reread.specs.Read.{stops_here}
+use Rattle.feed.specs.Trips.{too_soon}
 use Rattle.pairwise.proofs.Answers.{some-start, some_more, some-found}
 use Rattle.pairwise.proofs.any_late.Goals as goal
 

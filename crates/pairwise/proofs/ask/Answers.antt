@@ -1,14 +1,20 @@
-use borrow.Author.Rules.{rules}
-use mathlib.Core.Path.{◌≡◌, refl, sym, ap, ap₂, ◌∙◌}
-use mathlib.Core.Bool.{Bool, true, false, not, ◌&&◌}
-use Rattle.pairwise.proofs.Answers.{asked-zero, asked-one, asked-two, asked-else}
+use mathlib.Core.Path.{refl, ap₂}
+use mathlib.Core.Bool.{Bool, ◌&&◌}
+use Rattle.pairwise.specs.Asked.{asked}
 use Rattle.pairwise.proofs.ask.Goals as goal
 
-pub returns-then-question-eq1 : goal.returns-then-question-eq1
-returns-then-question-eq1 c = asked-one _ _ _ c.if-question-eq1.true c.is_sooner.ensures
+pub returns-in-Between : goal.returns-in-Between
+unfolding asked
+returns-in-Between c = rw c.in-Between.is (ap₂ (λ (x y : Bool). c.args.k.timed && x && y) c.is_sooner.ensures c.is_sooner-in-Between.ensures)
 
-pub returns-then-question-eq2 : goal.returns-then-question-eq2
-returns-then-question-eq2 c = asked-two _ _ _ c.if-question-eq2.true c.is_sooner-then-question-eq2.ensures
+pub returns-in-Before : goal.returns-in-Before
+unfolding asked
+returns-in-Before c = rw c.in-Before.is c.is_sooner-in-Before.ensures
 
-pub returns : goal.returns
-returns c = asked-else _ _ _ c.if-question-eq0.false c.if-question-eq1.false c.if-question-eq2.false refl
+pub returns-in-Behind : goal.returns-in-Behind
+unfolding asked
+returns-in-Behind c = rw c.in-Behind.is c.is_sooner-in-Behind.ensures
+
+pub returns-in-Beside : goal.returns-in-Beside
+unfolding asked
+returns-in-Beside c = rw c.in-Beside.is refl

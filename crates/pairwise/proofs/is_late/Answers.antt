@@ -1,9 +1,6 @@
-use borrow.Author.Rules.{rules}
-use Prim.Native.Nat.{ℕ, ◌≤◌, ◌<◌, ◌-◌, ◌+◌}
-use native.Mathlib.Omega.{arith}
-use mathlib.Core.Path.{◌≡◌, refl, sym, ap, ◌∙◌}
-use mathlib.Core.Bool.{Bool, true, false, not, ◌&&◌}
-use Rattle.reread.specs.Read.{stop_is, stops_here}
+use Prim.Native.Nat.{◌-◌}
+use mathlib.Core.Bool.{true, false}
+use Rattle.reread.specs.Read.{stops_here}
 use Rattle.pairwise.proofs.Answers.{late-told, late-none}
 use Rattle.pairwise.proofs.is_late.Goals as goal
 

@@ -1,14 +1,13 @@
-use borrow.Author.Rules.{rules}
-use Prim.Native.Nat.{ℕ, ◌≤◌, ◌<◌, ◌-◌, ◌+◌}
-use native.Mathlib.Omega.{arith}
-use mathlib.Core.Path.{◌≡◌, refl, sym, ap, ◌∙◌}
-use mathlib.Core.Bool.{Bool, true, false, not, ◌&&◌}
-use Rattle.reread.specs.Read.{stop_is, stops_here}
-use Rattle.pairwise.specs.Asked.{sooner}
+use Prim.Native.Nat.{◌-◌}
+use mathlib.Core.Path.{sym, ap, ◌∙◌}
+use mathlib.Core.Bool.{Bool, true, false, ◌&&◌}
+use Rattle.reread.specs.Read.{stops_here}
+use Rattle.pairwise.specs.Asked.{asked}
 use Rattle.pairwise.proofs.Answers.{next-told, next-none}
 use Rattle.pairwise.proofs.is_next.Goals as goal
 
 pub returns-then-a-b : goal.returns-then-a-b
+unfolding asked
 returns-then-a-b c =
     let a = c.args in
     next-told (stops_here a.c a.stops.now a.trips.now a.text.now a.from) a.p a.i c.stop_at-a.ensures c.stop_at-b.ensures c.requires.n_value.0

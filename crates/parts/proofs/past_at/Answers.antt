@@ -1,7 +1,6 @@
 -- `parts::past_at` meets its contract: each return is the case that its test picks. Assumes nothing.
 use native.Mathlib.Omega.{arith}
 use Rattle.parts.proofs.Laws.{past_end, past-inner, past-no-walk}
-use borrow.Author.Rules.{rules}
 use Rattle.parts.proofs.past_at.Goals as goal
 
 pub returns-then-place-length_of : goal.returns-then-place-length_of

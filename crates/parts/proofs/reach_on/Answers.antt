@@ -1,7 +1,6 @@
-use mathlib.Core.Path.{◌≡◌, sym, ◌∙◌}
+use mathlib.Core.Path.{sym, ◌∙◌}
 use Rattle.parts.specs.Listing.{reach_on}
 use Rattle.journeys.proofs.Tests.{cond-true, cond-false}
-use borrow.Author.Rules.{rules}
 use Rattle.parts.proofs.reach_on.Goals as goal
 
 pub returns-then-i-e : goal.returns-then-i-e

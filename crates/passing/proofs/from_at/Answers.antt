@@ -1,9 +1,7 @@
 -- `passing::from_at` meets its contract: the walks come first. Assumes nothing.
 use borrow.Author.Tests.{lt-ltb, le-ltb}
-use native.Mathlib.Omega.{arith}
 use Rattle.journeys.specs.Tables.{walk_at, hop_at}
 use Rattle.passing.specs.Row.{record_of}
-use borrow.Author.Rules.{rules}
 use Rattle.passing.proofs.from_at.Goals as goal
 
 pub returns-then-j-arriving : goal.returns-then-j-arriving

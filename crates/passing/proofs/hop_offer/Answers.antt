@@ -3,15 +3,14 @@ use Rattle.journeys.specs.Bytes.{clocked}
 use Rattle.journeys.specs.Counting.{none}
 use mathlib.Core.Path.{◌≡◌, sym, ◌∙◌}
 use mathlib.Core.Bool.{true, false}
-use Prim.Native.Nat.{◌-◌, ◌*◌, ◌≤◌}
+use Prim.Native.Nat.{◌-◌, ◌*◌}
 use native.Mathlib.Omega.{arith}
 use lib.Dec.{leb}
-use borrow.Author.Tests.{leb-true, le-leb, lt-leb}
+use borrow.Author.Tests.{le-leb, lt-leb}
 use Rattle.journeys.specs.Records.{offer}
 use Rattle.journeys.specs.Tables.{hop_at}
 use Rattle.journeys.proofs.Tests.{and-true, and_left, and_right, cond-true, cond-false}
 use Rattle.words.proofs.Signed.{clocked-signed}
-use borrow.Author.Rules.{rules}
 use Rattle.passing.proofs.hop_offer.Goals as goal
 
 pub returns-then-distance-ticks_before : goal.returns-then-distance-ticks_before

@@ -10,7 +10,6 @@ use Prim.Native.Nat.{ℕ, ◌+◌, ◌-◌, ◌*◌, ◌≤◌, ◌<◌}
 use native.Mathlib.Nat.{mul-le-mul}
 use mathlib.Core.Logic.{inl}
 use Rattle.worktable.specs.Map.{distance_limit}
-use borrow.Author.Rules.{rules}
 use Rattle.passing.proofs.offer_at.Goals as goal
 
 -- Whatever the bits of its length, a walk's ticks fit.

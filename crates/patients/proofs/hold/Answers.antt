@@ -1,6 +1,6 @@
 -- `patients::hold` meets its contract: the arrivals before j are through. Assumes nothing.
 use mathlib.Core.Path.{◌≡◌, refl, sym, ap, subst, ◌∙◌}
-use Prim.Native.Nat.{ℕ, ◌+◌, ◌-◌, ◌*◌, ◌/◌, ◌≤◌}
+use Prim.Native.Nat.{ℕ, ◌+◌, ◌*◌, ◌/◌, ◌≤◌}
 use native.Mathlib.Omega.{arith}
 use lib.ListN.{length, replicate}
 use Rattle.journeys.specs.Query as query
@@ -10,8 +10,7 @@ use Rattle.records.specs.Asked.{query_of}
 use Rattle.intake.specs.Lending.{lent}
 use Rattle.evening.specs.Asked.{arriving}
 use Rattle.evening.proofs.Judged.{lengths-fine, tables-fine, report-long, patients-long, patients-low, few-arrivals, arrival-good, early-at}
-use Rattle.patients.proofs.Evenings.{Ongoing, ongoing-start, can-report, ongoing-next, ongoing-late, ongoing-end, allowed-as}
-use borrow.Author.Rules.{rules}
+use Rattle.patients.proofs.Evenings.{ongoing-start, can-report, ongoing-next, ongoing-late, ongoing-end, allowed-as}
 use Rattle.patients.proofs.hold.Goals as goal
 use Rattle.patients.proofs.hold.Goals.{After-asked_at-t, Start}
 
@@ -29,7 +28,7 @@ asked c =
 
 pub loop-j-init : goal.loop-j-init
 loop-j-init c =
-    (omega arith, refl, refl, refl, c.requires.scratch_value, ap (λ (x : _). x.parts) c.refusal-a.ensures, ongoing-start c.args.vertices.now c.args.walks.now c.args.hops.now c.args.hop_size c.args.held.now c.args.settled.now (query_of c.args.q) c.args.gap c.args.arrivals c.args.patients.now c.args.report.now c.requires.report_value _ _ c.zero.ensures)
+    (omega arith, refl, refl, refl, c.requires.scratch_value, refl, ongoing-start c.args.vertices.now c.args.walks.now c.args.hops.now c.args.hop_size c.args.held.now c.args.settled.now (query_of c.args.q) c.args.gap c.args.arrivals c.args.patients.now c.args.report.now c.requires.report_value _ _ c.zero.ensures)
 
 pub overflow_mul-gap : goal.overflow_mul-gap
 overflow_mul-gap c =

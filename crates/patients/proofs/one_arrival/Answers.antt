@@ -1,7 +1,7 @@
 -- `patients::one_arrival` meets its contract: the run of the arrival, and the tally of its list. Assumes nothing.
-use mathlib.Core.Path.{◌≡◌, sym, ap, ap₂, subst, ◌∙◌}
+use mathlib.Core.Path.{◌≡◌, sym, ap, ap₂, ◌∙◌}
 use mathlib.Core.List.{List}
-use Prim.Native.Nat.{ℕ, ◌+◌, ◌*◌, ◌/◌, ◌≤◌}
+use Prim.Native.Nat.{ℕ, ◌*◌, ◌/◌}
 use native.Mathlib.Omega.{arith}
 use lib.ListN.{length, take}
 use lib.Seq.{length-take-le}
@@ -10,7 +10,6 @@ use Rattle.words.specs.Written.{written}
 use Rattle.records.specs.Asked.{query_of}
 use Rattle.evening.specs.Tallied.{tallied, listed_patients}
 use Rattle.patients.proofs.Arrival.{own, can-tally}
-use borrow.Author.Rules.{rules}
 use Rattle.patients.proofs.one_arrival.Goals as goal
 
 pub slice_bounds-tally-end : goal.slice_bounds-tally-end

@@ -1,12 +1,7 @@
 -- `queries::answer_all` meets its contract: the tables are judged once, with the first share, and each query is answered in turn. Assumes nothing.
-use mathlib.Core.Path.{sym, ap, ◌∙◌}
-use Prim.Native.Nat.{ℕ, ◌*◌, ◌/◌}
 use native.Mathlib.Omega.{arith}
-use lib.ListN.{length, length-replicate}
-use lib.Seq.{length-take-le}
 use Rattle.queries.specs.InTurn.{share_of}
-use Rattle.queries.proofs.Turn.{none-asked, shares-fit, share-low}
-use borrow.Author.Rules.{rules}
+use Rattle.queries.proofs.Turn.{none-asked}
 use Rattle.queries.proofs.answer_all.Goals as goal
 
 pub returns-then-n-eq0 : goal.returns-then-n-eq0

@@ -1,12 +1,11 @@
 -- `queries::answer_each` meets its contract: the queries before i are answered, and the next share starts where the last one ends. Assumes nothing.
-use mathlib.Core.Path.{◌≡◌, refl, sym, ap, ◌∙◌}
-use Prim.Native.Nat.{◌+◌, ◌-◌, ◌*◌, ◌/◌, ◌≤◌}
+use mathlib.Core.Path.{◌≡◌, sym, ◌∙◌}
+use Prim.Native.Nat.{◌+◌, ◌-◌, ◌*◌}
 use native.Mathlib.Omega.{arith}
-use lib.ListN.{length, take, replicate}
+use lib.ListN.{length, take}
 use lib.Seq.{length-take-le}
 use Rattle.queries.proofs.Judging.{judged-once}
-use Rattle.queries.proofs.Turn.{Ongoing, ongoing-start, ongoing-next, ongoing-end, share-start, share-next, part-long}
-use borrow.Author.Rules.{rules}
+use Rattle.queries.proofs.Turn.{ongoing-next, ongoing-end, share-next, part-long}
 use Rattle.queries.proofs.answer_each.Goals as goal
 
 pub answer_one-requires : goal.answer_one-requires

@@ -3,21 +3,20 @@ use Rattle.records.specs.Asked.{query_of}
 use Rattle.intake.specs.Lending.{lent}
 use Rattle.search.proofs.AnswerAllowed.{refused-early, passed}
 use Rattle.queries.proofs.Judging.{judged-asked, left-in-bytes}
-use borrow.Author.Rules.{rules}
 use Rattle.queries.proofs.answer_one.Goals as goal
 
-pub returns-then-r-ne0 : goal.returns-then-r-ne0
-returns-then-r-ne0 c =
+pub returns-in-Err : goal.returns-in-Err
+returns-in-Err c =
     let b = lent c.args.vertices.now c.args.walks.now c.args.hops.now c.args.hop_size c.args.held.now c.args.share.now in
-    let F = judged-asked b (query_of c.args.q) c.args.fault _ c.requires.fault_value (c.asked_fault-r.ensures c.args.hop_size c.args.vertices.now c.args.hops.now) in record {
-      left = left-in-bytes b (query_of c.args.q) c.args.limit _ _ _ _ (refused-early b (query_of c.args.q) c.args.limit _ F _ c.refusal.ensures c.if-r-ne0.true) c.put_answer.ensures;
+    let F = judged-asked b (query_of c.args.q) c.args.fault c.asked_fault.result c.requires.fault_value (c.asked_fault.ensures c.args.hop_size c.args.vertices.now c.args.hops.now) in record {
+      left = left-in-bytes b (query_of c.args.q) c.args.limit _ _ _ _ (refused-early b (query_of c.args.q) c.args.limit _ F _ c.in-Err.is _ c.refusal.ensures) c.put_answer.ensures;
       scratch_after = c.requires.answer_len.1;
     }
 
 pub run_judged-a-requires : goal.run_judged-a-requires
 run_judged-a-requires c =
     let b = lent c.args.vertices.now c.args.walks.now c.args.hops.now c.args.hop_size c.args.held.now c.args.share.now in
-    let F = judged-asked b (query_of c.args.q) c.args.fault _ c.requires.fault_value (c.asked_fault-r.ensures c.args.hop_size c.args.vertices.now c.args.hops.now) in record {
-      q_value = passed b (query_of c.args.q) c.args.limit _ F c.if-r-ne0.false;
+    let F = judged-asked b (query_of c.args.q) c.args.fault c.asked_fault.result c.requires.fault_value (c.asked_fault.ensures c.args.hop_size c.args.vertices.now c.args.hops.now) in record {
+      q_value = passed b (query_of c.args.q) c.args.limit _ F c.in_default.is;
       scratch_value = c.requires.answer_len.1;
     }

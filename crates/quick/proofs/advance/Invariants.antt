@@ -1,8 +1,6 @@
-use Rattle.std.proofs.Common.{◌≡◌, ℕ, ◌+◌, ◌-◌, ◌*◌, ◌/◌, ◌<◌, ◌≤◌, true, length, ⊎_elim, arith, rules, le-leb}
+use Rattle.std.proofs.Common.{◌≡◌, ℕ, ◌-◌, ◌<◌, ◌≤◌, true, length}
 use Rattle.journeys.specs.Tables.{tables_of}
 use Rattle.journeys.specs.Refusals.{vertex_ok}
-use Rattle.journeys.proofs.Tests.{le-or-lt}
-use Rattle.quick.proofs.Whole.{alone-most, ordered-less, runs, vertex-right}
 use Rattle.quick.proofs.advance.Given as goal
 
 abbrev pub invariant-loop-base : goal.invariant-loop-base

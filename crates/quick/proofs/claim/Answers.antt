@@ -1,5 +1,5 @@
 -- `quick::claim` meets its contract: each return is the case that its tests pick. Assumes nothing.
-use Rattle.std.proofs.Common.{sym, arith, rules}
+use Rattle.std.proofs.Common.{sym, arith}
 use Rattle.journeys.specs.Tables.{vertex_at}
 use Rattle.quick.proofs.Claimed.{claim-behind, claim-short, claim-good}
 use Rattle.quick.proofs.claim.Goals as goal

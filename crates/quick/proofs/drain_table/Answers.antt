@@ -1,10 +1,7 @@
 -- `quick::drain_table` meets its contract: at each turn what is drained and what waits are the records up to i. Assumes nothing.
-use Rattle.std.proofs.Common.{◌≡◌, ℕ, ◌+◌, ◌-◌, ◌*◌, ◌<◌, ◌≤◌, length, refl, ◌∙◌, div-le_self, arith, rules}
-use Rattle.journeys.proofs.Tests.{never}
+use Rattle.std.proofs.Common.{◌≡◌, ◌+◌, refl, ◌∙◌, arith}
 use Rattle.records.specs.Columns.{records_in}
-use Rattle.tally.specs.Laid.{Placed}
 use Rattle.quick.specs.Claims.{leaves, counted_to}
-use Rattle.quick.specs.Lists.{Waiting}
 use Rattle.quick.proofs.Sifted.{count-zero}
 use Rattle.quick.proofs.Taken.{placed-kept, takes_none, takes-kept, takes-list, none-wait}
 use Rattle.quick.proofs.drain_table.Goals as goal
@@ -15,11 +12,11 @@ loop-i-init c =
     let nothing = takes_none a.groups (λ k. counted_to a.pairs a.size a.table.now (a.base + k) 0) a.scratch.now (λ k. count-zero (leaves a.pairs a.size a.table.now (a.base + k))) in
     (omega arith, refl, omega arith, omega arith, c.requires.by_index, none-wait a.groups _ _ _ nothing)
 
-pub relieve-waiting-requires : goal.relieve-waiting-requires
-relieve-waiting-requires c =
+pub relieve-requires : goal.relieve-requires
+relieve-requires c =
     let loop = c.loop-i in
     let w = loop.invariant.5 in record {
-      waiting_bound = (omega (arith, c.lesser-end.ensures, c.sift-listed.ensures.start_bound.0), omega (arith, c.sift-listed.auto));
+      waiting_bound = (omega (arith, c.min-end.ensures, c.sift-listed.ensures.start_bound.0), omega (arith, c.sift-listed.auto));
       by_index = λ j l. placed-kept (λ k p q. c.sift-listed.ensures.same k (omega arith) (omega arith)) (loop.invariant.4 _ ((c.sift-listed.ensures.start_bound.1 w.before w.list).inside j l));
     }
 
@@ -29,12 +26,12 @@ loop-i-preserved c =
     let a = c.args in
     let w = loop.invariant.5 in
     let start = a.scratch.now in (
-      omega (arith, c.lesser-end.ensures),
+      omega (arith, c.min-end.ensures),
       loop.invariant.1,
-      omega arith,
-      omega (arith, c.sift-listed.auto, c.relieve-waiting.auto),
-      λ k l. placed-kept (λ j p q. c.relieve-waiting.ensures.same j p (omega arith) ∙ c.sift-listed.ensures.same j (omega arith) (omega arith)) (loop.invariant.4 k l),
-      c.relieve-waiting.ensures.by_index_2 a.groups _ start (omega arith)
+      c.in-Some.ensures.few,
+      omega (arith, c.sift-listed.auto, c.relieve.auto),
+      λ k l. placed-kept (λ j p q. c.relieve.ensures.same j p (omega arith) ∙ c.sift-listed.ensures.same j (omega arith) (omega arith)) (loop.invariant.4 k l),
+      c.in-Some.ensures.by_index_2 a.groups _ start
           (record {
             before = w.before;
             takes = takes-kept a.groups w.before start loop.scratch _ c.sift-listed.ensures.same w.takes;

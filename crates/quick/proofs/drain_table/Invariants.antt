@@ -1,11 +1,8 @@
-use Rattle.std.proofs.Common.{◌≡◌, ℕ, ◌+◌, ◌-◌, ◌*◌, ◌<◌, ◌≤◌, length, refl, ◌∙◌, div-le_self, arith, rules}
-use Rattle.journeys.proofs.Tests.{never}
+use Rattle.std.proofs.Common.{◌≡◌, ℕ, ◌+◌, ◌-◌, ◌*◌, ◌<◌, ◌≤◌, length}
 use Rattle.records.specs.Columns.{records_in}
 use Rattle.tally.specs.Laid.{Placed}
-use Rattle.quick.specs.Claims.{leaves, counted_to}
+use Rattle.quick.specs.Claims.{counted_to}
 use Rattle.quick.specs.Lists.{Waiting}
-use Rattle.quick.proofs.Sifted.{count-zero}
-use Rattle.quick.proofs.Taken.{placed-kept, takes_none, takes-kept, takes-list, none-wait}
 use Rattle.quick.proofs.drain_table.Given as goal
 
 abbrev pub invariant-loop-i : goal.invariant-loop-i

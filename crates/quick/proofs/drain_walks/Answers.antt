@@ -1,5 +1,5 @@
 -- `quick::drain_walks` meets its contract: where no walk is alone none is left to take off. Assumes nothing.
-use Rattle.std.proofs.Common.{◌≡◌, ◌+◌, sym, ◌∙◌, arith, rules}
+use Rattle.std.proofs.Common.{◌≡◌, ◌+◌, sym, ◌∙◌, arith}
 use Rattle.quick.specs.Claims.{counted}
 use Rattle.quick.proofs.Taken.{takes_none}
 use Rattle.quick.proofs.Whole.{none-leaves}

@@ -1,6 +1,5 @@
 -- `quick::lay_group` meets its contract: the group of claims that stands in the list is laid, or all is as before. Assumes nothing.
-use Rattle.std.proofs.Common.{refl, arith, rules}
-use borrow.Author.Tests.{not-false}
+use Rattle.std.proofs.Common.{refl, arith}
 use Rattle.quick.specs.Claims.{claim_of}
 use Rattle.quick.proofs.Laying.{claimed-kept, claimed-more}
 use Rattle.quick.proofs.lay_group.Goals as goal
@@ -18,5 +17,5 @@ returns c =
       claimed_2 = λ e. rw (c.lay.ensures.scratch_unchanged.0 e) kept;
       claimed_3 = λ n.
           claimed-more (claim_of a.pairs a.vertices.now a.walks.now a.limit) a.base a.groups a.words c.lay.result _ _ kept
-          (c.claims.ensures.claims (not-false _ c.if-not-claims.false-raw)) (c.lay.ensures.more (omega (arith, c.lay.ensures.scratch_unchanged.1)));
+          (c.claims.ensures.claims c.if-not-claims.false) (c.lay.ensures.more (omega (arith, c.lay.ensures.scratch_unchanged.1)));
     }

@@ -1,11 +1,7 @@
-use Rattle.std.proofs.Common.{◌≡◌, ℕ, ◌+◌, ◌-◌, ◌/◌, ◌<◌, ◌≤◌, true, length, sym, refl, ◌∙◌, arith, rules, below_more}
-use borrow.Author.Tests.{not-false}
+use Rattle.std.proofs.Common.{◌≡◌, ℕ, ◌/◌, ◌<◌, ◌≤◌, true, length}
 use Rattle.quick.specs.Claims.{in_order}
 use Rattle.quick.proofs.ordered.Given as goal
 
 abbrev pub invariant-loop-v : goal.invariant-loop-v
 invariant-loop-v l =
     (l.v ≤ l.n) × (l.n ≡ length l.vertices / 12) × ((x : ℕ) → x < l.v → in_order l.hop_size l.vertices l.walks l.hops x ≡ true)
-
-abbrev pub decreases-loop-v : goal.decreases-loop-v
-decreases-loop-v l = l.n - l.v

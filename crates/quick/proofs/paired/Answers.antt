@@ -1,5 +1,5 @@
 -- `quick::paired` meets its contract: after i turns the walks before i that arrive with a twin are counted, and none arrives outside the run. Assumes nothing.
-use Rattle.std.proofs.Common.{◌≡◌, ◌+◌, ◌-◌, ◌≤◌, not, sym, ap, ◌∙◌, arith}
+use Rattle.std.proofs.Common.{◌≡◌, ◌+◌, not, sym, ap, ◌∙◌, arith}
 use Rattle.journeys.specs.Counting.{one, count}
 use Rattle.journeys.proofs.Counting.{count_most}
 use Rattle.records.specs.Columns.{arriving_below}

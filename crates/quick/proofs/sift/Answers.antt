@@ -1,5 +1,4 @@
 -- `quick::sift` meets its contract: each return is the case that its test picks. Assumes nothing.
-use Rattle.std.proofs.Common.{rules}
 use Rattle.quick.proofs.sift.Goals as goal
 
 pub returns-then-pairs : goal.returns-then-pairs

@@ -1,8 +1,6 @@
 -- `quick::sift_each` meets its contract: after each turn the list takes the records up to i. Assumes nothing.
-use Rattle.std.proofs.Common.{◌≡◌, ℕ, ◌+◌, ◌-◌, ◌≤◌, length, refl, ◌∙◌, arith, rules}
-use Rattle.tally.specs.Laid.{Same}
-use Rattle.quick.specs.Claims.{leaves, counted_to}
-use Rattle.quick.specs.Lists.{Listed}
+use Rattle.std.proofs.Common.{◌≡◌, ◌+◌, ◌∙◌, arith}
+use Rattle.quick.specs.Claims.{leaves}
 use Rattle.quick.proofs.Sifted.{listed_same, count_next}
 use Rattle.quick.proofs.sift_each.Goals as goal
 

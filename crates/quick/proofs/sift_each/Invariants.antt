@@ -1,8 +1,7 @@
-use Rattle.std.proofs.Common.{◌≡◌, ℕ, ◌+◌, ◌-◌, ◌≤◌, length, refl, ◌∙◌, arith, rules}
+use Rattle.std.proofs.Common.{◌≡◌, ℕ, ◌+◌, ◌≤◌, length}
 use Rattle.tally.specs.Laid.{Same}
-use Rattle.quick.specs.Claims.{leaves, counted_to}
+use Rattle.quick.specs.Claims.{counted_to}
 use Rattle.quick.specs.Lists.{Listed}
-use Rattle.quick.proofs.Sifted.{listed_same, count_next}
 use Rattle.quick.proofs.sift_each.Given as goal
 
 abbrev pub invariant-loop-i : goal.invariant-loop-i
@@ -15,6 +14,3 @@ invariant-loop-i l =
     → Listed l.len l.waiting l.initial.scratch a (λ k. counted_to l.pairs l.size l.table (l.base + k) l.start)
     → Listed l.len l.count l.scratch a (λ k. counted_to l.pairs l.size l.table (l.base + k) l.i))
     × Same 0 1984 l.initial.scratch l.scratch
-
-abbrev pub decreases-loop-i : goal.decreases-loop-i
-decreases-loop-i l = l.end - l.i

@@ -1,6 +1,5 @@
 -- `quick::sift_one` meets its contract: the number is written behind the list, and belongs to it if the record is counted. Assumes nothing.
-use Rattle.std.proofs.Common.{◌≡◌, ◌+◌, length, ◌∙◌, arith, get_or-set_other, rules}
-use Rattle.records.proofs.Sizes.{as-small}
+use Rattle.std.proofs.Common.{◌≡◌, ◌+◌, ◌∙◌, arith, get_or-set_other}
 use Rattle.quick.proofs.Sifted.{sifted}
 use Rattle.quick.proofs.sift_one.Goals as goal
 

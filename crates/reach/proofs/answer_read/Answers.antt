@@ -1,8 +1,4 @@
 -- `reach::answer_read` meets its contract: what was read tells the text of the whole input. Assumes nothing.
-use borrow.Author.Rules.{rules}
-use mathlib.Core.Path.{sym}
-use native.Mathlib.Omega.{arith}
-use lib.Seq.{length-take-le}
 use Rattle.reach.proofs.Texts.{read-answered}
 use Rattle.reach.proofs.answer_read.Goals as goal
 

@@ -1,9 +1,6 @@
-use mathlib.Core.Path.{◌≡◌, sym, ◌∙◌}
+use mathlib.Core.Path.{◌≡◌}
 use mathlib.Core.Bool.{true}
-use Prim.Native.Nat.{ℕ, ◌-◌, ◌≤◌, ◌<◌}
-use native.Mathlib.Omega.{arith}
-use borrow.Author.Tests.{not-true, not-false}
-use Rattle.journeys.proofs.Counting.{below_suc}
+use Prim.Native.Nat.{ℕ, ◌≤◌, ◌<◌}
 use Rattle.passing.specs.Row.{passes}
 use Rattle.entries.specs.Noted.{heard}
 use Rattle.reasons.specs.Rows.{net_of, fair_by}
@@ -11,6 +8,3 @@ use Rattle.reasons.proofs.first_unfair.Given as goal
 
 abbrev pub invariant-loop-r : goal.invariant-loop-r
 invariant-loop-r l = (l.r ≤ passes l.all) × ((k : ℕ) → k < l.r → fair_by (net_of 65536 l.walks l.hops l.all l.ends) l.most (heard l.far) k ≡ true)
-
-abbrev pub decreases-loop-r : goal.decreases-loop-r
-decreases-loop-r l = passes l.all - l.r

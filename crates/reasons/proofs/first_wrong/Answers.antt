@@ -1,14 +1,12 @@
 -- `reasons::first_wrong` meets its contract: the array lists the entries that were read. Assumes nothing.
 use mathlib.Core.Path.{◌≡◌, refl, sym, ◌∙◌}
 use mathlib.Core.Bool.{true}
-use Prim.Native.Nat.{ℕ, ◌-◌, ◌/◌, ◌≤◌, ◌<◌}
+use Prim.Native.Nat.{◌<◌}
 use native.Mathlib.Omega.{arith}
-use lib.ListN.{length, length-set}
+use lib.ListN.{length-set}
 use borrow.Author.Tests.{not-true, not-false}
-use borrow.Author.Rules.{rules}
-use Rattle.journeys.specs.VendorLists.{far_before}
 use Rattle.journeys.proofs.Counting.{below_suc}
-use Rattle.reasons.specs.Rows.{net_of, Figures, Gives, entry_good}
+use Rattle.reasons.specs.Rows.{net_of, entry_good}
 use Rattle.reasons.proofs.OnePass.{good-words, good-low, good-by}
 use Rattle.reasons.proofs.Listing.{first-figures, more-figures, more_given}
 use Rattle.reasons.proofs.first_wrong.Goals as goal

@@ -1,15 +1,9 @@
-use mathlib.Core.Path.{◌≡◌, refl, sym, ◌∙◌}
+use mathlib.Core.Path.{◌≡◌}
 use mathlib.Core.Bool.{true}
-use Prim.Native.Nat.{ℕ, ◌-◌, ◌/◌, ◌≤◌, ◌<◌}
-use native.Mathlib.Omega.{arith}
-use lib.ListN.{length, length-set}
-use borrow.Author.Tests.{not-true, not-false}
-use borrow.Author.Rules.{rules}
+use Prim.Native.Nat.{ℕ, ◌/◌, ◌≤◌, ◌<◌}
+use lib.ListN.{length}
 use Rattle.journeys.specs.VendorLists.{far_before}
-use Rattle.journeys.proofs.Counting.{below_suc}
 use Rattle.reasons.specs.Rows.{net_of, Figures, Gives, entry_good}
-use Rattle.reasons.proofs.OnePass.{good-words, good-low, good-by}
-use Rattle.reasons.proofs.Listing.{first-figures, more-figures, more_given}
 use Rattle.reasons.proofs.first_wrong.Given as goal
 
 abbrev pub invariant-loop-i : goal.invariant-loop-i
@@ -19,6 +13,3 @@ invariant-loop-i l =
     × Figures l.far
     × Gives l.far (far_before l.list l.i)
     × (length l.far ≡ length l.initial.far)
-
-abbrev pub decreases-loop-i : goal.decreases-loop-i
-decreases-loop-i l = length l.list / 12 - l.i

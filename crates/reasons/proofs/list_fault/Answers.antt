@@ -1,7 +1,6 @@
 -- `reasons::list_fault` meets its contract: what the first pass has found decides between 25 to 27 and 28. Assumes nothing.
 use mathlib.Core.Path.{◌≡◌, ◌∙◌}
 use native.Mathlib.Omega.{arith}
-use borrow.Author.Rules.{rules}
 use Rattle.journeys.specs.VendorLists.{size}
 use Rattle.reasons.specs.Rows.{net_of}
 use Rattle.reasons.proofs.OnePass.{all_new, all-in-time, noted-good, entry-told, entries-told}

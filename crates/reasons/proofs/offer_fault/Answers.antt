@@ -1,8 +1,6 @@
 -- `reasons::offer_fault` meets its contract: each return is the first test that fails. Assumes nothing.
 use mathlib.Core.Path.{sym, ◌∙◌}
-use native.Mathlib.Omega.{arith}
 use borrow.Author.Tests.{not-true, not-false}
-use borrow.Author.Rules.{rules}
 use Rattle.entries.specs.Noted.{heard}
 use Rattle.reasons.specs.Rows.{net_of}
 use Rattle.reasons.proofs.Branches.{from-better, to-better, record-better, all_fair, from-test, to-test}
@@ -49,4 +47,4 @@ returns c =
     let D = a.all.allowed.0 in
     let f = from-test w h a.all a.ends a.far.now D 65536 c.no_better.result c.no_better.ensures in
     let t = to-test w h a.all a.ends a.far.now D 65536 c.requires.from_bound.2 c.no_better-2.result c.no_better-2.ensures in
-    c.fine.ensures ∙ all_fair G D (heard a.far.now) a.ends.from a.ends.to (sym f ∙ not-false c.no_better.result c.if-not-no_better.false-raw) (sym t ∙ not-false c.no_better-2.result c.if-not-no_better-2.false-raw) c.first_unfair-r.result c.first_unfair-r.ensures c.if-r-all.false
+    all_fair G D (heard a.far.now) a.ends.from a.ends.to (sym f ∙ not-false c.no_better.result c.if-not-no_better.false-raw) (sym t ∙ not-false c.no_better-2.result c.if-not-no_better-2.false-raw) c.first_unfair-r.result c.first_unfair-r.ensures c.if-r-all.false

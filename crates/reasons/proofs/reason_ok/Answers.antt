@@ -1,13 +1,12 @@
 -- `reasons::reason_ok` meets its contract: its returns are the branches of the definition. Assumes nothing.
 use mathlib.Core.Path.{◌≡◌, sym, ap, ◌∙◌}
 use mathlib.Core.Logic.{◌≢◌}
-use Prim.Native.Nat.{ℕ, ◌≤◌, ◌<◌}
+use Prim.Native.Nat.{ℕ, ◌<◌}
 use native.Mathlib.Omega.{arith}
-use borrow.Author.Rules.{rules}
 use Rattle.journeys.specs.Counting.{none}
 use Rattle.entries.specs.Noted.{heard}
 use Rattle.reasons.specs.Rows.{net_of, to_of}
-use Rattle.reasons.proofs.Reasons.{by-seed, no_record, to-unlisted, from-elsewhere, by-record, sound-farther, offered-farther}
+use Rattle.reasons.proofs.Reasons.{by-seed, no_record, to-unlisted, from-elsewhere, by-record, offered-farther}
 use Rattle.reasons.proofs.reason_ok.Goals as goal
 
 pub returns-then-r-eq-NONE : goal.returns-then-r-eq-NONE

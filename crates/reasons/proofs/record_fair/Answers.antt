@@ -1,14 +1,13 @@
 -- `reasons::record_fair` meets its contract: a record that leads to no listed vertex is fair. Assumes nothing.
 use mathlib.Core.Path.{◌≡◌, sym, ap, ap₂, ◌∙◌}
 use mathlib.Core.Logic.{◌≢◌}
-use Prim.Native.Nat.{ℕ, ◌≤◌, ◌<◌}
+use Prim.Native.Nat.{ℕ, ◌<◌}
 use native.Mathlib.Omega.{arith}
-use borrow.Author.Rules.{rules}
 use Rattle.journeys.specs.Counting.{none}
 use Rattle.journeys.specs.VendorLists.{no_better}
 use Rattle.entries.specs.Noted.{heard}
 use Rattle.reasons.specs.Rows.{net_of, to_of}
-use Rattle.reasons.proofs.Reasons.{fair-unlisted, fair-listed, sound-farther, offered-farther}
+use Rattle.reasons.proofs.Reasons.{fair-unlisted, fair-listed, offered-farther}
 use Rattle.reasons.proofs.record_fair.Goals as goal
 
 pub returns-then-listed : goal.returns-then-listed

@@ -2,7 +2,6 @@
 use borrow.Author.Tests.{lt-ltb, le-ltb}
 use Rattle.journeys.specs.Tables.{walk_at, hop_at}
 use Rattle.passing.specs.Row.{record_of}
-use borrow.Author.Rules.{rules}
 use Rattle.reasons.proofs.to_at.Goals as goal
 
 pub returns-then-r-all : goal.returns-then-r-all

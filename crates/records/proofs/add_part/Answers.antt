@@ -6,7 +6,6 @@ use Rattle.journeys.specs.Bytes.{word}
 use Rattle.journeys.specs.Parts.{part_bytes}
 use Rattle.records.specs.Fields.{part_of}
 use Rattle.words.proofs.Written.{rest-written}
-use borrow.Author.Rules.{rules}
 use Rattle.records.proofs.add_part.Goals as goal
 
 pub returns : goal.returns

@@ -6,7 +6,6 @@ use Rattle.journeys.specs.Bytes.{word}
 use Rattle.journeys.specs.Answers.{settled_bytes}
 use Rattle.records.specs.Fields.{settled_of}
 use Rattle.words.proofs.Written.{rest-written}
-use borrow.Author.Rules.{rules}
 use Rattle.records.proofs.add_settled.Goals as goal
 
 pub returns : goal.returns

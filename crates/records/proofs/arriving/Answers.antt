@@ -1,7 +1,6 @@
 -- `records::arriving` meets its contract: each arm gives the run of its table. Assumes nothing.
 use Rattle.records.specs.Arriving.{table_of, size_of}
 use native.Mathlib.Omega.{arith}
-use borrow.Author.Rules.{rules}
 use Rattle.records.proofs.arriving.Goals as goal
 
 pub part_of-requires : goal.part_of-requires

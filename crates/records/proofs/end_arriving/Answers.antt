@@ -1,7 +1,6 @@
 -- `records::end_arriving` meets its contract: each return is the case that its test picks. Assumes nothing.
 use borrow.Author.Tests.{lt-ltb, le-ltb}
 use Rattle.records.specs.Arriving.{end_of}
-use borrow.Author.Rules.{rules}
 use Rattle.records.proofs.end_arriving.Goals as goal
 
 pub returns-then-next-vertices : goal.returns-then-next-vertices

@@ -1,7 +1,6 @@
 -- `records::first_arriving` meets its contract: each arm reads the field of its kind. Assumes nothing.
 use Rattle.journeys.specs.Tables.{vertex_at}
 use Rattle.records.specs.Arriving.{first_of}
-use borrow.Author.Rules.{rules}
 use Rattle.records.proofs.first_arriving.Goals as goal
 
 pub returns-in-Walks : goal.returns-in-Walks

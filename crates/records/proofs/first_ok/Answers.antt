@@ -1,11 +1,9 @@
 -- `records::first_ok` meets its contract: each return is the case of an ascending column that its tests pick. Assumes nothing.
 use mathlib.Core.Path.{sym}
-use mathlib.Core.Logic.{⊎_elim}
 use Prim.Native.Nat.{◌-◌, ◌<◌}
 use native.Mathlib.Omega.{arith}
 use Rattle.records.specs.Columns.{to_at}
 use Rattle.records.proofs.Columns.{first-right, first-high, first_past, first-named}
-use borrow.Author.Rules.{rules}
 use Rattle.records.proofs.first_ok.Goals as goal
 use Rattle.records.proofs.first_ok.Goals.{Joined-at-gt0, then-at-gt0+else-v-to_at, else-at-gt0}
 

@@ -1,10 +1,5 @@
 -- `records::hop_at` meets its contract: its four words are the record's, which is inside its table. Assumes nothing.
-use lib.ListN.{length}
-use native.Mathlib.Omega.{arith}
-use Prim.Native.Nat.{◌+◌, ◌*◌, ◌≤◌}
 use Rattle.journeys.specs.Tables.{hop_at}
-use Rattle.records.proofs.Sizes.{start_fits}
-use borrow.Author.Rules.{rules}
 use Rattle.records.proofs.hop_at.Goals as goal
 
 pub returns : goal.returns

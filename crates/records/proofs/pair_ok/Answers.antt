@@ -5,4 +5,4 @@ use Rattle.records.proofs.pair_ok.Goals as goal
 
 pub returns : goal.returns
 unfolding pair_ok
-returns c = refl
+returns c = rw c.eq.ensures refl

@@ -1,8 +1,5 @@
 -- `records::part_of` meets its contract: the part is the run, which is inside its table. Assumes nothing.
-use lib.ListN.{length}
-use native.Mathlib.Omega.{arith}
 use Rattle.records.specs.Arriving.{run}
-use Rattle.records.proofs.Sizes.{run_fits}
 use Rattle.records.proofs.part_of.Goals as goal
 
 pub returns : goal.returns

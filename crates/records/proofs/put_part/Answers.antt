@@ -4,7 +4,6 @@ use Rattle.journeys.specs.Bytes.{word}
 use Rattle.journeys.specs.Parts.{part_bytes}
 use Rattle.records.specs.Fields.{part_of}
 use Rattle.words.proofs.Written.{front, three-words}
-use borrow.Author.Rules.{rules}
 use Rattle.records.proofs.put_part.Goals as goal
 
 pub returns : goal.returns

@@ -4,7 +4,6 @@ use Rattle.journeys.specs.Bytes.{word}
 use Rattle.journeys.specs.Answers.{settled_bytes}
 use Rattle.records.specs.Fields.{settled_of}
 use Rattle.words.proofs.Written.{front, two-words}
-use borrow.Author.Rules.{rules}
 use Rattle.records.proofs.put_settled.Goals as goal
 
 pub returns : goal.returns

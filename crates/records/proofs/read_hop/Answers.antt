@@ -6,7 +6,6 @@ use Rattle.journeys.specs.Tables.{tables_of}
 use Rattle.journeys.specs.Refusals.{hop_ok}
 use Rattle.words.proofs.Signed.{clocked-signed}
 use Rattle.records.proofs.Judged.{hop-ok, hop-good, hop-bad}
-use borrow.Author.Rules.{rules}
 use Rattle.records.proofs.read_hop.Goals as goal
 
 pub returns-then-ends_ok-times_ok : goal.returns-then-ends_ok-times_ok

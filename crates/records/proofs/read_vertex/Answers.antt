@@ -4,7 +4,6 @@ use mathlib.Core.Bool.{true}
 use Rattle.journeys.specs.Tables.{tables_of}
 use Rattle.journeys.specs.Refusals.{vertex_ok}
 use Rattle.records.proofs.Judged.{vertex-ok, vertex-good, vertex-bad}
-use borrow.Author.Rules.{rules}
 use Rattle.records.proofs.read_vertex.Goals as goal
 
 pub returns-then-first_ok-x : goal.returns-then-first_ok-x

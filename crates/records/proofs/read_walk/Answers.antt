@@ -2,7 +2,6 @@
 use mathlib.Core.Path.{sym, ◌∙◌}
 use mathlib.Core.List.{[]}
 use Rattle.records.proofs.Judged.{walk-good, walk-bad}
-use borrow.Author.Rules.{rules}
 use Rattle.records.proofs.read_walk.Goals as goal
 
 pub returns-then-walk_ok : goal.returns-then-walk_ok

@@ -1,8 +1,7 @@
 -- `records::twin_ok` meets its contract: each return is the case that its test picks. Assumes nothing.
 use mathlib.Core.List.{[]}
-use borrow.Author.Tests.{eq-eqb, ne_eqb, lt-ltb, le-ltb}
+use borrow.Author.Tests.{ne_eqb, lt-ltb, le-ltb}
 use Rattle.journeys.proofs.Decoding.{walk_at_lem, walk-count}
-use borrow.Author.Rules.{rules}
 use Rattle.records.proofs.twin_ok.Goals as goal
 
 pub returns-then-at-walks : goal.returns-then-at-walks

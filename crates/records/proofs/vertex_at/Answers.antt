@@ -1,6 +1,5 @@
 -- `records::vertex_at` meets its contract: its four numbers are the record's. Assumes nothing.
 use Rattle.journeys.specs.Tables.{vertex_at}
-use borrow.Author.Rules.{rules}
 use Rattle.records.proofs.vertex_at.Goals as goal
 
 pub returns : goal.returns

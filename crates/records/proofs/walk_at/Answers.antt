@@ -1,6 +1,5 @@
 -- `records::walk_at` meets its contract: its four words are the record's. Assumes nothing.
 use Rattle.journeys.specs.Tables.{walk_at}
-use borrow.Author.Rules.{rules}
 use Rattle.records.proofs.walk_at.Goals as goal
 
 pub returns : goal.returns

@@ -9,7 +9,6 @@ use Rattle.journeys.specs.Refusals.{length_ok, wait_ok}
 use Rattle.journeys.proofs.Tests.{and_both}
 use Rattle.records.proofs.Judged.{wait-is, ends-decide, measures-decide, wait-decides, twin-decides}
 use Rattle.records.proofs.Pairs.{lower-names-at}
-use borrow.Author.Rules.{rules}
 use Rattle.records.proofs.walk_ok.Goals as goal
 
 pub returns-then-not-wait_ok : goal.returns-then-not-wait_ok

@@ -4,7 +4,6 @@ use mathlib.Core.Path.{ap, ◌∙◌}
 use Rattle.copying.proofs.Copied.{both}
 use Rattle.report.specs.Text.{line, answer_word}
 use Rattle.report.proofs.LineLaws.{as-text, line-is, two_fields}
-use borrow.Author.Rules.{rules}
 use Rattle.report.proofs.answer_line.Goals as goal
 
 pub returns : goal.returns

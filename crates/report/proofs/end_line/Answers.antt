@@ -6,7 +6,6 @@ use Rattle.copying.proofs.Copied.{both}
 use Prim.Native.Nat.{ℕ}
 use Rattle.report.specs.Text.{field, end_word}
 use Rattle.report.proofs.LineLaws.{as-text, line-is, four-fields}
-use borrow.Author.Rules.{rules}
 use Rattle.report.proofs.end_line.Goals as goal
 
 pub returns : goal.returns

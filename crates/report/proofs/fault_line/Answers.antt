@@ -6,7 +6,6 @@ use Rattle.copying.proofs.Copied.{both}
 use Rattle.report.proofs.Shown.{text-shown, none-shown}
 use Rattle.report.proofs.Decimal.{length-64}
 use Rattle.report.proofs.LineLaws.{as-text, fault-is, fault-fits, fault-lacks}
-use borrow.Author.Rules.{rules}
 use Rattle.report.proofs.fault_line.Goals as goal
 
 pub returns-then-out-lt25 : goal.returns-then-out-lt25

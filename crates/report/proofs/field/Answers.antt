@@ -3,7 +3,6 @@ use native.Mathlib.Omega.{arith}
 use Rattle.copying.proofs.Copied.{both}
 use Rattle.report.proofs.Decimal.{length-32}
 use Rattle.report.proofs.LineLaws.{as-text, field_is}
-use borrow.Author.Rules.{rules}
 use Rattle.report.proofs.field.Goals as goal
 
 pub number-requires : goal.number-requires

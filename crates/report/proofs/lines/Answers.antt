@@ -1,12 +1,8 @@
 -- `lines` meets its contract. The invariant: the first i lines are written, each of at most 49 bytes. Assumes nothing.
-use borrow.Author.Rules.{rules}
 use native.Mathlib.Omega.{arith}
-use mathlib.Core.Path.{◌≡◌, refl, ap, ◌∙◌}
-use Prim.Native.Nat.{ℕ, ◌+◌, ◌-◌, ◌*◌, ◌≤◌}
-use lib.ListN.{length}
-use Rattle.copying.specs.Write.{Wrote}
-use Rattle.report.specs.Text.{lines}
-use Rattle.copying.proofs.Copied.{nothing, both, one-fits}
+use mathlib.Core.Path.{refl, ◌∙◌}
+use Prim.Native.Nat.{◌-◌}
+use Rattle.copying.proofs.Copied.{nothing, both}
 use Rattle.report.proofs.LineLaws.{as-text, no_lines, more-lines}
 use Rattle.report.proofs.lines.Goals as goal
 

@@ -2,7 +2,6 @@
 use native.Mathlib.Omega.{arith}
 use Rattle.copying.proofs.Copied.{both}
 use Rattle.report.proofs.LineLaws.{as-text, three-lists}
-use borrow.Author.Rules.{rules}
 use Rattle.report.proofs.lists.Goals as goal
 
 pub returns : goal.returns

@@ -1,7 +1,6 @@
 -- `number` meets its contract: the digits that `io` writes are the decimal number. Assumes nothing.
 use mathlib.Core.Path.{◌∙◌}
 use Rattle.report.proofs.Decimal.{decimal-is}
-use borrow.Author.Rules.{rules}
 use Rattle.report.proofs.number.Goals as goal
 
 pub put-requires : goal.put-requires

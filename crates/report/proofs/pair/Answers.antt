@@ -1,7 +1,6 @@
 -- `pair` meets its contract: two fields, one behind the other. Assumes nothing.
 use native.Mathlib.Omega.{arith}
 use Rattle.copying.proofs.Copied.{both}
-use borrow.Author.Rules.{rules}
 use Rattle.report.proofs.pair.Goals as goal
 
 pub returns : goal.returns

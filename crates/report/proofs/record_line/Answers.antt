@@ -1,8 +1,5 @@
 -- `record_line` meets its contract. The invariant: the first j fields are written, each of at most 11 bytes. Assumes nothing.
-use borrow.Author.Rules.{rules}
-use Prim.Native.Nat.{ℕ, ◌+◌, ◌-◌, ◌*◌, ◌≤◌}
-use lib.ListN.{length}
-use Rattle.copying.specs.Write.{Wrote}
+use Prim.Native.Nat.{ℕ, ◌+◌, ◌-◌}
 use Rattle.report.specs.Text.{field, fields_at}
 use Rattle.copying.proofs.Copied.{nothing}
 use Rattle.report.proofs.LineLaws.{as-text, line-is, no_fields, more-fields}

@@ -1,10 +1,8 @@
 -- `report` meets its contract: with room the whole text, else nothing. Assumes nothing.
 use lib.ListN.{length}
-use Rattle.journeys.specs.OneRun.{OneAnswer}
 use Rattle.report.specs.Text.{given, fits, report}
 use Rattle.report.proofs.Shown.{text-shown, none-shown}
 use Rattle.report.proofs.LineLaws.{text-fits, text-lacks}
-use borrow.Author.Rules.{rules}
 use Rattle.report.proofs.report.Goals as goal
 
 pub whole-requires : goal.whole-requires

@@ -1,11 +1,9 @@
 -- `whole` meets its contract: of a refusal the first line, else all lines. Assumes nothing.
 use native.Mathlib.Omega.{arith}
 use lib.ListN.{length}
-use Rattle.journeys.specs.OneRun.{OneAnswer}
 use Rattle.report.specs.Text.{given}
 use Rattle.copying.proofs.Copied.{both}
 use Rattle.report.proofs.LineLaws.{Room, has_room, as-text, refusal-text, answer-text}
-use borrow.Author.Rules.{rules}
 use Rattle.report.proofs.whole.Goals as goal
 use Rattle.report.proofs.whole.Goals.{Start}
 

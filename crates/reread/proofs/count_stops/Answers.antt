@@ -1,8 +1,6 @@
-use borrow.Author.Rules.{rules}
-use Prim.Native.Nat.{◌≤◌, ◌-◌, ◌+◌}
 use native.Mathlib.Omega.{arith}
-use mathlib.Core.Path.{◌≡◌, refl, sym, ap, ◌∙◌}
-use lib.ListN.{length, drop}
+use mathlib.Core.Path.{ap}
+use lib.ListN.{drop}
 use Rattle.feed.specs.Lines.{lines_of}
 use Rattle.lines.proofs.Passes.{stop-within}
 use Rattle.naming.proofs.Places.{next-is, next-as, some-line, no_line}

@@ -1,13 +1,8 @@
-use borrow.Author.Rules.{rules}
 use Prim.Native.Nat.{◌≤◌, ◌-◌, ◌+◌}
-use native.Mathlib.Omega.{arith}
-use mathlib.Core.Path.{◌≡◌, refl, sym, ap, ◌∙◌}
+use mathlib.Core.Path.{◌≡◌}
 use lib.ListN.{length, drop}
 use Rattle.feed.specs.Lines.{lines_of}
-use Rattle.lines.proofs.Passes.{stop-within}
-use Rattle.naming.proofs.Places.{next-is, next-as, some-line, no_line}
 use Rattle.reread.specs.Read.{many_lines}
-use Rattle.reread.proofs.Reading.{many-past, many-here, many-over}
 use Rattle.reread.proofs.count_stops.Given as goal
 
 abbrev pub invariant-loop-at : goal.invariant-loop-at

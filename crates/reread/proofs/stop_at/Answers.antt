@@ -1,13 +1,10 @@
-use borrow.Author.Rules.{rules}
-use Prim.Native.Nat.{◌≤◌, ◌<◌, ◌-◌, ◌+◌}
 use native.Mathlib.Omega.{arith}
-use mathlib.Core.Path.{◌≡◌, refl, sym, ap, subst, ◌∙◌}
+use mathlib.Core.Path.{◌≡◌, sym, subst}
 use mathlib.Core.Bool.{true}
-use lib.ListN.{length, take, drop}
 use Rattle.lines.proofs.Passes.{stop-within}
 use Rattle.naming.proofs.Places.{next-is, next-as, line-is, some-line, no_line}
 use Rattle.stoplist.specs.Made.{entry_good}
-use Rattle.reread.proofs.Reading.{Going, going_start, going-some, going-past, going_on, going-here, going-over}
+use Rattle.reread.proofs.Reading.{going-some, going-past, going_on, going-here, going-over}
 use Rattle.reread.proofs.stop_at.Goals as goal
 
 pub line_next-next-requires : goal.line_next-next-requires
@@ -61,7 +58,7 @@ loop-at-preserved c =
     let s = c.line_stop-stop.ensures in
     going-past a.c a.stops.now a.trips.now text g c.loop-at-test.true (next-as text at c.line_stop-stop.result c.line_next-next.result g.within s c.line_next-next.ensures) (no_line text at c.line_stop-stop.result 0 g.within s (omega (arith, c.if-at-stop.false)))
 
-pub returns : goal.returns
-returns c =
+pub unreachable-requires : goal.unreachable-requires
+unreachable-requires c =
     let a = c.args in
     absurd (going-over a.c a.stops.now a.trips.now a.text.now c.loop-at.invariant (omega (arith, c.loop-at-test.false)))

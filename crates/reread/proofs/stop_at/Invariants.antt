@@ -1,13 +1,6 @@
-use borrow.Author.Rules.{rules}
-use Prim.Native.Nat.{◌≤◌, ◌<◌, ◌-◌, ◌+◌}
-use native.Mathlib.Omega.{arith}
-use mathlib.Core.Path.{◌≡◌, refl, sym, ap, subst, ◌∙◌}
-use mathlib.Core.Bool.{true}
-use lib.ListN.{length, take, drop}
-use Rattle.lines.proofs.Passes.{stop-within}
-use Rattle.naming.proofs.Places.{next-is, next-as, line-is, some-line, no_line}
-use Rattle.stoplist.specs.Made.{entry_good}
-use Rattle.reread.proofs.Reading.{Going, going_start, going-some, going-past, going_on, going-here, going-over}
+use Prim.Native.Nat.{◌-◌}
+use lib.ListN.{length}
+use Rattle.reread.proofs.Reading.{Going}
 use Rattle.reread.proofs.stop_at.Given as goal
 
 abbrev pub invariant-loop-at : goal.invariant-loop-at

@@ -1,10 +1,9 @@
 use mathlib.Core.Path.{◌∙◌}
 use Rattle.ride_intake.proofs.Judged.{list-cut, list-whole}
-use borrow.Author.Rules.{rules}
 use Rattle.ride_intake.proofs.list_fault.Goals as goal
 
 pub returns-then-settled-ne0 : goal.returns-then-settled-ne0
 returns-then-settled-ne0 c = c.refused.ensures ∙ list-cut _ c.if-settled-ne0.true
 
 pub returns : goal.returns
-returns c = c.fine.ensures ∙ list-whole _ c.if-settled-ne0.false
+returns c = list-whole _ c.if-settled-ne0.false

@@ -3,7 +3,6 @@ use mathlib.Core.Path.{◌∙◌}
 use native.Mathlib.Omega.{arith}
 use Rattle.audit.proofs.Whole.{sizes}
 use Rattle.ride_intake.proofs.Judged.{boarding-long, scratch-short, mode-good}
-use borrow.Author.Rules.{rules}
 use Rattle.ride_intake.proofs.mode_fault.Goals as goal
 
 pub returns-then-boarding-gt600 : goal.returns-then-boarding-gt600
@@ -21,4 +20,4 @@ pub returns-then-not-enough : goal.returns-then-not-enough
 returns-then-not-enough c = c.refused-then-not-enough.ensures ∙ scratch-short _ _ _ _ c.args.scratch.now _ c.if-boarding-gt600.false c.if-not-enough.true-raw
 
 pub returns : goal.returns
-returns c = c.fine.ensures ∙ mode-good _ _ _ _ c.args.scratch.now _ c.if-boarding-gt600.false c.if-not-enough.false-raw
+returns c = mode-good _ _ _ _ c.args.scratch.now _ c.if-boarding-gt600.false c.if-not-enough.false-raw

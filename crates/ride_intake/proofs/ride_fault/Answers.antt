@@ -1,39 +1,43 @@
 -- `ride_fault`: the lengths, the contents, the query, the boarding time and the scratch. Assumes nothing.
 use Rattle.boarding.specs.RideAnswers.{ride_early}
 use Rattle.audit.proofs.Whole.{sizes}
-use Rattle.intake.proofs.RefusalOrder.{fine-so-far, refuses, hands_on}
-use borrow.Author.Rules.{rules}
+use Rattle.words.proofs.Chains.{passes, stops, goes-on}
 use Rattle.ride_intake.proofs.ride_fault.Goals as goal
 
-pub returns-then-uneven-ne0 : goal.returns-then-uneven-ne0
+pub returns-in_err-lengths : goal.returns-in_err-lengths
 unfolding ride_early
-returns-then-uneven-ne0 c = refuses _ c.lengths-uneven.ensures _ c.if-uneven-ne0.true
+returns-in_err-lengths c =
+    stops _ _ c.in_err-lengths.was c.lengths.ensures c.from_residual.ensures
 
-pub returns-then-cut-ne0 : goal.returns-then-cut-ne0
+pub returns-in_err-list_fault : goal.returns-in_err-list_fault
 unfolding ride_early
-returns-then-cut-ne0 c =
-    hands_on _ c.lengths-uneven.ensures c.if-uneven-ne0.false (refuses _ c.list_fault-cut.ensures _ c.if-cut-ne0.true)
+returns-in_err-list_fault c =
+    goes-on c.in_ok-lengths.was c.lengths.ensures
+    (stops _ _ c.in_err-list_fault.was c.list_fault.ensures c.from_residual-in_err-list_fault.ensures)
 
-pub contents-bad-requires : goal.contents-bad-requires
-contents-bad-requires c = sizes _ _ _ _ (fine-so-far _ c.lengths-uneven.ensures c.if-uneven-ne0.false)
+pub contents-requires : goal.contents-requires
+contents-requires c = sizes _ _ _ _ (passes c.in_ok-lengths.was c.lengths.ensures)
 
-pub returns-then-bad-ne0 : goal.returns-then-bad-ne0
+pub returns-in_err-contents : goal.returns-in_err-contents
 unfolding ride_early
-returns-then-bad-ne0 c =
-    hands_on _ c.lengths-uneven.ensures c.if-uneven-ne0.false
-    (hands_on _ c.list_fault-cut.ensures c.if-cut-ne0.false (refuses _ c.contents-bad.ensures.result_value _ c.if-bad-ne0.true))
+returns-in_err-contents c =
+    goes-on c.in_ok-lengths.was c.lengths.ensures
+    (goes-on c.in_ok-list_fault.was c.list_fault.ensures
+    (stops _ _ c.in_err-contents.was c.contents.ensures.result_value c.from_residual-in_err-contents.ensures))
 
-pub returns-then-other-ne0 : goal.returns-then-other-ne0
+pub returns-in_err-query_fault : goal.returns-in_err-query_fault
 unfolding ride_early
-returns-then-other-ne0 c =
-    hands_on _ c.lengths-uneven.ensures c.if-uneven-ne0.false
-    (hands_on _ c.list_fault-cut.ensures c.if-cut-ne0.false
-    (hands_on _ c.contents-bad.ensures.result_value c.if-bad-ne0.false (refuses _ (c.query_fault-other.ensures _ _ _) _ c.if-other-ne0.true)))
+returns-in_err-query_fault c =
+    goes-on c.in_ok-lengths.was c.lengths.ensures
+    (goes-on c.in_ok-list_fault.was c.list_fault.ensures
+    (goes-on c.in_ok-contents.was c.contents.ensures.result_value
+    (stops _ _ c.in_err-query_fault.was (c.query_fault.ensures _ _ _) c.from_residual-in_err-query_fault.ensures)))
 
 pub returns : goal.returns
 unfolding ride_early
 returns c =
-    hands_on _ c.lengths-uneven.ensures c.if-uneven-ne0.false
-    (hands_on _ c.list_fault-cut.ensures c.if-cut-ne0.false
-    (hands_on _ c.contents-bad.ensures.result_value c.if-bad-ne0.false
-    (hands_on _ (c.query_fault-other.ensures _ _ _) c.if-other-ne0.false c.mode_fault.ensures)))
+    goes-on c.in_ok-lengths.was c.lengths.ensures
+    (goes-on c.in_ok-list_fault.was c.list_fault.ensures
+    (goes-on c.in_ok-contents.was c.contents.ensures.result_value
+    (goes-on c.in_ok-query_fault.was (c.query_fault.ensures _ _ _)
+    (c.mode_fault.ensures))))

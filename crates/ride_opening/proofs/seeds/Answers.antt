@@ -4,7 +4,6 @@ use mathlib.Core.Bool.{not}
 use native.Mathlib.Omega.{arith}
 use Rattle.marking.specs.Setting.{query}
 use Rattle.ride_opening.proofs.SeedFigures.{empty-ready, road-fits, ticks-small, ends_low, seeded-one, seeded-both}
-use borrow.Author.Rules.{rules}
 use Rattle.ride_opening.proofs.seeds.Goals as goal
 
 pub read_road-road-requires : goal.read_road-road-requires

@@ -3,7 +3,6 @@ use native.Mathlib.Omega.{arith}
 use Rattle.journeys.proofs.Decoding.{vertex-count}
 use Rattle.marking.specs.Setting.{tables, query, mode}
 use Rattle.ridesteps.proofs.OneStep.{passable, offered-fit, still-pends, still-prefix, one-step}
-use borrow.Author.Rules.{rules}
 use Rattle.ridesteps.proofs.step.Goals as goal
 
 pub pass-t-requires : goal.pass-t-requires

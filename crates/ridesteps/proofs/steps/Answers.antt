@@ -1,13 +1,10 @@
 -- `ridesteps::steps` meets its contract: one step after another, each listed, until the limit, the end of the order or the end of the list's buffer. Assumes nothing.
-use mathlib.Core.Path.{◌≡◌, refl}
-use Prim.Native.Nat.{◌-◌, ◌≤◌}
+use mathlib.Core.Path.{refl}
+use Prim.Native.Nat.{◌-◌}
 use native.Mathlib.Omega.{arith}
-use lib.ListN.{length}
 use Rattle.marking.specs.Setting.{tables, query, mode}
-use Rattle.marking.specs.Pends.{state}
 use Rattle.stepping.proofs.NextEntry.{next-nothing, next-found}
-use Rattle.ridesteps.proofs.Riding.{Rides, rides-none, table-order, counts-fit, whole, more_left, stops, may-step, onward}
-use borrow.Author.Rules.{rules}
+use Rattle.ridesteps.proofs.Riding.{rides-none, table-order, counts-fit, whole, at_limit, stops, may-step, onward}
 use Rattle.ridesteps.proofs.steps.Goals as goal
 
 pub loop-n-init : goal.loop-n-init
@@ -43,7 +40,7 @@ returns-then-n-settled c =
     let M = mode a.hops.now a.a in
     let j = c.requires.judged.0 in
     let i = c.loop-n.invariant in
-    let w = next-found _ _ _ _ j.allowed _ c.next.ensures c.in-At.is in
+    let w = next-found _ _ _ _ j.allowed _ c.next.ensures c.in-Some.is in
     stops N (query a.a) M j.valid _ _ _ _ _ i.0 _ _ _ w a.limit c.loop-n-test.true c.if-n-settled.true
 
 pub overflow_cast-x : goal.overflow_cast-x
@@ -53,7 +50,7 @@ overflow_cast-x c =
     let M = mode a.hops.now a.a in
     let j = c.requires.judged.0 in
     let i = c.loop-n.invariant in
-    let w = next-found _ _ _ _ j.allowed _ c.next.ensures c.in-At.is in
+    let w = next-found _ _ _ _ j.allowed _ c.next.ensures c.in-Some.is in
     omega (arith, (may-step N (query a.a) M j.valid _ _ _ _ _ i.0 _ _ _ w).low, j.valid.tables.vertices_few)
 
 pub add_settled-requires : goal.add_settled-requires
@@ -72,7 +69,7 @@ step-p-requires c =
     let M = mode a.hops.now a.a in
     let j = c.requires.judged.0 in
     let i = c.loop-n.invariant in
-    let w = next-found _ _ _ _ j.allowed _ c.next.ensures c.in-At.is in record {
+    let w = next-found _ _ _ _ j.allowed _ c.next.ensures c.in-Some.is in record {
       judged = c.requires.judged;
       steps = may-step N (query a.a) M j.valid _ _ _ _ _ i.0 _ _ _ w;
     }
@@ -84,7 +81,7 @@ loop-n-preserved c =
     let M = mode a.hops.now a.a in
     let j = c.requires.judged.0 in
     let i = c.loop-n.invariant in
-    let w = next-found _ _ _ _ j.allowed _ c.next.ensures c.in-At.is in (
+    let w = next-found _ _ _ _ j.allowed _ c.next.ensures c.in-Some.is in (
       onward N (query a.a) M j.valid _ _ _ _ _ i.0 _ _ _ w c.step-p.ensures (omega (arith, (counts-fit N (query a.a) M j.valid _ _ _ _ _ i.0).0, c.if-n-settled.false)) c.add_settled.ensures,
       omega (arith, c.loop-n-test.true),
       omega (arith, i.2, c.set-1.given),
@@ -103,20 +100,11 @@ next-requires-2 c =
     let i = c.loop-n.invariant in
     table-order N (query a.a) M j.valid _ _ _ _ _ i.0
 
-pub returns-in-At-next : goal.returns-in-At-next
-returns-in-At-next c =
+pub returns : goal.returns
+returns c =
     let a = c.args in
     let N = tables a.vertices.now a.walks.now a.hops.now a.a in
     let M = mode a.hops.now a.a in
     let j = c.requires.judged.0 in
     let i = c.loop-n.invariant in
-    more_left N (query a.a) M j.valid _ _ _ _ _ i.0 _ _ _ (next-found _ _ _ _ j.allowed _ c.next-2.ensures c.in-At-next.is) a.limit (omega (arith, i.1, c.loop-n-test.false))
-
-pub returns-in-Nothing : goal.returns-in-Nothing
-returns-in-Nothing c =
-    let a = c.args in
-    let N = tables a.vertices.now a.walks.now a.hops.now a.a in
-    let M = mode a.hops.now a.a in
-    let j = c.requires.judged.0 in
-    let i = c.loop-n.invariant in
-    whole N (query a.a) M j.valid _ _ _ _ _ i.0 a.limit i.1 (next-nothing _ _ _ _ j.allowed _ c.next-2.ensures c.in-Nothing.is)
+    at_limit N (query a.a) M j.valid _ _ _ _ _ i.0 a.limit (omega (arith, i.1, c.loop-n-test.false)) j.allowed _ c.next-2.ensures _ c.is_none.ensures

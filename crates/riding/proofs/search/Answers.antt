@@ -1,8 +1,7 @@
 -- `search`: the array of the map has room for every vertex. Assumes nothing.
-use mathlib.Core.Path.{refl, sym, ap, ◌∙◌}
+use mathlib.Core.Path.{sym}
 use Prim.Native.Nat.{ℕ}
-use lib.ListN.{length, length-replicate}
-use borrow.Author.Rules.{rules}
+use lib.ListN.{length-replicate}
 use Rattle.riding.proofs.search.Goals as goal
 
 pub slice_bounds-search_in-end : goal.slice_bounds-search_in-end

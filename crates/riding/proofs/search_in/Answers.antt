@@ -1,12 +1,11 @@
 -- `search_in`: the search begins as its steps ask for it. Assumes nothing.
-use mathlib.Core.Path.{refl, sym, ap, ◌∙◌}
+use mathlib.Core.Path.{refl}
 use native.Mathlib.Omega.{arith}
 use Prim.Native.Nat.{ℕ}
-use lib.ListN.{length, length-replicate}
+use lib.ListN.{length-replicate}
 use Rattle.arranging.proofs.RunsOfTables.{runs}
 use Rattle.marking.specs.Setting.{tables, query, mode}
 use Rattle.riding.proofs.Opened.{opened}
-use borrow.Author.Rules.{rules}
 use Rattle.riding.proofs.search_in.Goals as goal
 
 pub arrange-requires : goal.arrange-requires

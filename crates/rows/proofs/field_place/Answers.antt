@@ -1,7 +1,5 @@
-use native.Mathlib.Omega.{arith}
-use mathlib.Core.Path.{◌≡◌, refl, sym, ap, ◌∙◌}
+use mathlib.Core.Path.{sym, ap, ◌∙◌}
 use Rattle.rows.specs.Placed.{place_in, place_of}
-use borrow.Author.Rules.{rules}
 use Rattle.rows.proofs.field_place.Goals as goal
 
 pub returns-in-Begins : goal.returns-in-Begins

@@ -1,7 +1,5 @@
-use native.Mathlib.Omega.{arith}
-use mathlib.Core.Path.{◌≡◌, refl, sym, ap, ◌∙◌}
+use mathlib.Core.Path.{sym, ◌∙◌}
 use Rattle.rows.proofs.Fields.{ended-these, longer-these, broken-these}
-use borrow.Author.Rules.{rules}
 use Rattle.rows.proofs.has_fields.Goals as goal
 
 pub returns-in-Ended : goal.returns-in-Ended

@@ -1,15 +1,8 @@
-use borrow.Author.Rules.{rules}
-use Prim.Native.Nat.{◌+◌, ◌-◌, ◌≤◌, ◌<◌}
+use Prim.Native.Nat.{◌+◌}
 use native.Mathlib.Omega.{arith}
-use mathlib.Core.Path.{◌≡◌, refl, sym, ap, ◌∙◌}
-use mathlib.Core.Bool.{true, false}
-use lib.ListN.{length}
-use Rattle.feed.specs.Fields.{row_of}
-use Rattle.lines.specs.declared.Stand.TheVariants.{Begins}
+use mathlib.Core.Path.{◌≡◌, refl, sym, ◌∙◌}
 use Rattle.lines.specs.Passing.{stand}
-use Rattle.lines.specs.Rows.{row_at}
 use Rattle.header.proofs.Names.{goes-field, count-goes, count-ends, count-breaks, count-whole}
-use Rattle.rows.specs.Placed.{place_of}
 use Rattle.rows.proofs.Picks.{one_more, picked, broken-nowhere, other-nowhere, all_placed}
 use Rattle.rows.proofs.places_of.Goals as goal
 
@@ -49,7 +42,7 @@ pub returns-then-k-count : goal.returns-then-k-count
 returns-then-k-count c =
     let s = c.args.line.now in
     let n = count-ends s c.loop-next.at c.loop-next.invariant.0 _ (sym c.some_fields-stand.ensures ∙ c.in-Ended.is) in
-    c.no_places.ensures ∙ other-nowhere _ _ _ _ _ _ s (λ e. c.if-k-count.true (omega (arith, e, n.0, c.loop-next.invariant.2)))
+    other-nowhere _ _ _ _ _ _ s (λ e. c.if-k-count.true (omega (arith, e, n.0, c.loop-next.invariant.2)))
 
 pub returns-in-Ended : goal.returns-in-Ended
 returns-in-Ended c =
@@ -72,4 +65,4 @@ pub returns-in-Broken : goal.returns-in-Broken
 returns-in-Broken c =
     let s = c.args.line.now in
     let n = count-breaks s c.loop-next.at c.loop-next.invariant.0 _ (sym c.some_fields-stand.ensures ∙ c.in-Broken.is) in
-    c.no_places-in-Broken.ensures ∙ broken-nowhere _ _ _ _ _ _ s (sym c.loop-next.invariant.3 ∙ n.1)
+    broken-nowhere _ _ _ _ _ _ s (sym c.loop-next.invariant.3 ∙ n.1)

@@ -1,16 +1,11 @@
-use borrow.Author.Rules.{rules}
 use Prim.Native.Nat.{◌+◌, ◌-◌, ◌≤◌, ◌<◌}
-use native.Mathlib.Omega.{arith}
-use mathlib.Core.Path.{◌≡◌, refl, sym, ap, ◌∙◌}
-use mathlib.Core.Bool.{true, false}
+use mathlib.Core.Path.{◌≡◌}
 use lib.ListN.{length}
 use Rattle.feed.specs.Fields.{row_of}
 use Rattle.lines.specs.declared.Stand.TheVariants.{Begins}
 use Rattle.lines.specs.Passing.{stand}
 use Rattle.lines.specs.Rows.{row_at}
-use Rattle.header.proofs.Names.{goes-field, count-goes, count-ends, count-breaks, count-whole}
 use Rattle.rows.specs.Placed.{place_of}
-use Rattle.rows.proofs.Picks.{one_more, picked, broken-nowhere, other-nowhere, all_placed}
 use Rattle.rows.proofs.places_of.Given as goal
 
 abbrev pub invariant-loop-next : goal.invariant-loop-next

@@ -1,6 +1,6 @@
 use Prim.Native.Nat.{◌≤◌}
 use lib.ListN.{length}
-use mathlib.Core.Path.{◌≡◌, subst, sym, ap, ◌∙◌}
+use mathlib.Core.Path.{subst, sym, ap, ◌∙◌}
 use Rattle.rows.proofs.Fields.{place-within}
 use Rattle.rows.specs.Placed.{field_span}
 use Rattle.lines.specs.Spans.{span_at}

@@ -2,7 +2,6 @@
 use Rattle.records.specs.Asked.{query_of}
 use Rattle.intake.specs.Lending.{lent}
 use Rattle.search.proofs.AnswerAllowed.{valid, whole-held, hop_fits, allow, no-list}
-use borrow.Author.Rules.{rules}
 use Rattle.search.proofs.run_judged.Goals as goal
 
 pub judged-requires : goal.judged-requires

@@ -2,27 +2,23 @@
 use mathlib.Core.Path.{◌≡◌, refl, ap, ◌∙◌}
 use mathlib.Core.Logic.{◌≢◌}
 use mathlib.Core.Bool.{Bool, true, cond, not, ◌&&◌}
-use Prim.Native.Nat.{ℕ, ◌+◌, ◌-◌, ◌≤◌}
+use Prim.Native.Nat.{ℕ, ◌+◌, ◌-◌}
 use native.Mathlib.Omega.{arith}
 use lib.Dec.{eqb}
-use lib.ListN.{length, get_or}
+use lib.ListN.{get_or}
 use Rattle.journeys.proofs.Tests.{and-true}
 use Rattle.passing.specs.Row.{passes}
 use Rattle.directed.specs.Directed.{row_in}
-use Rattle.directed.proofs.Either.{numbered, few}
-use Rattle.worktable.specs.Map.{Map, put, size}
+use Rattle.worktable.specs.Map.{put, size}
 use Rattle.worktable.specs.Table.{map_of}
-use Rattle.meeting.specs.Passing.{missing, met, meets, goes, Enough}
+use Rattle.meeting.specs.Passing.{missing, met, meets}
 use Rattle.meeting.specs.Answer.{ArrivedIs}
 use Rattle.meeting.proofs.Leading as le
 use Rattle.meeting.proofs.Loops as lo
-use Rattle.meeting.proofs.Loops.{Went}
-use Rattle.blocks.specs.Block.{adds_if}
 use Rattle.blocks.proofs.BlockOfStep.{adds-size}
 use Rattle.blocks.proofs.NextRecord as nx
-use Rattle.short.specs.ShortRow.{keeps, lasting, comes_to, Marked}
+use Rattle.short.specs.ShortRow.{lasting, comes_to}
 use Rattle.short.proofs.RowOfStep.{mark-said, mark-new, new-few, row-news}
-use borrow.Author.Rules.{rules}
 use Rattle.short.proofs.add.Goals as goal
 
 pub loop-j-init : goal.loop-j-init
@@ -48,9 +44,9 @@ add_one-requires c =
       );
     }
 
-pub returns-in_default : goal.returns-in_default
+pub returns-in_err-table : goal.returns-in_err-table
 unfolding ArrivedIs
-returns-in_default c =
+returns-in_err-table c =
     let a = c.args in
     let L = c.loop-j in
     let l = c.loop-j-test.true in
@@ -58,13 +54,13 @@ returns-in_default c =
     let n = passes a.row.arriving in
     let M = map_of L.table L.held in
     let F = R.from L.j in
-    let z = le.none-fits L.table c.add_one.new.held _ c.add_one.ensures c.in_default.is in
+    let z = le.none-fits L.table c.add_one.new.held _ c.add_one.ensures c.in_err-table.was in
     λ m k e p.
     let i = (L.invariant.1 m k e p).leads in
     let said = ap (λ (b : Bool). b && lasting R n F) (ap (λ (x : ℕ). not (eqb x 0)) (k L.j l) ∙ mark-said (missing (m F))) in
     let g = ap (λ (b : Bool). size (put M F (cond b (meets R L.j (M F)) (M F)))) said in
     let f = lo.step_map R.from R.offer (λ u x e. cond (comes_to R n m u) (met R.allowed x (R.departing u) e) e) (map_of a.t a.held.now) L.j i.holds.map refl refl in
-    omega (arith, z, i.room, g, ap size f, adds-size R n (comes_to R n m) (map_of a.t a.held.now) (row-news R n m e p) (L.j + 1) n (omega (arith, l)) (omega arith))
+    le.none-lacks a.t c.add_one.new.held _ (omega (arith, z, i.room, g, ap size f, adds-size R n (comes_to R n m) (map_of a.t a.held.now) (row-news R n m e p) (L.j + 1) n (omega (arith, l)) (omega arith))) c.from_residual.ensures
 
 pub loop-j-preserved : goal.loop-j-preserved
 loop-j-preserved c =
@@ -80,7 +76,7 @@ loop-j-preserved c =
       λ m k e p.
           let said = ap (λ (b : Bool). b && lasting R n F) (ap (λ (x : ℕ). not (eqb x 0)) (k L.j l) ∙ mark-said (missing (m F))) in
           lo.went_on R.from R.offer (λ u x e. cond (comes_to R n m u) (met R.allowed x (R.departing u) e) e) (L.invariant.1 m k e p) l x.auto.held
-          (le.leads-same (le.fits-leads x.ensures c.in-Fits.is) (ap (λ (b : Bool). put M F (cond b (meets R L.j (M F)) (M F))) said)) refl refl,
+          (le.leads-same (le.fits-leads x.ensures c.in_ok-table.was) (ap (λ (b : Bool). put M F (cond b (meets R L.j (M F)) (M F))) said)) refl refl,
     )
 
 pub returns : goal.returns

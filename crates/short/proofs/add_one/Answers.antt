@@ -1,22 +1,16 @@
 -- `short::add_one` meets its contract: a marked record whose vertex stays is met. Assumes nothing.
-use mathlib.Core.Path.{◌≡◌, refl, sym, ap, subst, ◌∙◌}
-use mathlib.Core.Bool.{true, not}
-use Prim.Native.Nat.{ℕ, ◌≤◌}
-use native.Mathlib.Omega.{arith}
+use mathlib.Core.Path.{sym, ap, ◌∙◌}
+use mathlib.Core.Bool.{not}
 use lib.Dec.{eqb}
 use lib.ListN.{get_or}
-use borrow.Author.Tests.{eq-eqb, ne_eqb}
-use Rattle.journeys.proofs.Tests.{and-true, and_left, and_right, cond-true, cond-false}
+use borrow.Author.Tests.{eq-eqb}
+use Rattle.journeys.proofs.Tests.{and_left, and_right, cond-false}
 use Rattle.passing.specs.Row.{passes}
 use Rattle.directed.specs.Directed.{row_in}
-use Rattle.worktable.specs.Map.{put}
 use Rattle.worktable.specs.Table.{map_of}
-use Rattle.meeting.specs.Passing.{met, meets, leaving}
+use Rattle.meeting.specs.Passing.{meets}
 use Rattle.meeting.proofs.Leading as le
-use Rattle.blocks.proofs.NextRecord as nx
 use Rattle.short.specs.ShortRow.{lasting}
-use Rattle.directed.proofs.Either.{numbered, allowed-low}
-use borrow.Author.Rules.{rules}
 use Rattle.short.proofs.add_one.Goals as goal
 
 pub returns-else-stays : goal.returns-else-stays

@@ -6,7 +6,6 @@ use Rattle.worktable.proofs.MapLaws.{swept-spent, swept_kept}
 use Rattle.worktable.proofs.PassLaws.{passed-absent, passed-kept, passed-spent}
 use Rattle.meeting.proofs.Leading as le
 use Rattle.blocks.proofs.NextRecord as nx
-use borrow.Author.Rules.{rules}
 use Rattle.short.proofs.drop_spent.Goals as goal
 
 pub drop-requires : goal.drop-requires

@@ -1,14 +1,12 @@
 -- `short::lasts` meets its contract: the loop has taken off the offers above D of the first i records. Assumes nothing.
 use mathlib.Core.Path.{◌≡◌, sym, ap, ◌∙◌}
-use Prim.Native.Nat.{ℕ, ◌-◌, ◌+◌, ◌*◌, ◌≤◌}
+use Prim.Native.Nat.{ℕ, ◌-◌, ◌+◌}
 use native.Mathlib.Omega.{arith}
 use Rattle.journeys.specs.Counting.{count}
 use Rattle.passing.specs.Row.{passes}
-use Rattle.directed.specs.Directed.{due_of, row_in}
-use Rattle.directed.proofs.Either.{numbered, few}
+use Rattle.directed.specs.Directed.{row_in}
 use Rattle.blocks.proofs.Chances.{overs}
 use Rattle.short.proofs.RowOfStep.{hope-left, overs-next, overs-within}
-use borrow.Author.Rules.{rules}
 use Rattle.short.proofs.lasts.Goals as goal
 
 pub loop-i-init : goal.loop-i-init

@@ -1,9 +1,8 @@
 -- `short::new_mark` meets its contract. Assumes nothing.
-use mathlib.Core.Path.{◌≡◌, refl, sym, ap}
+use mathlib.Core.Path.{◌≡◌, sym, ap}
 use Rattle.journeys.specs.Counting.{one}
 use Rattle.worktable.specs.declared.Passed.{Passed}
 use Rattle.blocks.specs.Lack.{is_new}
-use borrow.Author.Rules.{rules}
 use Rattle.short.proofs.new_mark.Goals as goal
 
 told : {p q : Passed} → p ≡ q → one (is_new q) ≡ one (is_new p)

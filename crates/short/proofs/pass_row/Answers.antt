@@ -1,11 +1,9 @@
 -- `short::pass_row` meets its contract: the held ones met and the new ones added are all records passed. Assumes nothing.
-use mathlib.Core.Path.{◌∙◌}
 use Rattle.passing.specs.Row.{passes}
 use Rattle.directed.specs.Directed.{row_in}
 use Rattle.worktable.specs.Table.{map_of}
 use Rattle.blocks.proofs.NextRecord as nx
 use Rattle.short.proofs.RowOfStep.{row_done}
-use borrow.Author.Rules.{rules}
 use Rattle.short.proofs.pass_row.Goals as goal
 
 pub returns : goal.returns

@@ -1,9 +1,7 @@
 -- `short::stays` meets its contract. Assumes nothing.
-use native.Mathlib.Omega.{arith}
 use Rattle.passing.specs.Row.{passes}
 use Rattle.directed.specs.Directed.{row_in}
 use Rattle.short.proofs.RowOfStep.{some-leave, near-stays}
-use borrow.Author.Rules.{rules}
 use Rattle.short.proofs.stays.Goals as goal
 
 pub returns-then-offer-allowed : goal.returns-then-offer-allowed

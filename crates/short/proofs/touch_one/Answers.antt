@@ -1,6 +1,5 @@
 -- `short::touch_one` meets its contract: the record is passed, and who is spent goes. Assumes nothing.
-use mathlib.Core.Path.{◌≡◌, ap, ◌∙◌}
-use native.Mathlib.Omega.{arith}
+use mathlib.Core.Path.{ap, ◌∙◌}
 use lib.ListN.{set}
 use Rattle.journeys.specs.Counting.{one}
 use Rattle.worktable.specs.Map.{Entry, put, touched, swept}
@@ -9,7 +8,6 @@ use Rattle.worktable.proofs.PassLaws.{gives_at, gives-twice}
 use Rattle.meeting.proofs.Leading as le
 use Rattle.surveys.proofs.TouchThenSweep.{touched-missing}
 use Rattle.short.proofs.RowOfStep.{told-missing}
-use borrow.Author.Rules.{rules}
 use Rattle.short.proofs.touch_one.Goals as goal
 
 pub drop_spent-requires : goal.drop_spent-requires

@@ -1,20 +1,17 @@
 -- `short::touch_row` meets its contract: who is held has been met by the first j records, and those of the new ones are marked. Assumes nothing.
-use mathlib.Core.Path.{◌≡◌, refl, ap, ◌∙◌}
+use mathlib.Core.Path.{refl, ap, ◌∙◌}
 use mathlib.Core.List.{List}
-use Prim.Native.Nat.{ℕ, ◌-◌, ◌<◌}
+use Prim.Native.Nat.{ℕ, ◌-◌}
 use native.Mathlib.Omega.{arith}
-use lib.ListN.{length, get_or}
+use lib.ListN.{get_or}
 use Rattle.journeys.specs.Counting.{one}
 use Rattle.passing.specs.Row.{passes}
 use Rattle.directed.specs.Directed.{row_in}
-use Rattle.directed.proofs.Either.{numbered, allowed-low, few}
+use Rattle.directed.proofs.Either.{allowed-low}
 use Rattle.worktable.specs.Map.{touched, swept}
 use Rattle.worktable.specs.Table.{map_of}
 use Rattle.meeting.proofs.Loops as lo
-use Rattle.meeting.proofs.Loops.{Went}
-use Rattle.short.specs.ShortRow.{keeps, Marked}
 use Rattle.short.proofs.RowOfStep.{still-new, still-some, mark-next}
-use borrow.Author.Rules.{rules}
 use Rattle.short.proofs.touch_row.Goals as goal
 
 pub loop-j-init : goal.loop-j-init

@@ -1,9 +1,7 @@
 -- `siltbrow::siltbrow_check` meets its contract: it packs what the check answers. Assumes nothing.
-use mathlib.Core.Path.{ap}
+use mathlib.Core.Path.{ap, ◌∙◌}
 use Rattle.siltbrow.specs.Packed.{packed}
-use borrow.Author.Rules.{rules}
 use Rattle.siltbrow.proofs.siltbrow_check.Goals as goal
 
 pub returns : goal.returns
-unfolding packed
-returns c = ap packed c.check-refusal.ensures.result_value
+returns c = c.pack.ensures ∙ ap packed c.check-refusal.ensures.result_value

@@ -1,6 +1,5 @@
-use borrow.Author.Rules.{rules}
 use native.Mathlib.Omega.{arith}
-use mathlib.Core.Path.{◌≡◌, refl, sym, ap, ◌∙◌}
+use mathlib.Core.Path.{◌∙◌}
 use Rattle.lines.proofs.Passes.{stop-within}
 use Rattle.spelling.proofs.SpellLaws.{line-good, number-there}
 use Rattle.spelling.proofs.number_at.Goals as goal

@@ -1,4 +1,3 @@
-use borrow.Author.Rules.{rules}
 use Rattle.spelling.proofs.SpellLaws.{second-good}
 use Rattle.spelling.proofs.number_between.Goals as goal
 

@@ -1,13 +1,9 @@
-use borrow.Author.Rules.{rules}
 use Prim.Native.Nat.{ℕ, ◌+◌}
-use mathlib.Core.Path.{◌≡◌, refl, sym, ap, ◌∙◌}
+use mathlib.Core.Path.{ap, ◌∙◌}
 use mathlib.Core.List.{List}
 use Rattle.journeys.specs.Bytes.{word}
 use Rattle.words.specs.Written.{written}
 use Rattle.spelling.proofs.SpellLaws.{five-words}
-use Rattle.spelling.proofs.put_hop.Reads as reads
-use Rattle.spelling.proofs.put_hop.Lts as lts
-use Rattle.words.proofs.put_word.Reads as put-word-reads
 use Rattle.spelling.proofs.put_hop.Goals as goal
 
 pub returns : goal.returns

@@ -1,12 +1,10 @@
 -- `spreading::follow` meets its contract. Assumes nothing.
-use mathlib.Core.Path.{◌≡◌, refl, sym, ◌∙◌}
+use mathlib.Core.Path.{refl, ◌∙◌}
 use mathlib.Core.Logic.{◌≢◌}
 use native.Mathlib.Omega.{arith}
 use Rattle.boarding.specs.Rides.{trip_at}
-use Rattle.marking.specs.Setting.{tables, query, mode}
 use Rattle.marking.proofs.Hops.{hop-low}
-use Rattle.spreading.proofs.Following.{trip-none, x-low, readable, staying, followed, retold}
-use borrow.Author.Rules.{rules}
+use Rattle.spreading.proofs.Following.{x-low, readable, staying, followed, retold}
 use Rattle.spreading.proofs.follow.Goals as goal
 
 pub trip_at-trip-requires : goal.trip_at-trip-requires

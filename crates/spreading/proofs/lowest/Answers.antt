@@ -1,15 +1,7 @@
 -- `spreading::lowest` meets its contract: from p on all are of the trip. Assumes nothing.
-use mathlib.Core.Path.{◌≡◌, refl, sym, ap, ◌∙◌}
-use mathlib.Core.Logic.{◌⊎◌, inl, inr, ⊎_elim}
-use Prim.Native.Nat.{ℕ, suc, ◌-◌, ◌≤◌, ◌<◌}
+use Prim.Native.Nat.{◌-◌}
 use native.Mathlib.Omega.{arith}
-use Rattle.journeys.proofs.Tests.{same-or-below}
-use Rattle.boarding.specs.Rides.{trip_at}
-use Rattle.marks.specs.Marks.{bit}
-use Rattle.arranging.specs.Keys.{word_at}
 use Rattle.arranging.proofs.StretchLaws.{word_in}
-use Rattle.spreading.specs.Spreads.{Readable}
-use borrow.Author.Rules.{rules}
 use Rattle.spreading.proofs.lowest.Goals as goal
 
 pub trip_at-requires : goal.trip_at-requires

@@ -1,13 +1,10 @@
 -- `spreading::spread` meets its contract: one turn after another, and each leaves less to do. Assumes nothing.
-use mathlib.Core.Path.{◌≡◌, refl, ◌∙◌}
+use mathlib.Core.Path.{◌∙◌}
 use native.Mathlib.Omega.{arith}
-use lib.ListN.{length}
 use Rattle.records.specs.Columns.{records_in}
 use Rattle.marking.specs.Setting.{tables, query, mode}
-use Rattle.marking.specs.Pends.{state, left}
 use Rattle.marking.proofs.Hops.{hops-count}
-use Rattle.spreading.proofs.Turning.{Turning, turning-none, turning-one, spread-all, more-passed, no_more}
-use borrow.Author.Rules.{rules}
+use Rattle.spreading.proofs.Turning.{turning-one, spread-all, more-passed, no_more}
 use Rattle.spreading.proofs.spread.Goals as goal
 
 pub turn-q-requires : goal.turn-q-requires

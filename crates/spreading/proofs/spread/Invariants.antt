@@ -1,12 +1,8 @@
-use mathlib.Core.Path.{◌≡◌, refl, ◌∙◌}
-use native.Mathlib.Omega.{arith}
+use mathlib.Core.Path.{◌≡◌}
 use lib.ListN.{length}
-use Rattle.records.specs.Columns.{records_in}
 use Rattle.marking.specs.Setting.{tables, query, mode}
 use Rattle.marking.specs.Pends.{state, left}
-use Rattle.marking.proofs.Hops.{hops-count}
-use Rattle.spreading.proofs.Turning.{Turning, turning-none, turning-one, spread-all, more-passed, no_more}
-use borrow.Author.Rules.{rules}
+use Rattle.spreading.proofs.Turning.{Turning}
 use Rattle.spreading.proofs.spread.Given as goal
 
 abbrev pub invariant-loop-q : goal.invariant-loop-q

@@ -1,9 +1,6 @@
 -- `spreading::stay_by` meets its contract. Assumes nothing.
-use mathlib.Core.Path.{sym, ◌∙◌}
-use native.Mathlib.Omega.{arith}
 use Rattle.marking.specs.Setting.{tables, query, mode}
-use Rattle.spreading.proofs.Staying.{stays-already, stays-mark}
-use borrow.Author.Rules.{rules}
+use Rattle.spreading.proofs.Staying.{stays-mark}
 use Rattle.spreading.proofs.stay_by.Goals as goal
 
 pub returns : goal.returns

@@ -1,13 +1,8 @@
 -- `spreading::stay_from` meets its contract: the words below g have been marked. Assumes nothing.
-use mathlib.Core.Path.{◌≡◌, refl, ◌∙◌}
-use Prim.Native.Nat.{◌-◌, ◌≤◌}
+use mathlib.Core.Path.{◌∙◌}
 use native.Mathlib.Omega.{arith}
-use lib.ListN.{length}
 use Rattle.marking.specs.Setting.{tables, query, mode}
-use Rattle.marking.specs.Pends.{state}
-use Rattle.spreading.specs.Spreads.{StaysFrom}
-use Rattle.spreading.proofs.Staying.{from-none, from_one, stays-timely, from_end}
-use borrow.Author.Rules.{rules}
+use Rattle.spreading.proofs.Staying.{from_one, stays-timely}
 use Rattle.spreading.proofs.stay_from.Goals as goal
 
 pub stay_by-r-requires : goal.stay_by-r-requires

@@ -1,12 +1,9 @@
-use mathlib.Core.Path.{◌≡◌, refl, ◌∙◌}
-use Prim.Native.Nat.{◌-◌, ◌≤◌}
-use native.Mathlib.Omega.{arith}
+use mathlib.Core.Path.{◌≡◌}
+use Prim.Native.Nat.{◌≤◌}
 use lib.ListN.{length}
 use Rattle.marking.specs.Setting.{tables, query, mode}
 use Rattle.marking.specs.Pends.{state}
 use Rattle.spreading.specs.Spreads.{StaysFrom}
-use Rattle.spreading.proofs.Staying.{from-none, from_one, stays-timely, from_end}
-use borrow.Author.Rules.{rules}
 use Rattle.spreading.proofs.stay_from.Given as goal
 
 abbrev pub invariant-loop-g : goal.invariant-loop-g
@@ -17,6 +14,3 @@ invariant-loop-g l =
     × (length l.table ≡ length l.initial.table)
     × (length l.marks ≡ length l.initial.marks)
     × (length l.stack ≡ length l.initial.stack)
-
-abbrev pub decreases-loop-g : goal.decreases-loop-g
-decreases-loop-g l = l.q - l.g

@@ -1,11 +1,8 @@
 -- `spreading::turn` meets its contract: a hop of the stack, a marked one at the cursor, or none there. Assumes nothing.
-use mathlib.Core.Path.{refl, sym, ◌∙◌}
-use Prim.Native.Nat.{◌-◌}
+use mathlib.Core.Path.{refl}
 use native.Mathlib.Omega.{arith}
 use Rattle.marking.specs.Setting.{tables, query, mode}
-use Rattle.spreading.proofs.Turning.{popped-fit, passed-fit, turned-pop, turned-pass, turned-not}
-use borrow.Author.Tests.{not-true, not-false}
-use borrow.Author.Rules.{rules}
+use Rattle.spreading.proofs.Turning.{turned-pop, turned-pass}
 use Rattle.spreading.proofs.turn.Goals as goal
 
 pub returns-then-height-gt0 : goal.returns-then-height-gt0

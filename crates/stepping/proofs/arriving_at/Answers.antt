@@ -1,6 +1,5 @@
 -- `stepping::arriving_at` meets its contract. Assumes nothing.
 use Rattle.stepping.proofs.NextEntry.{arriving-is}
-use borrow.Author.Rules.{rules}
 use Rattle.stepping.proofs.arriving_at.Goals as goal
 
 pub returns : goal.returns

@@ -2,7 +2,6 @@
 use native.Mathlib.Omega.{arith}
 use Rattle.records.specs.Arriving.{table_of, size_of}
 use Rattle.stepping.proofs.NextEntry.{hops-are, all-hops}
-use borrow.Author.Rules.{rules}
 use Rattle.stepping.proofs.hops_at.Goals as goal
 
 pub arriving-requires : goal.arriving-requires

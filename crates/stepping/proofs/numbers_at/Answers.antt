@@ -1,7 +1,6 @@
 use mathlib.Core.Path.{refl}
 use Rattle.records.specs.Arriving.{run}
 use Rattle.heldmap.specs.RowsOfTables.{numbers_at}
-use borrow.Author.Rules.{rules}
 use Rattle.stepping.proofs.numbers_at.Goals as goal
 
 pub returns : goal.returns

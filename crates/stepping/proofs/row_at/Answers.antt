@@ -1,6 +1,5 @@
 -- `stepping::row_at` meets its contract: the courier's row has the records of its stretch, an ordinary one those that arrive. Assumes nothing.
 use Rattle.stepping.proofs.NextEntry.{courier-row, ordinary-row}
-use borrow.Author.Rules.{rules}
 use Rattle.stepping.proofs.row_at.Goals as goal
 
 pub returns-then-courier : goal.returns-then-courier

@@ -1,6 +1,5 @@
 -- `stepping::settle_and_pass` meets its contract: the three parts are the row of x. Assumes nothing.
 use Rattle.stepping.proofs.StepEnds.{ready, all-passed}
-use borrow.Author.Rules.{rules}
 use Rattle.stepping.proofs.settle_and_pass.Goals as goal
 
 pub arrive-requires : goal.arrive-requires

@@ -1,7 +1,6 @@
 -- `stepping::settle_next` meets its contract: a vertex that is spent once it is settled is dropped. Assumes nothing.
 use mathlib.Core.Path.{sym, ◌∙◌}
 use Rattle.stepping.proofs.SettledEntry.{still-there, settled-gone, settled-stays}
-use borrow.Author.Rules.{rules}
 use Rattle.stepping.proofs.settle_next.Goals as goal
 
 pub drop-requires : goal.drop-requires

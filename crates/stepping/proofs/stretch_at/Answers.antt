@@ -1,8 +1,6 @@
 -- `stepping::stretch_at` meets its contract: the list is searched for the courier only. Assumes nothing.
-use native.Mathlib.Omega.{arith}
 use Rattle.listing.proofs.Laying.{sums-few}
 use Rattle.stepping.proofs.NextEntry.{stretch-found, no-stretch}
-use borrow.Author.Rules.{rules}
 use Rattle.stepping.proofs.stretch_at.Goals as goal
 
 pub guess-guess-requires : goal.guess-guess-requires

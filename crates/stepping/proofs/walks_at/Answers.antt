@@ -2,7 +2,6 @@
 use native.Mathlib.Omega.{arith}
 use Rattle.records.specs.Arriving.{table_of, size_of}
 use Rattle.stepping.proofs.NextEntry.{walks-are, all-walks}
-use borrow.Author.Rules.{rules}
 use Rattle.stepping.proofs.walks_at.Goals as goal
 
 pub arriving-requires : goal.arriving-requires

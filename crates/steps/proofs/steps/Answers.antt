@@ -1,14 +1,11 @@
-use Prim.Native.Nat.{◌-◌, ◌≤◌}
-use mathlib.Core.Path.{◌≡◌, refl, subst}
+use Prim.Native.Nat.{◌-◌}
+use mathlib.Core.Path.{refl, sym, subst}
 use native.Mathlib.Omega.{arith}
-use borrow.Author.Rules.{rules}
-use lib.ListN.{length, replicate}
-use Rattle.journeys.specs.Tables.{tables_of}
-use Rattle.records.specs.Asked.{query_of}
 use Rattle.stepping.specs.Taken.{StepIs}
-use Rattle.steps.specs.Running.{Stands}
+use Rattle.steps.specs.Running.{Ends}
+use Rattle.stepping.proofs.StepEnds.{handed-on}
 use Rattle.stepping.proofs.NextEntry.{next-nothing, next-found}
-use Rattle.steps.proofs.LoopEnds.{table-order, counts-fit, whole, some-wait, none-wait, row_is, run_fits, may-find, row_here, begins-as, step-as, one-counted, stands_on, stops}
+use Rattle.steps.proofs.LoopEnds.{table-order, counts-fit, whole, at_limit, row_is, run_fits, may-find, row_here, begins-as, step-as, one-counted, stands_on, stops}
 use Rattle.steps.proofs.steps.Goals as goal
 
 pub next-requires : goal.next-requires
@@ -28,7 +25,7 @@ stretch_at-stretch-requires c =
     let s = c.requires in
     let a = s.valid in
     let i = c.loop-p.invariant in
-    let n = next-found _ _ _ _ a.1 _ c.next.ensures c.in-At.is in
+    let n = next-found _ _ _ _ a.1 _ c.next.ensures c.in-Some.is in
     may-find _ _ a.4 _ _ _ _ s.lists _ _ _ a.0 _ _ _ i.0 _ _ _ n
 
 pub row_at-row-requires : goal.row_at-row-requires
@@ -36,7 +33,7 @@ row_at-row-requires c =
     let s = c.requires in
     let a = s.valid in
     let i = c.loop-p.invariant in
-    let n = next-found _ _ _ _ a.1 _ c.next.ensures c.in-At.is in
+    let n = next-found _ _ _ _ a.1 _ c.next.ensures c.in-Some.is in
     (run_fits _ _ a.4 _ _ _ _ s.lists _ _ _ a.0 _ _ _ i.0 _ _ _ n, omega (arith, a.4))
 
 pub step-requires : goal.step-requires
@@ -44,7 +41,7 @@ step-requires c =
     let s = c.requires in
     let a = s.valid in
     let i = c.loop-p.invariant in
-    let n = next-found _ _ _ _ a.1 _ c.next.ensures c.in-At.is in
+    let n = next-found _ _ _ _ a.1 _ c.next.ensures c.in-Some.is in
     let e = c.stretch_at-stretch.ensures in
     let f = row_is _ _ _ _ _ _ _ _ _ a.1 e c.row_at-row.ensures in record {
       begins = (begins-as _ _ a.4 _ _ _ _ s.lists _ _ _ a.0 _ _ _ i.0 _ _ _ n _ refl c.type_inv.vertices _ e _ f, i.2);
@@ -56,10 +53,10 @@ loop-p-smaller c =
     let s = c.requires in
     let a = s.valid in
     let i = c.loop-p.invariant in
-    let n = next-found _ _ _ _ a.1 _ c.next.ensures c.in-At.is in
+    let n = next-found _ _ _ _ a.1 _ c.next.ensures c.in-Some.is in
     let e = c.stretch_at-stretch.ensures in
     let f = row_is _ _ _ _ _ _ _ _ _ a.1 e c.row_at-row.ensures in
-    let t = subst (StepIs _ _ _ _ _ _ _) c.in-Next.is (step-as _ _ a.4 _ _ _ _ s.lists _ _ _ a.0 _ _ _ i.0 _ _ _ n _ refl _ _ _ e _ f _ c.step.ensures.step_made) in
+    let t = subst (StepIs _ _ _ _ _ _ _) c.in_ok-p.was (step-as _ _ a.4 _ _ _ _ s.lists _ _ _ a.0 _ _ _ i.0 _ _ _ n _ refl _ _ _ e _ f _ c.step.ensures.step_made) in
     omega (arith, one-counted _ _ _ _ _ a.0 _ _ _ i.0 _ _ _ n _ _ (row_here _ _ a.4 _ _ _ _ s.lists _ _ _ a.0 _ _ _ i.0 _ _ _ n _ refl) _ _ _ t, c.loop-p-test.true)
 
 pub loop-p-preserved : goal.loop-p-preserved
@@ -67,10 +64,10 @@ loop-p-preserved c =
     let s = c.requires in
     let a = s.valid in
     let i = c.loop-p.invariant in
-    let n = next-found _ _ _ _ a.1 _ c.next.ensures c.in-At.is in
+    let n = next-found _ _ _ _ a.1 _ c.next.ensures c.in-Some.is in
     let e = c.stretch_at-stretch.ensures in
     let f = row_is _ _ _ _ _ _ _ _ _ a.1 e c.row_at-row.ensures in
-    let t = subst (StepIs _ _ _ _ _ _ _) c.in-Next.is (step-as _ _ a.4 _ _ _ _ s.lists _ _ _ a.0 _ _ _ i.0 _ _ _ n _ refl _ _ _ e _ f _ c.step.ensures.step_made) in (
+    let t = subst (StepIs _ _ _ _ _ _ _) c.in_ok-p.was (step-as _ _ a.4 _ _ _ _ s.lists _ _ _ a.0 _ _ _ i.0 _ _ _ n _ refl _ _ _ e _ f _ c.step.ensures.step_made) in (
       stands_on _ _ _ _ _ a.0 _ _ _ i.0 _ _ _ n _ _ (row_here _ _ a.4 _ _ _ _ s.lists _ _ _ a.0 _ _ _ i.0 _ _ _ n _ refl) _ _ _ t,
       omega (arith, one-counted _ _ _ _ _ a.0 _ _ _ i.0 _ _ _ n _ _ (row_here _ _ a.4 _ _ _ _ s.lists _ _ _ a.0 _ _ _ i.0 _ _ _ n _ refl) _ _ _ t, c.loop-p-test.true),
       c.step.ensures.scratch_after,
@@ -79,36 +76,27 @@ loop-p-preserved c =
       omega (arith, i.5, c.scratch-1.given),
     )
 
-pub returns-in-Full : goal.returns-in-Full
-returns-in-Full c =
+pub returns-in_err-p : goal.returns-in_err-p
+returns-in_err-p c =
     let s = c.requires in
     let a = s.valid in
     let i = c.loop-p.invariant in
-    let n = next-found _ _ _ _ a.1 _ c.next.ensures c.in-At.is in
+    let n = next-found _ _ _ _ a.1 _ c.next.ensures c.in-Some.is in
     let e = c.stretch_at-stretch.ensures in
     let f = row_is _ _ _ _ _ _ _ _ _ a.1 e c.row_at-row.ensures in
-    let t = subst (StepIs _ _ _ _ _ _ _) c.in-Full.is (step-as _ _ a.4 _ _ _ _ s.lists _ _ _ a.0 _ _ _ i.0 _ _ _ n _ refl _ _ _ e _ f _ c.step.ensures.step_made) in record {
-      ends = stops _ _ _ _ _ a.0 _ _ _ i.0 _ _ _ n _ _ (row_here _ _ a.4 _ _ _ _ s.lists _ _ _ a.0 _ _ _ i.0 _ _ _ n _ refl) _ _ _ _ c.loop-p-test.true t;
+    let t = subst (StepIs _ _ _ _ _ _ _) c.in_err-p.was (step-as _ _ a.4 _ _ _ _ s.lists _ _ _ a.0 _ _ _ i.0 _ _ _ n _ refl _ _ _ e _ f _ c.step.ensures.step_made) in record {
+      ends = subst (Ends _ _ _ _ _ _ _ _) (sym (handed-on _ c.from_residual.ensures)) (stops _ _ _ _ _ a.0 _ _ _ i.0 _ _ _ n _ _ (row_here _ _ a.4 _ _ _ _ s.lists _ _ _ a.0 _ _ _ i.0 _ _ _ n _ refl) _ _ _ _ c.loop-p-test.true t);
       scratch_after = c.step.ensures.scratch_after;
     }
 
 pub waits-requires : goal.waits-requires
 waits-requires c = table-order _ _ _ _ _ c.requires.valid.0 _ _ _ c.loop-p.invariant.0
 
-pub returns-then-waits : goal.returns-then-waits
-returns-then-waits c =
-    let s = c.requires in
-    let a = s.valid in
-    let i = c.loop-p.invariant in record {
-      ends = some-wait _ _ _ _ _ a.0 _ _ _ i.0 _ a.1 _ c.waits.ensures _ (omega (arith, i.1, c.loop-p-test.false)) c.if-waits.true;
-      scratch_after = i.2;
-    }
-
 pub returns : goal.returns
 returns c =
     let s = c.requires in
     let a = s.valid in
     let i = c.loop-p.invariant in record {
-      ends = none-wait _ _ _ _ _ a.0 _ _ _ i.0 _ a.1 _ c.waits.ensures _ i.1 c.if-waits.false;
+      ends = at_limit _ _ _ _ _ a.0 _ _ _ i.0 _ a.1 _ c.waits.ensures _ (omega (arith, i.1, c.loop-p-test.false));
       scratch_after = i.2;
     }

@@ -1,14 +1,9 @@
 use Prim.Native.Nat.{◌-◌, ◌≤◌}
-use mathlib.Core.Path.{◌≡◌, refl, subst}
-use native.Mathlib.Omega.{arith}
-use borrow.Author.Rules.{rules}
+use mathlib.Core.Path.{◌≡◌}
 use lib.ListN.{length, replicate}
 use Rattle.journeys.specs.Tables.{tables_of}
 use Rattle.records.specs.Asked.{query_of}
-use Rattle.stepping.specs.Taken.{StepIs}
 use Rattle.steps.specs.Running.{Stands}
-use Rattle.stepping.proofs.NextEntry.{next-nothing, next-found}
-use Rattle.steps.proofs.LoopEnds.{table-order, counts-fit, whole, some-wait, none-wait, row_is, run_fits, may-find, row_here, begins-as, step-as, one-counted, stands_on, stops}
 use Rattle.steps.proofs.steps.Given as goal
 
 abbrev pub invariant-loop-p : goal.invariant-loop-p

@@ -1,9 +1,7 @@
-use Rattle.steps.proofs.LoopEnds.{waits-at, waits-not}
-use borrow.Author.Rules.{rules}
+use mathlib.Core.Path.{sym, subst}
+use Rattle.steps.specs.Running.{WaitsIs}
+use Rattle.steps.proofs.LoopEnds.{waits-if}
 use Rattle.steps.proofs.waits.Goals as goal
 
-pub returns-in-At : goal.returns-in-At
-returns-in-At c = waits-at _ _ _ _ c.next.ensures c.in-At.is
-
-pub returns-in-Nothing : goal.returns-in-Nothing
-returns-in-Nothing c = waits-not _ _ _ _ c.next.ensures c.in-Nothing.is
+pub returns : goal.returns
+returns c = subst (WaitsIs _ _ _) (sym c.is_some.ensures) (waits-if _ _ _ _ c.next.ensures)

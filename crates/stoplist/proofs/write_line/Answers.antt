@@ -1,6 +1,5 @@
-use borrow.Author.Rules.{rules}
 use Prim.Native.Nat.{◌<◌}
-use mathlib.Core.Path.{◌≡◌, refl, sym, ap, subst, ◌∙◌}
+use mathlib.Core.Path.{sym, ap, subst, ◌∙◌}
 use lib.ListN.{set}
 use Rattle.journeys.specs.Counting.{none}
 use Rattle.sorting.specs.Sorted.{recs}
@@ -9,42 +8,41 @@ use Rattle.stoplist.proofs.Parts.{good, below, all_fit, found-there, below-two-t
 use Rattle.stoplist.proofs.Packing.{made}
 use Rattle.stoplist.proofs.write_line.Goals as goal
 
+pub unwrap-p-requires : goal.unwrap-p-requires
+unwrap-p-requires c = let a = c.args in all_fit a.c a.stops.now a.trips.now a.line.now c.requires.b_len.3 _ c.places_in.ensures
+
 pub vertex_of-vertex-requires : goal.vertex_of-vertex-requires
 vertex_of-vertex-requires c =
     let a = c.args in
     let p = c.requires in
     let g = good a.c a.stops.now a.trips.now a.line.now p.b_len.3 in
-    let e = c.places_in-p.ensures in
-    let fit = all_fit a.c a.stops.now a.trips.now a.line.now p.b_len.3 e in record {
-      slots = (p.slots.0, p.slots.1, below a.c a.stops.now a.trips.now a.line.now p.b_len.3 p.b_len.2.stop, stop-placed _ _ _ _ _ _ _ e fit);
-      list_value = (p.slots.2, g.stop);
+    let e = sym c.unwrap-p.ensures ∙ c.places_in.ensures in record {
+      k_in_bounds = (below a.c a.stops.now a.trips.now a.line.now p.b_len.3 p.b_len.2.stop, stop-placed _ _ _ _ _ _ _ e);
+      list_value = (p.stops_good, g.stop);
     }
 
 pub listed_from-trip-requires : goal.listed_from-trip-requires
 listed_from-trip-requires c =
     let a = c.args in
     let p = c.requires in
-    let e = c.places_in-p.ensures in
-    let fit = all_fit a.c a.stops.now a.trips.now a.line.now p.b_len.3 e in
-    (p.slots_2.0, p.slots_2.1, below a.c a.stops.now a.trips.now a.line.now p.b_len.3 p.b_len.2.trip, trip-placed _ _ _ _ _ _ _ e fit)
+    let e = sym c.unwrap-p.ensures ∙ c.places_in.ensures in
+    (below a.c a.stops.now a.trips.now a.line.now p.b_len.3 p.b_len.2.trip, trip-placed _ _ _ _ _ _ _ e)
 
 pub number_from-sequence-requires : goal.number_from-sequence-requires
 number_from-sequence-requires c =
     let a = c.args in
     let p = c.requires in
-    let e = c.places_in-p.ensures in
-    let fit = all_fit a.c a.stops.now a.trips.now a.line.now p.b_len.3 e in
-    (below a.c a.stops.now a.trips.now a.line.now p.b_len.3 p.b_len.2.sequence, sequence-placed _ _ _ _ _ _ _ e fit, (good a.c a.stops.now a.trips.now a.line.now p.b_len.3).sequence)
+    let e = sym c.unwrap-p.ensures ∙ c.places_in.ensures in
+    (below a.c a.stops.now a.trips.now a.line.now p.b_len.3 p.b_len.2.sequence, sequence-placed _ _ _ _ _ _ _ e, (good a.c a.stops.now a.trips.now a.line.now p.b_len.3).sequence)
 
 pub times_of-times-requires : goal.times_of-times-requires
 times_of-times-requires c =
     let a = c.args in
     let p = c.requires in
     let g = good a.c a.stops.now a.trips.now a.line.now p.b_len.3 in
-    let e = c.places_in-p.ensures in
-    let fit = all_fit a.c a.stops.now a.trips.now a.line.now p.b_len.3 e in record {
-      arrival_in_bounds = (below a.c a.stops.now a.trips.now a.line.now p.b_len.3 p.b_len.2.arrival, g.arrival, arrival-placed _ _ _ _ _ _ _ e fit);
-      departure_in_bounds = (below a.c a.stops.now a.trips.now a.line.now p.b_len.3 p.b_len.2.departure, g.departure, departure-placed _ _ _ _ _ _ _ e fit);
+    let e = sym c.unwrap-p.ensures ∙ c.places_in.ensures in record {
+      arrival_in_bounds = (below a.c a.stops.now a.trips.now a.line.now p.b_len.3 p.b_len.2.arrival, g.arrival, arrival-placed _ _ _ _ _ _ _ e);
+      departure_in_bounds = (below a.c a.stops.now a.trips.now a.line.now p.b_len.3 p.b_len.2.departure, g.departure, departure-placed _ _ _ _ _ _ _ e);
     }
 
 pub overflow_cast-trip : goal.overflow_cast-trip
@@ -52,8 +50,8 @@ overflow_cast-trip c =
     let a = c.args in
     let p = c.requires in
     let g = good a.c a.stops.now a.trips.now a.line.now p.b_len.3 in
-    let w = found-there none a.trips.now a.line.now a.c.trip (below a.c a.stops.now a.trips.now a.line.now p.b_len.3 p.b_len.2.trip) p.slots_2.2 g.trip c.listed_from-trip.ensures in
-    record { fits = below-two-to-32 w.0 p.slots_2.3 }
+    let w = found-there none a.trips.now a.line.now a.c.trip (below a.c a.stops.now a.trips.now a.line.now p.b_len.3 p.b_len.2.trip) p.trips_good.0 g.trip c.listed_from-trip.ensures in
+    record { fits = below-two-to-32 w.0 p.trips_good.1 }
 
 pub put_stop-requires : goal.put_stop-requires
 put_stop-requires c =

@@ -1,10 +1,9 @@
 use Prim.Native.Nat.{◌-◌}
 use native.Mathlib.Omega.{arith}
-use mathlib.Core.Path.{◌≡◌, refl, sym, ap, ◌∙◌}
+use mathlib.Core.Path.{sym, ◌∙◌}
 use lib.ListN.{take, drop, length-take, length-drop}
 use Rattle.journeys.proofs.Tests.{or_left}
 use Rattle.ids.proofs.ListLines.{nothing-there, some-there}
-use borrow.Author.Rules.{rules}
 use Rattle.stops.proofs.line_good.Goals as goal
 
 pub returns-then-at-stop : goal.returns-then-at-stop

@@ -1,9 +1,8 @@
 use native.Mathlib.Omega.{arith}
-use mathlib.Core.Path.{◌≡◌, refl, sym, ap, ◌∙◌}
+use mathlib.Core.Path.{sym, ◌∙◌}
 use lib.Seq.{length-take-le}
 use Rattle.lines.proofs.Passes.{stop-within, next-within}
 use Rattle.stops.proofs.StopLines.{text-parts}
-use borrow.Author.Rules.{rules}
 use Rattle.stops.proofs.text_fault.Goals as goal
 
 pub line_next-from-requires : goal.line_next-from-requires

@@ -1,32 +1,19 @@
-use borrow.Author.Rules.{rules}
-use native.Mathlib.Omega.{arith}
-use mathlib.Core.Path.{◌≡◌, refl, sym, ap, ◌∙◌}
-use borrow.Author.Tests.{eq-eqb, ne_eqb}
+use Rattle.std.proofs.Common.{sym, ap, ◌∙◌, eq-eqb, ne_eqb}
+use Rattle.values.specs.Readings.{time_read}
 use Rattle.rows.proofs.Fields.{within, as-time, as-blank}
-use Rattle.stops.proofs.StopLines.{blank-good, time-good, time-bad}
+use Rattle.stops.proofs.StopLines.{blank-good, time-told}
 use Rattle.stops.proofs.time_or_blank.Goals as goal
 
-pub returns-then-start-stop : goal.returns-then-start-stop
-returns-then-start-stop c =
-    sym (blank-good _ (sym (as-blank _ _ c.requires.0 _ c.span_from-span.ensures) ∙ eq-eqb _ _ c.if-start-stop.true))
+pub returns-then-span : goal.returns-then-span
+returns-then-span c =
+    sym (blank-good _ (sym (as-blank _ _ c.requires.0 _ c.span_from-span.ensures) ∙ eq-eqb _ _ c.if-span.true))
 
-pub slice_bounds-read_time-count : goal.slice_bounds-read_time-count
-slice_bounds-read_time-count c = (within _ _ c.requires.0 _ c.span_from-span.ensures).0
+pub bytes-requires : goal.bytes-requires
+bytes-requires c = within _ _ c.requires.0 _ c.span_from-span.ensures
 
-pub returns-in-Seconds : goal.returns-in-Seconds
-returns-in-Seconds c =
+pub returns : goal.returns
+returns c =
     let h = c.requires.0 in
     let e = c.span_from-span.ensures in
-    sym (time-good _ _ (sym (as-blank _ _ h _ e) ∙ ne_eqb _ _ c.if-start-stop.false) (sym (as-time _ _ h _ e) ∙ sym c.read_time-read.ensures ∙ c.in-Seconds.is))
-
-pub returns-in-Bad : goal.returns-in-Bad
-returns-in-Bad c =
-    let h = c.requires.0 in
-    let e = c.span_from-span.ensures in
-    sym (time-bad _ (sym (as-blank _ _ h _ e) ∙ ne_eqb _ _ c.if-start-stop.false) (sym (as-time _ _ h _ e) ∙ sym c.read_time-read.ensures ∙ c.in-Bad.is))
-
-pub slice_bounds-read_time-start : goal.slice_bounds-read_time-start
-slice_bounds-read_time-start c = omega (arith, within _ _ c.requires.0 _ c.span_from-span.ensures)
-
-pub slice_bounds-read_time-end : goal.slice_bounds-read_time-end
-slice_bounds-read_time-end c = omega (arith, within _ _ c.requires.0 _ c.span_from-span.ensures)
+    c.is_some.ensures
+    ∙ time-told _ _ (sym (as-blank _ _ h _ e) ∙ ne_eqb _ _ c.if-span.false) (sym (c.read_time.ensures ∙ ap time_read c.bytes.ensures ∙ as-time _ _ h _ e))

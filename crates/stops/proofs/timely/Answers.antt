@@ -1,22 +1,15 @@
-use borrow.Author.Rules.{rules}
-use native.Mathlib.Omega.{arith}
-use mathlib.Core.Path.{◌≡◌, sym, ◌∙◌}
-use borrow.Author.Tests.{not-true, not-false}
-use Rattle.stops.proofs.StopLines.{long, bad-arrival, bad-departure, good-sequence, bad-sequence}
+use mathlib.Core.Path.{sym, ◌∙◌}
+use Rattle.stops.proofs.StopLines.{bad-arrival, bad-departure, sequence-told}
 use Rattle.stops.proofs.timely.Goals as goal
 
 pub returns-then-not-time_or_blank : goal.returns-then-not-time_or_blank
 returns-then-not-time_or_blank c =
-    sym (bad-arrival _ _ _ _ _ c.requires.arrival_lt_count.3 (sym c.time_or_blank.ensures ∙ not-true _ c.if-not-time_or_blank.true-raw))
+    sym (bad-arrival _ _ _ _ _ c.requires.arrival_lt_count.3 (sym c.if-not-time_or_blank.ensures))
 
 pub returns-then-not-time_or_blank-2 : goal.returns-then-not-time_or_blank-2
 returns-then-not-time_or_blank-2 c =
-    sym (bad-departure _ _ _ _ _ c.requires.arrival_lt_count.3 (sym c.time_or_blank.ensures ∙ not-false _ c.if-not-time_or_blank.false-raw) (sym c.time_or_blank-2.ensures ∙ not-true _ c.if-not-time_or_blank-2.true-raw))
+    sym (bad-departure _ _ _ _ _ c.requires.arrival_lt_count.3 (sym c.if-not-time_or_blank.ensures) (sym c.if-not-time_or_blank-2.ensures))
 
-pub returns-in-Value : goal.returns-in-Value
-returns-in-Value c =
-    sym (good-sequence _ _ _ _ _ c.requires.arrival_lt_count.3 (sym c.time_or_blank.ensures ∙ not-false _ c.if-not-time_or_blank.false-raw) (sym c.time_or_blank-2.ensures ∙ not-false _ c.if-not-time_or_blank-2.false-raw) _ (sym c.number_from-read.ensures ∙ c.in-Value.is))
-
-pub returns-in-Bad : goal.returns-in-Bad
-returns-in-Bad c =
-    sym (bad-sequence _ _ _ _ _ c.requires.arrival_lt_count.3 (sym c.time_or_blank.ensures ∙ not-false _ c.if-not-time_or_blank.false-raw) (sym c.time_or_blank-2.ensures ∙ not-false _ c.if-not-time_or_blank-2.false-raw) (sym c.number_from-read.ensures ∙ c.in-Bad.is))
+pub returns : goal.returns
+returns c =
+    c.is_some.ensures ∙ sequence-told _ _ _ _ _ c.requires.arrival_lt_count.3 (sym c.if-not-time_or_blank.ensures) (sym c.if-not-time_or_blank-2.ensures) _ (sym c.number_from.ensures)

@@ -1,11 +1,8 @@
 -- `begins_at`: where the list falls the numbers of a vertex begin, and the record there tells which. Assumes nothing.
-use borrow.Author.Rules.{rules}
 use borrow.Author.Tests.{eqb-true}
-use mathlib.Core.Path.{◌≡◌, refl, sym, ap, ◌∙◌}
-use Prim.Native.Nat.{ℕ, ◌+◌, ◌-◌, ◌*◌, ◌/◌, ◌<◌, ◌≤◌}
+use mathlib.Core.Path.{sym, ap, ◌∙◌}
+use Prim.Native.Nat.{ℕ, ◌<◌}
 use native.Mathlib.Omega.{arith}
-use lib.ListN.{length}
-use Rattle.journeys.proofs.Tests.{never}
 use Rattle.listing.specs.Places.{total, from_of, below}
 use Rattle.stretches.proofs.Halving.{here-low, falls-first}
 use Rattle.stretches.proofs.begins_at.Goals as goal

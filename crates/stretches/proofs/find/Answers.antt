@@ -1,5 +1,4 @@
 -- `find`: the first place, and the vertex's own record tells how many numbers it has. Assumes nothing.
-use borrow.Author.Rules.{rules}
 use Rattle.stretches.proofs.Halving.{found}
 use Rattle.stretches.proofs.find.Goals as goal
 

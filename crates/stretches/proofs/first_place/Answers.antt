@@ -1,13 +1,12 @@
 -- `first_place`: the numbers of some vertex begin where one falls; from there by counts, else by halves. Assumes nothing.
-use borrow.Author.Rules.{rules}
-use mathlib.Core.Path.{◌≡◌, sym, ap, subst, ◌∙◌}
-use Prim.Native.Nat.{ℕ, ◌+◌, ◌*◌, ◌/◌, ◌<◌, ◌≤◌}
+use mathlib.Core.Path.{◌≡◌, sym, ap, ◌∙◌}
+use Prim.Native.Nat.{ℕ, ◌/◌, ◌<◌, ◌≤◌}
 use native.Mathlib.Omega.{arith}
 use lib.ListN.{length}
 use Rattle.starts.specs.Sums.{sums}
 use Rattle.listing.specs.Places.{total, from_of, below}
 use Rattle.listing.proofs.PlaceLaws.{below-most}
-use Rattle.stretches.proofs.Halving.{here-low, falls-first, share-fits, share-low}
+use Rattle.stretches.proofs.Halving.{here-low, falls-first}
 use Rattle.stretches.proofs.first_place.Goals as goal
 use Rattle.stretches.proofs.first_place.Goals.{After-from_of-w, Start, Then-i-n}
 

@@ -2,7 +2,6 @@
 use mathlib.Core.Path.{◌≡◌}
 use Prim.Native.Nat.{◌+◌, ◌≤◌}
 use native.Mathlib.Omega.{arith}
-use borrow.Author.Rules.{rules}
 use Rattle.listing.specs.Places.{total}
 use Rattle.stretches.proofs.Halving.{end_low, middle-in, parts-there, walks-found, middle}
 use Rattle.stretches.proofs.walks_of.Goals as goal

@@ -1,12 +1,11 @@
 -- `surveys::next_block` meets its contract: the first j records have none in the blocks that are passed over. Assumes nothing.
-use mathlib.Core.Path.{◌≡◌, sym, subst}
+use mathlib.Core.Path.{◌≡◌, subst}
 use mathlib.Core.Logic.{◌⊎◌, inl, inr, ⊎_elim}
 use Prim.Native.Nat.{ℕ, ◌+◌, ◌-◌, ◌/◌, ◌≤◌, ◌<◌}
 use native.Mathlib.Omega.{arith}
 use Rattle.journeys.proofs.Tests.{le-or-lt}
 use Rattle.directed.specs.Directed.{near_of}
 use Rattle.directed.proofs.Either.{few}
-use borrow.Author.Rules.{rules}
 use Rattle.surveys.proofs.next_block.Invariants.{Far}
 use Rattle.surveys.proofs.next_block.Goals as goal
 
@@ -27,9 +26,6 @@ loop-j-init c = (omega arith, c.requires.1, omega arith, λ i l. absurd (let z :
 
 pub near_at-u-requires : goal.near_at-u-requires
 near_at-u-requires c = (c.requires.0, c.loop-j-test.true)
-
-pub overflow_add-j : goal.overflow_add-j
-overflow_add-j c = record { fits = omega (arith, c.loop-j-test.true, few c.requires.0, c.well_formed) }
 
 pub loop-j-preserved : goal.loop-j-preserved
 loop-j-preserved c =

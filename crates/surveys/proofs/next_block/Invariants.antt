@@ -1,11 +1,6 @@
-use mathlib.Core.Path.{◌≡◌, sym, subst}
-use mathlib.Core.Logic.{◌⊎◌, inl, inr, ⊎_elim}
-use Prim.Native.Nat.{ℕ, ◌+◌, ◌-◌, ◌/◌, ◌≤◌, ◌<◌}
-use native.Mathlib.Omega.{arith}
-use Rattle.journeys.proofs.Tests.{le-or-lt}
+use mathlib.Core.Logic.{◌⊎◌}
+use Prim.Native.Nat.{ℕ, ◌-◌, ◌/◌, ◌≤◌, ◌<◌}
 use Rattle.directed.specs.Directed.{near_of}
-use Rattle.directed.proofs.Either.{few}
-use borrow.Author.Rules.{rules}
 use Rattle.surveys.proofs.next_block.Given as goal
 
 abbrev pub Far : (ℕ → ℕ) → ℕ → ℕ → ℕ → Type 0
@@ -13,6 +8,3 @@ Far from first next j = (i : ℕ) → i < j → (from i / 2048 < first) ⊎ (nex
 
 abbrev pub invariant-loop-j : goal.invariant-loop-j
 invariant-loop-j l = (l.j ≤ l.n) × (l.first ≤ l.next) × (l.next ≤ l.end) × Far (near_of l.walks l.hops l.list l.row) l.first l.next l.j
-
-abbrev pub decreases-loop-j : goal.decreases-loop-j
-decreases-loop-j l = l.n - l.j

@@ -1,5 +1,5 @@
 -- `surveys::note_and_tally` meets its contract: the tally changes as the counter comes from 0 or goes to 0. Assumes nothing.
-use mathlib.Core.Path.{◌≡◌, refl, ap, ap₂, ◌∙◌}
+use mathlib.Core.Path.{refl, ap, ap₂, ◌∙◌}
 use mathlib.Core.Bool.{Bool, not}
 use Prim.Native.Nat.{ℕ, ◌+◌, ◌-◌, ◌%◌}
 use native.Mathlib.Omega.{arith}
@@ -9,7 +9,6 @@ use Rattle.journeys.specs.Counting.{one}
 use Rattle.journeys.proofs.Tests.{cond-true}
 use Rattle.blocks.specs.Block.{stays_in}
 use Rattle.surveys.specs.Survey.{tallied}
-use borrow.Author.Rules.{rules}
 use Rattle.surveys.proofs.note_and_tally.Goals as goal
 
 pub returns : goal.returns

@@ -1,24 +1,22 @@
 -- `surveys::survey` meets its contract: the counters are those after the first j records, and the tally tells how many entries these bring or take. Assumes nothing.
-use mathlib.Core.Path.{◌≡◌, refl, ap, ◌∙◌}
+use mathlib.Core.Path.{refl, ap, ◌∙◌}
 use mathlib.Core.Bool.{cond, ◌&&◌}
-use Prim.Native.Nat.{ℕ, ◌+◌, ◌-◌, ◌%◌, ◌≤◌, ◌<◌}
+use Prim.Native.Nat.{◌-◌, ◌%◌}
 use native.Mathlib.Omega.{arith}
 use lib.Dec.{eqb}
-use lib.ListN.{length, get_or}
+use lib.ListN.{get_or}
 use Rattle.passing.specs.Row.{passes}
 use Rattle.directed.specs.Directed.{row_in}
 use Rattle.directed.proofs.Either.{numbered, allowed-low, few}
-use Rattle.worktable.specs.Map.{put, size, touched}
+use Rattle.worktable.specs.Map.{put, touched}
 use Rattle.worktable.specs.Table.{map_of}
 use Rattle.meeting.specs.Passing.{missing, goes}
 use Rattle.meeting.proofs.Leading as le
 use Rattle.meeting.proofs.Loops as lo
-use Rattle.meeting.proofs.Loops.{Went}
 use Rattle.blocks.specs.Block.{in_block, chance, noting}
 use Rattle.blocks.proofs.NextRecord as nx
-use Rattle.surveys.specs.Survey.{tallied, touches_in, meets_in}
+use Rattle.surveys.specs.Survey.{tallied}
 use Rattle.surveys.proofs.TallyIsGrowth as ta
-use borrow.Author.Rules.{rules}
 use Rattle.surveys.proofs.survey.Goals as goal
 
 pub loop-j-init : goal.loop-j-init

@@ -1,25 +1,22 @@
 -- `surveys::survey_all` meets its contract: the blocks below the one to come are surveyed, and the start is behind the highest sum so far. Assumes nothing.
 use mathlib.Core.Path.{◌≡◌, refl, sym, ap, subst, ◌∙◌}
 use mathlib.Core.Bool.{cond}
-use Prim.Native.Nat.{ℕ, suc, ◌+◌, ◌-◌, ◌*◌, ◌/◌, ◌≤◌, ◌<◌, max}
+use Prim.Native.Nat.{ℕ, suc, ◌+◌, ◌-◌, ◌*◌, ◌≤◌, ◌<◌, max}
 use native.Mathlib.Numerals.{add-one}
 use native.Mathlib.Omega.{arith}
 use lib.Dec.{ltb}
-use lib.ListN.{length, replicate}
 use Rattle.passing.specs.Row.{Row, passes}
 use Rattle.directed.specs.Directed.{row_in}
 use Rattle.directed.proofs.Either.{numbered, few}
 use Rattle.worktable.specs.Map.{Map, size}
 use Rattle.worktable.specs.Table.{map_of}
 use Rattle.meeting.specs.Passing.{goes, left, leaving, passed}
-use Rattle.meeting.specs.Answer.{Leads}
 use Rattle.meeting.proofs.Leading.{leads-here, leads-same}
 use Rattle.meeting.proofs.Loops.{from_low}
 use Rattle.surveys.specs.Survey.{touches_in, meets_in, touched_to}
 use Rattle.surveys.proofs.Mixed.{size-most, size_small}
 use Rattle.surveys.proofs.BlockByBlock as bb
 use Rattle.surveys.proofs.BlockByBlock.{Stands}
-use borrow.Author.Rules.{rules}
 use Rattle.surveys.proofs.survey_all.Goals as goal
 
 -- the tally is told of the map as it is
@@ -88,7 +85,7 @@ loop-block-preserved c =
       x.1,
       leads-same v.ensures.0.touched (ap (goes R.from (touches_in R b) n) i ∙ bb.touched-next R n m b ∙ bb.touched-gap R n m (suc b) r step none),
       v.ensures.1,
-      subst (λ (z : ℕ). Stands R n m r total z c.better-start.result) (sym c.greater-best.ensures) (subst (λ (z : ℕ). Stands R n m r total (max L.best total) z) (sym e) on),
+      subst (λ (z : ℕ). Stands R n m r total z c.better-start.result) (sym c.max-best.ensures) (subst (λ (z : ℕ). Stands R n m r total (max L.best total) z) (sym e) on),
       v.auto.held ∙ L.invariant.4,
       v.auto.counters ∙ L.invariant.5,
     )

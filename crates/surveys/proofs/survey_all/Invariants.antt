@@ -1,24 +1,11 @@
-use mathlib.Core.Path.{◌≡◌, refl, sym, ap, subst, ◌∙◌}
-use mathlib.Core.Bool.{cond}
-use Prim.Native.Nat.{ℕ, suc, ◌+◌, ◌-◌, ◌*◌, ◌/◌, ◌≤◌, ◌<◌, max}
-use native.Mathlib.Numerals.{add-one}
-use native.Mathlib.Omega.{arith}
-use lib.Dec.{ltb}
+use mathlib.Core.Path.{◌≡◌}
+use Prim.Native.Nat.{◌-◌, ◌≤◌}
 use lib.ListN.{length, replicate}
-use Rattle.passing.specs.Row.{Row, passes}
 use Rattle.directed.specs.Directed.{row_in}
-use Rattle.directed.proofs.Either.{numbered, few}
-use Rattle.worktable.specs.Map.{Map, size}
 use Rattle.worktable.specs.Table.{map_of}
-use Rattle.meeting.specs.Passing.{goes, left, leaving, passed}
 use Rattle.meeting.specs.Answer.{Leads}
-use Rattle.meeting.proofs.Leading.{leads-here, leads-same}
-use Rattle.meeting.proofs.Loops.{from_low}
-use Rattle.surveys.specs.Survey.{touches_in, meets_in, touched_to}
-use Rattle.surveys.proofs.Mixed.{size-most, size_small}
-use Rattle.surveys.proofs.BlockByBlock as bb
+use Rattle.surveys.specs.Survey.{touched_to}
 use Rattle.surveys.proofs.BlockByBlock.{Stands}
-use borrow.Author.Rules.{rules}
 use Rattle.surveys.proofs.survey_all.Given as goal
 
 abbrev pub invariant-loop-block : goal.invariant-loop-block

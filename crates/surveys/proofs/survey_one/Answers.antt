@@ -1,7 +1,7 @@
 -- `surveys::survey_one` meets its contract: a new vertex is noted, and a spent one is going to be dropped. Assumes nothing.
-use mathlib.Core.Path.{◌≡◌, refl, sym, ap, ◌∙◌}
+use mathlib.Core.Path.{sym, ap, ◌∙◌}
 use mathlib.Core.Bool.{◌&&◌}
-use Prim.Native.Nat.{ℕ, ◌/◌, ◌%◌}
+use Prim.Native.Nat.{◌/◌, ◌%◌}
 use lib.Dec.{eqb}
 use lib.ListN.{get_or}
 use borrow.Author.Tests.{eq-eqb, ne_eqb}
@@ -17,7 +17,6 @@ use Rattle.meeting.proofs.Leading as le
 use Rattle.blocks.specs.Block.{in_block}
 use Rattle.surveys.specs.Survey.{tallied}
 use Rattle.surveys.proofs.TallyIsGrowth as ta
-use borrow.Author.Rules.{rules}
 use Rattle.surveys.proofs.survey_one.Goals as goal
 
 pub note_and_tally-requires : goal.note_and_tally-requires

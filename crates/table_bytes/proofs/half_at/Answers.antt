@@ -1,5 +1,4 @@
 -- `half_at`: two bytes of the buffer are a number of the column.
-use borrow.Author.Rules.{rules}
 use mathlib.Core.Path.{sym, ◌∙◌}
 use Prim.Native.Nat.{◌+◌, ◌*◌}
 use Rattle.table_bytes.proofs.Access.{get, col-get}

@@ -1,4 +1,3 @@
-use borrow.Author.Rules.{rules}
 use mathlib.Core.Path.{ap, ◌∙◌}
 use Rattle.table_bytes.specs.Columns.{cols}
 use Rattle.table_bytes.proofs.Access.{next-set}

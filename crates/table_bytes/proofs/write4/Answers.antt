@@ -1,8 +1,13 @@
-use borrow.Author.Rules.{rules}
+use mathlib.Core.Path.{◌≡◌, ◌∙◌}
+use Prim.Native.Nat.{◌/◌}
+use native.Mathlib.Omega.{arith}
 use Rattle.table_bytes.specs.Columns.{enc}
-use Rattle.table_bytes.proofs.Access.{stores}
 use Rattle.table_bytes.proofs.write4.Goals as goal
 
 pub returns : goal.returns
 unfolding enc
-returns c = stores (enc 4 c.args.x) c.args.p.now c.requires
+returns c =
+    let x = c.args.x in
+    let two : x / 65536 ≡ x / 256 / 256 = omega arith in
+    let three : x / 16777216 ≡ x / 256 / 256 / 256 = omega arith in
+    c.copy_from_slice.ensures.after ∙ c.to_le_bytes.ensures ∙ cc

@@ -1,6 +1,5 @@
-use native.Mathlib.Omega.{arith}
 use Rattle.table_bytes.specs.Columns.{cols}
-use Rattle.table_tree.proofs.SearchLaws.{Walking, walk-down, walk-mem, walk_end, walk-stop}
+use Rattle.table_tree.proofs.SearchLaws.{Walking}
 use Rattle.table_tree.proofs.before.Given as goal
 
 abbrev pub invariant-loop-x : goal.invariant-loop-x

@@ -1,9 +1,5 @@
 -- `build`: the nodes from p on are played.
-use native.Mathlib.Omega.{arith}
-use mathlib.Core.Path.{sym, ◌∙◌}
-use Prim.Native.Nat.{◌-◌, ◌+◌, ◌*◌}
-use Rattle.table_bytes.specs.Columns.{cols}
-use Rattle.table_tree.proofs.BuildLaws.{Building, build-start, build-low, either-low, build-step, build-end}
+use Rattle.table_tree.proofs.BuildLaws.{build-start, build-step}
 use Rattle.table_tree.proofs.build.Goals as goal
 
 pub loop-p-init : goal.loop-p-init

@@ -1,11 +1,10 @@
 -- `change_word`: the loop climbs from the leaf to the root, and each node on the way gets its winner.
-use borrow.Author.Rules.{rules}
 use native.Mathlib.Omega.{arith}
-use mathlib.Core.Path.{sym, ap, ◌∙◌}
-use mathlib.Core.Logic.{⊎_elim, inl, inr}
+use mathlib.Core.Path.{ap, ◌∙◌}
+use mathlib.Core.Logic.{inl, inr}
 use Rattle.table_bytes.specs.Columns.{Cols, cols}
 use Rattle.table_bytes.proofs.Access.{sized}
-use Rattle.table_tree.proofs.ReplayLaws.{Climbing, climb-start, climb-step, climb-end, climb-sib, climb-low, climb-cur}
+use Rattle.table_tree.proofs.ReplayLaws.{climb-start, climb-step, climb-end}
 use Rattle.table_tree.proofs.RiseLaws.{changed}
 use Rattle.table_tree.proofs.change_word.Goals.{then-w-least, else-w-least}
 use Rattle.table_tree.proofs.change_word.Goals as goal

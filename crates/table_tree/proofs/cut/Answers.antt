@@ -1,11 +1,9 @@
 -- `cut`: s is the first of its bucket, or behind p.
-use borrow.Author.Rules.{rules}
 use native.Mathlib.Omega.{arith}
 use mathlib.Core.Path.{ap, ◌∙◌}
-use mathlib.Core.Logic.{⊎_elim}
 use Rattle.table_bytes.proofs.Access.{sized}
 use Rattle.table_tree.specs.Words.{bucket_of, vertex_in}
-use Rattle.table_tree.proofs.LinkLaws.{cut-head, cut-next, cut-first, cut-behind}
+use Rattle.table_tree.proofs.LinkLaws.{cut-next, cut-first, cut-behind}
 use Rattle.table_tree.proofs.cut.Goals as goal
 
 pub head-h-requires : goal.head-h-requires

@@ -1,7 +1,5 @@
-use borrow.Author.Rules.{rules}
-use native.Mathlib.Omega.{arith}
 use Rattle.table_bytes.specs.Columns.{cols}
-use Rattle.table_tree.proofs.SearchLaws.{Seeking, find-miss, find-start, find-here, find-last, find-next, find-less}
+use Rattle.table_tree.proofs.SearchLaws.{Seeking}
 use Rattle.table_tree.proofs.find.Given as goal
 
 abbrev pub invariant-loop-x : goal.invariant-loop-x

@@ -1,10 +1,9 @@
 -- `lower_word`: the leaf of slot i climbs, and the loop ends at the root or where it loses.
-use borrow.Author.Rules.{rules}
 use native.Mathlib.Omega.{arith}
-use mathlib.Core.Path.{sym, ap, ◌∙◌}
+use mathlib.Core.Path.{ap, ◌∙◌}
 use Rattle.table_bytes.specs.Columns.{Cols, cols}
 use Rattle.table_bytes.proofs.Access.{sized}
-use Rattle.table_tree.proofs.RiseLaws.{Climbs, climbs-start, climbs-in, climbs-low, climbs-same, climbs-step, climbs-stop, climbs-end, changed}
+use Rattle.table_tree.proofs.RiseLaws.{climbs-start, climbs-same, climbs-step, climbs-stop, climbs-end, changed}
 use Rattle.table_tree.proofs.lower_word.Goals as goal
 
 pub loop-p-init : goal.loop-p-init

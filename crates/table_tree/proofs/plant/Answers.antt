@@ -1,11 +1,10 @@
 -- `plant`: the first i leaves are set.
 use native.Mathlib.Omega.{arith}
-use mathlib.Core.Path.{◌≡◌, refl, sym, ap, subst, ◌∙◌}
-use Prim.Native.Nat.{ℕ, ◌-◌, ◌+◌, ◌*◌, ◌≤◌}
-use lib.ListN.{length}
+use mathlib.Core.Path.{sym, ap, subst, ◌∙◌}
+use Prim.Native.Nat.{◌+◌}
 use Rattle.table_bytes.specs.Columns.{Cols, cols}
 use Rattle.table_bytes.proofs.Access.{sized}
-use Rattle.table_tree.specs.Tree.{Kept, Leaves}
+use Rattle.table_tree.specs.Tree.{Leaves}
 use Rattle.table_tree.proofs.SpareLaws.{leaves-more}
 use Rattle.table_tree.proofs.plant.Goals as goal
 

@@ -1,12 +1,8 @@
 -- `spare`: the slots from `from` up to i are vacant.
 use native.Mathlib.Omega.{arith}
-use mathlib.Core.Path.{◌≡◌, sym, subst, ◌∙◌}
-use Prim.Native.Nat.{ℕ, ◌-◌, ◌*◌, ◌≤◌}
-use lib.ListN.{length}
-use Rattle.table_bytes.specs.Columns.{cols}
+use mathlib.Core.Path.{◌∙◌}
 use Rattle.table_bytes.proofs.Access.{sized}
-use Rattle.table_tree.specs.Tree.{Spared}
-use Rattle.table_tree.proofs.SpareLaws.{spared-none, spared-more}
+use Rattle.table_tree.proofs.SpareLaws.{spared-more}
 use Rattle.table_tree.proofs.spare.Goals as goal
 
 pub loop-i-preserved : goal.loop-i-preserved

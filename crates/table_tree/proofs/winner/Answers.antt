@@ -1,10 +1,8 @@
 -- `winner`: the lesser word has the lesser key.
-use borrow.Author.Rules.{rules}
 use native.Mathlib.Omega.{arith}
 use mathlib.Core.Path.{refl}
 use mathlib.Core.Logic.{inl, inr}
 use Rattle.table_bytes.specs.Columns.{cols, at}
-use Rattle.table_tree.specs.Words.{key}
 use Rattle.table_tree.proofs.TreeLaws.{key-mono}
 use Rattle.table_tree.proofs.winner.Goals as goal
 

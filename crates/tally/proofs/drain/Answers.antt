@@ -1,12 +1,11 @@
 -- `tally::drain` meets its contract: one is taken off for each of the first i numbers, and the list stays as it was. Assumes nothing.
 use mathlib.Core.Path.{◌≡◌, refl, sym, ap, ◌∙◌}
 use mathlib.Core.List.{List}
-use Prim.Native.Nat.{ℕ, ◌+◌, ◌-◌, ◌*◌, ◌≤◌, ◌<◌}
+use Prim.Native.Nat.{ℕ, ◌+◌}
 use native.Mathlib.Omega.{arith}
-use lib.ListN.{length, get_or}
-use borrow.Author.Tests.{not-true, not-false}
+use lib.ListN.{get_or}
 use Rattle.journeys.proofs.Tests.{never, cond-true, cond-false}
-use Rattle.tally.specs.Laid.{listed, times, lowered, Same, Placed, Laid}
+use Rattle.tally.specs.Laid.{listed, times, lowered, Placed}
 use Rattle.tally.proofs.Groups.{laid_same, placed-kept, lowered-outside, drained-one, not-enough}
 use Rattle.tally.proofs.drain.Goals as goal
 
@@ -19,7 +18,7 @@ returns-then-not-take c =
     let loop = c.loop-i in
     let first = c.args.scratch.now in
     let own = loop.invariant.2 (1984 + loop.i) (omega arith) (omega arith) in
-    let none = not-true c.take.result c.if-not-take.true-raw in
+    let none = c.if-not-take.true in
     let e : c.take.new.scratch ≡ loop.scratch = c.take.ensures.scratch_after ∙ cond-false _ _ none in record {
       drained = λ groups words claims taken laid inside. (
         λ q. never q refl,
@@ -36,7 +35,7 @@ loop-i-preserved c =
     let k = listed loop.scratch loop.i in
     let own : k ≡ listed first loop.i = loop.invariant.2 (1984 + loop.i) (omega arith) (omega arith) in
     let placed : Placed loop.scratch k = rw own (placed-kept {s = first} loop.invariant.2 (c.requires.by_index loop.i (omega arith))) in
-    let some = not-false c.take.result c.if-not-take.false-raw in
+    let some = c.if-not-take.false in
     let e : c.take.new.scratch ≡ lowered loop.scratch k = c.take.ensures.scratch_after ∙ cond-true _ _ some in (
       omega arith,
       omega (arith, c.take.auto),

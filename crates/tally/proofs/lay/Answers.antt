@@ -1,10 +1,9 @@
 -- `tally::lay` meets its contract: the group stands behind the others, as wide as the greatest of its claims needs. Assumes nothing.
-use mathlib.Core.Path.{◌≡◌, refl, sym, ap, ◌∙◌}
+use mathlib.Core.Path.{◌≡◌, sym, ap, ◌∙◌}
 use Prim.Native.Nat.{ℕ, ◌+◌, ◌*◌, ◌≤◌, ◌<◌, ◌^◌}
 use native.Mathlib.Omega.{arith}
-use borrow.Author.Rules.{rules}
-use borrow.Author.Tests.{le-leb, lt-leb}
-use Rattle.journeys.proofs.Tests.{cond-true, cond-false}
+use borrow.Author.Tests.{le-leb}
+use Rattle.journeys.proofs.Tests.{cond-true}
 use Rattle.tally.specs.Laid.{greatest, width, listed}
 use Rattle.tally.proofs.Digits.{greatest-most}
 use Rattle.tally.proofs.Groups.{width_some, list-stays, laid-entered}

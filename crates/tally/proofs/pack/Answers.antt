@@ -1,12 +1,12 @@
 -- `tally::pack` meets its contract: the words before w are laid, and the list stays as it was. Assumes nothing.
-use mathlib.Core.Path.{◌≡◌, refl, ◌∙◌}
+use mathlib.Core.Path.{◌≡◌, ◌∙◌}
 use mathlib.Core.Logic.{⊎_elim}
-use Prim.Native.Nat.{ℕ, ◌+◌, ◌-◌, ◌*◌, ◌≤◌, ◌<◌}
+use Prim.Native.Nat.{◌+◌, ◌≤◌, ◌<◌}
 use native.Mathlib.Omega.{arith}
-use lib.ListN.{length, get_or, length-set}
+use lib.ListN.{length-set}
 use lib.Seq.{get_or-set_same, get_or-set_other}
 use Rattle.journeys.proofs.Tests.{le-or-lt}
-use Rattle.tally.specs.Laid.{packed, listed, Same}
+use Rattle.tally.specs.Laid.{packed, listed}
 use Rattle.tally.proofs.Digits.{packed-same}
 use Rattle.tally.proofs.pack.Goals as goal
 

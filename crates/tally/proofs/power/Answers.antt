@@ -1,6 +1,5 @@
 -- `tally::power` meets its contract: a nibble has four bits. Assumes nothing.
 use Rattle.tally.proofs.Digits.{shifted, power-some}
-use borrow.Author.Rules.{rules}
 use Rattle.tally.proofs.power.Goals as goal
 
 pub returns : goal.returns

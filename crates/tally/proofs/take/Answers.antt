@@ -1,12 +1,6 @@
 -- `tally::take` meets its contract: the counter is zero exactly if what stands below the counter above is less than its unit. Assumes nothing.
 use mathlib.Core.Path.{refl}
-use Prim.Native.Nat.{◌%◌}
-use native.Mathlib.Nat.{mod-le}
 use native.Mathlib.Omega.{arith}
-use lib.ListN.{get_or}
-use borrow.Author.Rules.{rules}
-use Rattle.tally.specs.Laid.{word_of}
-use Rattle.tally.proofs.Digits.{digit-within}
 use Rattle.tally.proofs.Groups.{none_left, some_left, lowered_is}
 use Rattle.tally.proofs.take.Goals as goal
 

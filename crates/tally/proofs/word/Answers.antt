@@ -1,8 +1,6 @@
 -- `tally::word` meets its contract: four, two or one claim make a word. Assumes nothing.
-use mathlib.Core.Path.{◌≡◌, sym, subst, ◌∙◌}
-use Prim.Native.Nat.{ℕ, ◌+◌, ◌*◌, ◌<◌, ◌^◌}
+use mathlib.Core.Path.{◌≡◌, sym, ◌∙◌}
 use native.Mathlib.Omega.{arith}
-use borrow.Author.Rules.{rules}
 use Rattle.tally.specs.Laid.{listed}
 use Rattle.tally.proofs.Digits.{word-four, word_two, word-one, width_four}
 use Rattle.tally.proofs.word.Goals as goal

@@ -1,6 +1,5 @@
-use borrow.Author.Rules.{rules}
 use native.Mathlib.Omega.{arith}
-use mathlib.Core.Path.{◌≡◌, sym, ap, ◌∙◌}
+use mathlib.Core.Path.{sym, ap, ◌∙◌}
 use lib.Seq.{length-take-le}
 use Rattle.journeys.specs.Counting.{none}
 use Rattle.journeys.specs.Refusals.{Refusal}
@@ -22,8 +21,8 @@ all_fit-requires c =
     let w = opening_of a.text.now a.stops.now a.trips.now a.stop a.from p.1 p.2 p.3 in
     let o = opened a.text.now a.stop a.from p.1 p.2 c.columns_of-c.result w.columns c.columns_of-c.ensures in record {
       inside = (o.inside, o.within);
-      slots = (c.requires.slots.0, c.requires.slots.1, ids-fine 65535 a.stops.now w.stops-none);
-      slots_2 = (c.requires.slots.2, c.requires.slots.3, ids-fine none a.trips.now w.trips-none);
+      stops_good = ids-fine 65535 a.stops.now w.stops-none;
+      trips_good = ids-fine none a.trips.now w.trips-none;
     }
 
 pub passed-requires : goal.passed-requires
@@ -35,7 +34,5 @@ passed-requires c =
     let o = opened a.text.now a.stop a.from p.1 p.2 c.columns_of-c.result w.columns c.columns_of-c.ensures in
     let e = sym c.all_fit.ensures ∙ c.if-all_fit.true in
     let v = fitted a.text.now a.stops.now a.trips.now a.from c.columns_of-c.result o w e in
-    let k = ap (λ (r : Refusal). r.number) (fit-known a.text.now a.from c.columns_of-c.result o a.stops.now a.trips.now e) in record {
-      target_value = (p.0, passed F p.0 v k, o);
-      slots = c.requires.slots;
-    }
+    let k = ap (λ (r : Refusal). r.number) (fit-known a.text.now a.from c.columns_of-c.result o a.stops.now a.trips.now e) in
+    record { target_value = (p.0, passed F p.0 v k, o) }

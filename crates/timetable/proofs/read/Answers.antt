@@ -1,6 +1,5 @@
-use borrow.Author.Rules.{rules}
-use mathlib.Core.Path.{◌≡◌, refl, sym, ◌∙◌}
-use borrow.Author.Tests.{not-true, not-false}
+use mathlib.Core.Path.{refl, sym, ◌∙◌}
+use borrow.Author.Tests.{not-true}
 use Rattle.timetable.specs.Lent.{feed_of}
 use Rattle.timetable.proofs.FaultLaws.{target-refused}
 use Rattle.timetable.proofs.read.Goals as goal

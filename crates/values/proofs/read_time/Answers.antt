@@ -1,7 +1,5 @@
-use native.Mathlib.Omega.{arith}
-use mathlib.Core.Path.{◌≡◌, refl, sym, ◌∙◌}
+use mathlib.Core.Path.{sym}
 use Rattle.values.proofs.Times.{time-long}
-use borrow.Author.Rules.{rules}
 use Rattle.values.proofs.read_time.Goals as goal
 
 pub returns : goal.returns

@@ -1,7 +1,6 @@
 -- `vendors::back_ticks` meets its contract. Assumes nothing.
 use mathlib.Core.Path.{sym, ◌∙◌}
 use Rattle.journeys.proofs.Tests.{cond-true, cond-false}
-use borrow.Author.Rules.{rules}
 use Rattle.vendors.specs.Ends.{back_of}
 use Rattle.vendors.proofs.back_ticks.Goals as goal
 

@@ -1,43 +1,42 @@
 -- `vendors::judge` meets its contract: refusals 1 to 7 in their order, then those of the list. Assumes nothing.
 use mathlib.Core.Path.{◌∙◌}
-use borrow.Author.Rules.{rules}
 use Rattle.journeys.specs.VendorLists.{judge_refusal}
 use Rattle.journeys.proofs.Valid.{lengths-valid, query-valid, size_fits}
 use Rattle.audit.proofs.Whole.{sizes}
-use Rattle.intake.proofs.RefusalOrder.{fine-so-far, refuses, hands_on}
+use Rattle.words.proofs.Chains.{passes, stops, goes-on}
 use Rattle.vendors.proofs.Firsts.{list-cut, list-whole}
 use Rattle.vendors.proofs.judge.Goals as goal
 
-pub returns-then-uneven-ne0 : goal.returns-then-uneven-ne0
+pub returns-in_err-lengths : goal.returns-in_err-lengths
 unfolding judge_refusal
-returns-then-uneven-ne0 c = refuses _ c.lengths-uneven.ensures _ c.if-uneven-ne0.true
+returns-in_err-lengths c = stops _ _ c.in_err-lengths.was c.lengths.ensures c.from_residual.ensures
 
 pub returns-then-list-ne0 : goal.returns-then-list-ne0
 unfolding judge_refusal
-returns-then-list-ne0 c = hands_on _ c.lengths-uneven.ensures c.if-uneven-ne0.false (c.refused.ensures ∙ list-cut c.args.list.now c.if-list-ne0.true _)
+returns-then-list-ne0 c = goes-on c.in_ok-lengths.was c.lengths.ensures (c.refused.ensures ∙ list-cut c.args.list.now c.if-list-ne0.true _)
 
-pub contents-bad-requires : goal.contents-bad-requires
-contents-bad-requires c = sizes _ _ _ _ (fine-so-far _ c.lengths-uneven.ensures c.if-uneven-ne0.false)
+pub contents-requires : goal.contents-requires
+contents-requires c = sizes _ _ _ _ (passes c.in_ok-lengths.was c.lengths.ensures)
 
-pub returns-then-bad-ne0 : goal.returns-then-bad-ne0
+pub returns-in_err-contents : goal.returns-in_err-contents
 unfolding judge_refusal
-returns-then-bad-ne0 c =
-    hands_on _ c.lengths-uneven.ensures c.if-uneven-ne0.false
-    (list-whole c.args.list.now c.if-list-ne0.false (refuses _ c.contents-bad.ensures.result_value _ c.if-bad-ne0.true))
+returns-in_err-contents c =
+    goes-on c.in_ok-lengths.was c.lengths.ensures
+    (list-whole c.args.list.now c.if-list-ne0.false (stops _ _ c.in_err-contents.was c.contents.ensures.result_value c.from_residual-in_err-contents.ensures))
 
-pub returns-then-wrong-ne0 : goal.returns-then-wrong-ne0
+pub returns-in_err-query_fault : goal.returns-in_err-query_fault
 unfolding judge_refusal
-returns-then-wrong-ne0 c =
-    hands_on _ c.lengths-uneven.ensures c.if-uneven-ne0.false
+returns-in_err-query_fault c =
+    goes-on c.in_ok-lengths.was c.lengths.ensures
     (list-whole c.args.list.now c.if-list-ne0.false
-    (hands_on _ c.contents-bad.ensures.result_value c.if-bad-ne0.false (refuses _ (c.query_fault-wrong.ensures _ _ _) _ c.if-wrong-ne0.true)))
+    (goes-on c.in_ok-contents.was c.contents.ensures.result_value (stops _ _ c.in_err-query_fault.was (c.query_fault.ensures _ _ _) c.from_residual-in_err-query_fault.ensures)))
 
 pub vendor_fault-requires : goal.vendor_fault-requires
 vendor_fault-requires c =
     let a = c.args in
-    let lengths = fine-so-far _ c.lengths-uneven.ensures c.if-uneven-ne0.false in
-    let contents = fine-so-far _ c.contents-bad.ensures.result_value c.if-bad-ne0.false in
-    let query = fine-so-far _ (c.query_fault-wrong.ensures a.hop_size a.vertices.now a.hops.now) c.if-wrong-ne0.false in (
+    let lengths = passes c.in_ok-lengths.was c.lengths.ensures in
+    let contents = passes c.in_ok-contents.was c.contents.ensures.result_value in
+    let query = passes c.in_ok-query_fault.was (c.query_fault.ensures a.hop_size a.vertices.now a.hops.now) in (
       record { tables = lengths-valid a.hop_size a.vertices.now a.walks.now a.hops.now lengths contents; query = query-valid _ _ query },
       size_fits a.hop_size a.vertices.now a.walks.now a.hops.now lengths,
     )
@@ -45,7 +44,7 @@ vendor_fault-requires c =
 pub returns : goal.returns
 unfolding judge_refusal
 returns c =
-    hands_on _ c.lengths-uneven.ensures c.if-uneven-ne0.false
+    goes-on c.in_ok-lengths.was c.lengths.ensures
     (list-whole c.args.list.now c.if-list-ne0.false
-    (hands_on _ c.contents-bad.ensures.result_value c.if-bad-ne0.false
-    (hands_on _ (c.query_fault-wrong.ensures _ _ _) c.if-wrong-ne0.false c.vendor_fault.ensures)))
+    (goes-on c.in_ok-contents.was c.contents.ensures.result_value
+    (goes-on c.in_ok-query_fault.was (c.query_fault.ensures _ _ _) c.vendor_fault.ensures)))

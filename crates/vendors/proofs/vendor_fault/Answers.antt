@@ -1,6 +1,5 @@
 -- `vendors::vendor_fault` meets its contract: both tables are one row, with the seeds and the D of the query. Assumes nothing.
 use mathlib.Core.Path.{◌≡◌, ap, ◌∙◌}
-use borrow.Author.Rules.{rules}
 use Rattle.words.specs.Told.{told}
 use Rattle.vendors.specs.Ends.{seeds_of}
 use Rattle.vendors.proofs.AllRecords.{ends, sound, led, passes-few, vertices-low, road-low, seeds-low, ends-needed, list-told}

@@ -1,13 +1,7 @@
-use borrow.Author.Rules.{rules}
-use Prim.Native.Nat.{◌≤◌, ◌-◌}
 use native.Mathlib.Omega.{arith}
-use mathlib.Core.Path.{◌≡◌, refl, sym, ◌∙◌}
-use borrow.Author.Tests.{not-true, not-false}
-use lib.ListN.{length, drop}
-use Rattle.feed.specs.Lines.{lines_of}
+use mathlib.Core.Path.{refl, sym, ◌∙◌}
 use Rattle.lines.proofs.Passes.{stop-within, next-within, next-later}
 use Rattle.stoplist.specs.Made.{entry_good}
-use Rattle.vetting.specs.Vetted.{all_fit}
 use Rattle.vetting.proofs.FitLaws.{fit-over, fit-good, fit-bad}
 use Rattle.vetting.proofs.all_fit.Goals as goal
 
@@ -16,14 +10,14 @@ part_fits-requires c =
     let w = stop-within c.args.text.now c.loop-at.at c.line_stop-stop.result 0 c.loop-at.invariant.0 c.line_stop-stop.ensures in
     record {
       inside = (c.requires.inside.0, w.0, w.1);
-      slots = c.requires.slots;
-      slots_2 = c.requires.slots_2;
+      stops_good = c.requires.stops_good;
+      trips_good = c.requires.trips_good;
     }
 
 pub returns-then-not-part_fits : goal.returns-then-not-part_fits
 returns-then-not-part_fits c =
     let a = c.args in
-    sym (fit-bad (entry_good a.c a.stops.now a.trips.now) a.text.now c.loop-at.at c.line_stop-stop.result _ c.loop-at-test.true c.line_stop-stop.ensures refl (sym c.part_fits.ensures ∙ not-true _ c.if-not-part_fits.true-raw))
+    sym (fit-bad (entry_good a.c a.stops.now a.trips.now) a.text.now c.loop-at.at c.line_stop-stop.result _ c.loop-at-test.true c.line_stop-stop.ensures refl (sym c.if-not-part_fits.ensures))
     ∙ c.loop-at.invariant.1
 
 pub line_next-at-requires : goal.line_next-at-requires
@@ -44,7 +38,7 @@ loop-at-preserved c =
     let s = c.line_stop-stop.ensures in
     let n = c.line_next-at.ensures in (
       (next-within a.text.now at c.line_stop-stop.result c.line_next-at.result c.loop-at.invariant.0 s n).1,
-      sym (fit-good (entry_good a.c a.stops.now a.trips.now) a.text.now at c.line_stop-stop.result c.line_next-at.result t s n (sym c.part_fits.ensures ∙ not-false _ c.if-not-part_fits.false-raw)) ∙ c.loop-at.invariant.1,
+      sym (fit-good (entry_good a.c a.stops.now a.trips.now) a.text.now at c.line_stop-stop.result c.line_next-at.result t s n (sym c.if-not-part_fits.ensures)) ∙ c.loop-at.invariant.1,
     )
 
 pub returns : goal.returns

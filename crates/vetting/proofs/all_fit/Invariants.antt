@@ -1,14 +1,9 @@
-use borrow.Author.Rules.{rules}
 use Prim.Native.Nat.{◌≤◌, ◌-◌}
-use native.Mathlib.Omega.{arith}
-use mathlib.Core.Path.{◌≡◌, refl, sym, ◌∙◌}
-use borrow.Author.Tests.{not-true, not-false}
+use mathlib.Core.Path.{◌≡◌}
 use lib.ListN.{length, drop}
 use Rattle.feed.specs.Lines.{lines_of}
-use Rattle.lines.proofs.Passes.{stop-within, next-within, next-later}
 use Rattle.stoplist.specs.Made.{entry_good}
 use Rattle.vetting.specs.Vetted.{all_fit}
-use Rattle.vetting.proofs.FitLaws.{fit-over, fit-good, fit-bad}
 use Rattle.vetting.proofs.all_fit.Given as goal
 
 abbrev pub invariant-loop-at : goal.invariant-loop-at

@@ -1,7 +1,6 @@
-use borrow.Author.Rules.{rules}
 use Prim.Native.Nat.{◌-◌}
 use native.Mathlib.Omega.{arith}
-use mathlib.Core.Path.{◌≡◌, sym, ◌∙◌}
+use mathlib.Core.Path.{sym, ◌∙◌}
 use lib.ListN.{take, drop, length-take, length-drop}
 use Rattle.journeys.proofs.Tests.{or_left}
 use Rattle.ids.proofs.ListLines.{nothing-there, some-there}

@@ -1,19 +1,18 @@
-use borrow.Author.Rules.{rules}
-use mathlib.Core.Path.{◌≡◌, refl, sym, ap, ◌∙◌}
+use mathlib.Core.Path.{◌∙◌}
 use Rattle.vetting.proofs.VettedLaws.{all-counted, known-lower}
 use Rattle.vetting.proofs.unknown.Goals as goal
 
 pub unlisted-by_stop-requires : goal.unlisted-by_stop-requires
 unlisted-by_stop-requires c =
     let o = c.requires.opened.0 in record {
-      slots = (c.requires.slots.0, c.requires.slots.1, c.requires.slots.2, o.inside.stop);
+      list_good = (c.requires.stops_good, o.inside.stop);
       from_in_bounds = (o.within, all-counted _ _ _ o c.requires.opened.1);
     }
 
 pub unlisted-by_trip-requires : goal.unlisted-by_trip-requires
 unlisted-by_trip-requires c =
     let o = c.requires.opened.0 in record {
-      slots = (c.requires.slots_2.0, c.requires.slots_2.1, c.requires.slots_2.2, o.inside.trip);
+      list_good = (c.requires.trips_good, o.inside.trip);
       from_in_bounds = (o.within, all-counted _ _ _ o c.requires.opened.1);
     }
 

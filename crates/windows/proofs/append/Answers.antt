@@ -1,13 +1,9 @@
 -- `append`: record by record.
-use borrow.Author.Rules.{rules}
-use mathlib.Core.Path.{◌≡◌, refl, sym, ap, subst, ◌∙◌}
-use mathlib.Core.List.{◌++◌}
-use Prim.Native.Nat.{ℕ, ◌+◌, ◌-◌, ◌*◌, ◌<◌, ◌≤◌}
+use mathlib.Core.Path.{◌∙◌}
+use Prim.Native.Nat.{◌-◌}
 use native.Mathlib.Omega.{arith}
-use lib.ListN.{length, take}
 use Rattle.table_bytes.proofs.Access.{col-length}
-use Rattle.sorting.specs.Sorted.{recs}
-use Rattle.windows.proofs.GoneLaws.{append-start, append-one}
+use Rattle.windows.proofs.GoneLaws.{append-one}
 use Rattle.windows.proofs.append.Goals as goal
 
 pub loop-i-preserved : goal.loop-i-preserved

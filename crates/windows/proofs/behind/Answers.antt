@@ -1,13 +1,12 @@
 -- `behind`: the hops of the window stand where they belong.
-use borrow.Author.Rules.{rules}
-use mathlib.Core.Path.{◌≡◌, refl, sym, ap, subst, ◌∙◌}
+use mathlib.Core.Path.{◌≡◌, ap, ◌∙◌}
 use mathlib.Core.List.{List, ◌++◌}
-use Prim.Native.Nat.{ℕ, ◌+◌, ◌-◌, ◌*◌, ◌<◌, ◌≤◌}
+use Prim.Native.Nat.{ℕ, ◌+◌, ◌-◌, ◌*◌, ◌≤◌}
 use native.Mathlib.Omega.{arith}
 use lib.ListN.{length, take}
 use Rattle.sorting.specs.Sorted.{recs, sorted}
 use Rattle.sorting.proofs.Arranged.{sorted-ascends}
-use Rattle.windows.specs.Gone.{lines_records, Held}
+use Rattle.windows.specs.Gone.{lines_records}
 use Rattle.windows.proofs.GoneLaws.{gone-next, held_more, free-long, records-behind}
 use Rattle.windows.proofs.behind.Goals as goal
 

@@ -1,10 +1,7 @@
 -- `beside`: the hops of the window are copied.
-use borrow.Author.Rules.{rules}
-use mathlib.Core.Path.{◌≡◌, refl, sym, ap, subst, ◌∙◌}
+use mathlib.Core.Path.{subst}
 use mathlib.Core.List.{List, ◌++◌}
-use Prim.Native.Nat.{ℕ, ◌+◌, ◌-◌, ◌*◌, ◌<◌, ◌≤◌}
-use native.Mathlib.Omega.{arith}
-use lib.ListN.{length, take}
+use Prim.Native.Nat.{ℕ, ◌+◌, ◌-◌}
 use Rattle.sorting.specs.Sorted.{recs, sorted}
 use Rattle.sorting.proofs.Arranged.{sorted-ascends}
 use Rattle.windows.specs.Gone.{lines_records, Held}

@@ -1,14 +1,13 @@
 -- `gain`: what has no room is not kept any more.
-use borrow.Author.Rules.{rules}
-use mathlib.Core.Path.{◌≡◌, refl, sym, ap, subst, ◌∙◌}
+use mathlib.Core.Path.{◌≡◌}
 use mathlib.Core.List.{List}
-use Prim.Native.Nat.{ℕ, ◌+◌, ◌-◌, ◌*◌, ◌<◌, ◌≤◌}
+use Prim.Native.Nat.{ℕ, ◌-◌, ◌≤◌}
 use native.Mathlib.Omega.{arith}
 use lib.ListN.{length, take}
 use lib.Seq.{length-take-le}
 use Rattle.table_bytes.proofs.Access.{col-length}
 use Rattle.sorting.specs.Sorted.{recs}
-use Rattle.windows.proofs.GoneLaws.{held-still, held-full, held_more}
+use Rattle.windows.proofs.GoneLaws.{held-full}
 use Rattle.windows.proofs.gain.Goals as goal
 
 front_long : (m n : ℕ) (b : List ℕ) → m ≤ n → length (take m (recs n b)) ≡ m

@@ -1,13 +1,8 @@
 -- `instead`: the hops are more than the room, and stay so.
-use borrow.Author.Rules.{rules}
-use mathlib.Core.Path.{◌≡◌, refl, sym, ap, subst, ◌∙◌}
-use mathlib.Core.List.{List, ◌++◌}
-use Prim.Native.Nat.{ℕ, ◌+◌, ◌-◌, ◌*◌, ◌<◌, ◌≤◌}
-use native.Mathlib.Omega.{arith}
-use lib.ListN.{length, take}
-use Rattle.sorting.specs.Sorted.{recs, sorted}
+use Prim.Native.Nat.{◌-◌}
+use Rattle.sorting.specs.Sorted.{sorted}
 use Rattle.sorting.proofs.Arranged.{sorted-ascends}
-use Rattle.windows.specs.Gone.{lines_records, Held}
+use Rattle.windows.specs.Gone.{lines_records}
 use Rattle.windows.proofs.GoneLaws.{gone-next, held-still}
 use Rattle.windows.proofs.instead.Goals as goal
 

@@ -1,8 +1,6 @@
 -- `piece`: sifted, then passed.
-use borrow.Author.Rules.{rules}
-use mathlib.Core.Path.{◌≡◌, refl, sym, ap, subst, ◌∙◌}
-use mathlib.Core.List.{List, ◌++◌}
-use Prim.Native.Nat.{ℕ, ◌+◌, ◌-◌, ◌*◌, ◌<◌, ◌≤◌}
+use mathlib.Core.Path.{sym, ap, ◌∙◌}
+use Prim.Native.Nat.{◌-◌}
 use native.Mathlib.Omega.{arith}
 use lib.ListN.{length, take}
 use Rattle.table_bytes.proofs.Access.{col-length}
@@ -10,7 +8,7 @@ use Rattle.sorting.specs.Sorted.{recs, sorted}
 use Rattle.departures.proofs.SliceLaws.{recs-take}
 use Rattle.carry.specs.Carried.{all_followed, all_hops}
 use Rattle.windows.specs.Gone.{lines_records}
-use Rattle.windows.proofs.GoneLaws.{bound-rises, at_most}
+use Rattle.windows.proofs.GoneLaws.{bound-rises}
 use Rattle.windows.proofs.piece.Goals as goal
 
 pub returns : goal.returns

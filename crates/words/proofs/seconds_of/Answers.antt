@@ -1,11 +1,10 @@
 -- `words::seconds_of` meets its contract: each arm's number is the reading of the bits that its test picks. Assumes nothing.
-use borrow.Author.Rules.{rules}
 use native.Mathlib.Omega.{arith}
 use Prim.Native.Nat.{◌-◌, ◌<◌}
 use lib.IntN.{negsuc}
 use mir.Syntax.{w32}
 use mir.ValLaws.{to_z_pos, to_z-of_z}
-use Rattle.words.proofs.Signed.{bits-low, bits-high, less, less-fits}
+use Rattle.words.proofs.Signed.{bits-low, bits-high, less}
 use Rattle.words.proofs.seconds_of.Goals as goal
 
 pub returns-then-bits-lt2147483648 : goal.returns-then-bits-lt2147483648

@@ -1,9 +1,7 @@
 -- `drop`: the chains, then the word and the tree, then the slot goes on top of the vacant ones.
-use borrow.Author.Rules.{rules}
 use mathlib.Core.Path.{◌∙◌}
 use Rattle.table_bytes.proofs.Access.{sized}
-use Rattle.worktable.proofs.LayoutLaws.{linked-win}
-use Rattle.worktable.proofs.TableLaws.{place-pos, place-low, gives-gone}
+use Rattle.worktable.proofs.TableLaws.{gives-gone}
 use Rattle.worktable.proofs.drop.Goals as goal
 
 pub returns : goal.returns

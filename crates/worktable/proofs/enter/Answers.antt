@@ -1,5 +1,4 @@
 -- `enter`: the chains, then the word and the tree, and the slot behind the top becomes the top.
-use borrow.Author.Rules.{rules}
 use native.Mathlib.Omega.{arith}
 use mathlib.Core.Path.{sym, ap, ◌∙◌}
 use Rattle.table_tree.specs.Words.{vertex_in}

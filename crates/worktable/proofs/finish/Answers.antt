@@ -1,10 +1,6 @@
 -- `finish`: packed, sorted, zero behind the place of the records, and the words spread to records.
-use borrow.Author.Rules.{rules}
 use native.Mathlib.Omega.{arith}
 use mathlib.Core.Path.{◌∙◌}
-use Prim.Native.Nat.{◌-◌, ◌*◌}
-use lib.ListN.{length}
-use borrow.Rule.Slice.PartMut.{same_len_mid}
 use Rattle.table_bytes.specs.Columns.{cols, at}
 use Rattle.worktable.proofs.WordLaws.{vertex-low}
 use Rattle.worktable.proofs.TableLaws.{order-single}

@@ -1,6 +1,4 @@
 -- `grow`: vacant slots behind the old ones, and a tree over all of them.
-use borrow.Author.Rules.{rules}
-use native.Mathlib.Omega.{arith}
 use mathlib.Core.Path.{refl, ◌∙◌}
 use Rattle.worktable.proofs.GrowLaws.{gives-grown}
 use Rattle.worktable.proofs.grow.Goals as goal

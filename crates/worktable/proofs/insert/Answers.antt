@@ -1,9 +1,6 @@
 -- `insert`: a vacant slot first, then the entry.
-use borrow.Author.Rules.{rules}
-use native.Mathlib.Omega.{arith}
-use mathlib.Core.Path.{sym, ap, subst, ◌∙◌}
-use Prim.Native.Nat.{◌<◌}
-use Rattle.worktable.specs.Map.{Map, known, put, size}
+use mathlib.Core.Path.{subst}
+use Rattle.worktable.specs.Map.{Map, known, put}
 use Rattle.worktable.specs.Table.{Gives}
 use Rattle.worktable.proofs.TableLaws.{gives_then}
 use Rattle.worktable.proofs.insert.Goals as goal

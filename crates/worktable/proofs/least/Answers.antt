@@ -1,8 +1,6 @@
 -- `least`: the root of the tree is the foremost entry, if any waits.
-use borrow.Author.Rules.{rules}
 use native.Mathlib.Omega.{arith}
-use mathlib.Core.Path.{refl}
-use Rattle.worktable.proofs.NearestLaws.{nearest-empty, root-low, nearest-at, nearest-none}
+use Rattle.worktable.proofs.NearestLaws.{nearest-empty, nearest-at, nearest-none}
 use Rattle.worktable.proofs.least.Goals as goal
 
 pub returns-then-t-eq0 : goal.returns-then-t-eq0

@@ -1,5 +1,4 @@
 -- `look`: the word tells whether the entry is spent.
-use borrow.Author.Rules.{rules}
 use mathlib.Core.Path.{sym}
 use Rattle.worktable.specs.Table.{PassedIs}
 use Rattle.worktable.proofs.TableLaws.{found-place, found-absent, place-low, place-entry}
@@ -13,10 +12,10 @@ returns-in_default c =
 
 pub word-w-requires : goal.word-w-requires
 word-w-requires c =
-    (c.requires.0.slotted.len, place-low c.requires.0 (found-place c.find.ensures c.in-At.is))
+    (c.requires.0.slotted.len, place-low c.requires.0 (found-place c.find.ensures c.in-Some.is))
 
 pub returns : goal.returns
 returns c =
     let v = c.word-w in
-    let p = found-place c.find.ensures c.in-At.is in
+    let p = found-place c.find.ensures c.in-Some.is in
     told_is c.args.allowed v.result p (sym (place-entry c.requires.0 p v.ensures)) c.told.ensures

@@ -1,7 +1,6 @@
 -- `pass`: the word is read once and stored once, in one of three ways.
-use borrow.Author.Rules.{rules}
 use native.Mathlib.Omega.{arith}
-use mathlib.Core.Path.{sym, ap, ◌∙◌}
+use mathlib.Core.Path.{sym, ◌∙◌}
 use Prim.Native.Nat.{◌+◌, ◌-◌, ◌*◌, ◌%◌, ◌<◌}
 use Rattle.worktable.specs.Table.{map_of, PassedIs}
 use Rattle.worktable.specs.Map.{touched}
@@ -23,24 +22,24 @@ returns-in_default c =
 
 pub word-w-requires : goal.word-w-requires
 word-w-requires c =
-    (c.requires.0.slotted.len, place-low c.requires.0 (found-place c.find.ensures c.in-At.is))
+    (c.requires.0.slotted.len, place-low c.requires.0 (found-place c.find.ensures c.in-Some.is))
 
 pub overflow_sub-w : goal.overflow_sub-w
 overflow_sub-w c =
-    let p = found-place c.find.ensures c.in-At.is in
+    let p = found-place c.find.ensures c.in-Some.is in
     omega (arith, pass-some c.args.offer c.requires.0 p c.word-w.ensures (omega (arith, c.word-w.type_inv)) c.requires.2)
 
 pub lower_word-requires : goal.lower_word-requires
 lower_word-requires c =
     let w = c.word-w in
-    let p = found-place c.find.ensures c.in-At.is in
+    let p = found-place c.find.ensures c.in-Some.is in
     let o = c.requires.0 in
     (o.slotted, p.slot.low, (o.layout (place-pos o p)).win, pass-lower-key c.args.offer o p w.ensures (omega (arith, w.type_inv)) c.requires.2 c.if-w-lt-SETTLED.true c.requires.1 c.if-x-w.true)
 
 pub returns-then-x-w : goal.returns-then-x-w
 returns-then-x-w c =
     let v = c.word-w in
-    let p = found-place c.find.ensures c.in-At.is in
+    let p = found-place c.find.ensures c.in-Some.is in
     let o = c.requires.0 in
     let x = c.args.offer in
     let fit : v.result < 18446744073709551616 = omega (arith, v.type_inv) in
@@ -55,12 +54,12 @@ returns-then-x-w c =
 
 pub set_word-requires : goal.set_word-requires
 set_word-requires c =
-    (c.requires.0.slotted.len, place-low c.requires.0 (found-place c.find.ensures c.in-At.is))
+    (c.requires.0.slotted.len, place-low c.requires.0 (found-place c.find.ensures c.in-Some.is))
 
 pub returns-then-w-lt-SETTLED : goal.returns-then-w-lt-SETTLED
 returns-then-w-lt-SETTLED c =
     let v = c.word-w in
-    let p = found-place c.find.ensures c.in-At.is in
+    let p = found-place c.find.ensures c.in-Some.is in
     let o = c.requires.0 in
     let x = c.args.offer in
     let fit : v.result < 18446744073709551616 = omega (arith, v.type_inv) in
@@ -75,12 +74,12 @@ returns-then-w-lt-SETTLED c =
 
 pub set_word-requires-2 : goal.set_word-requires-2
 set_word-requires-2 c =
-    (c.requires.0.slotted.len, place-low c.requires.0 (found-place c.find.ensures c.in-At.is))
+    (c.requires.0.slotted.len, place-low c.requires.0 (found-place c.find.ensures c.in-Some.is))
 
 pub returns : goal.returns
 returns c =
     let v = c.word-w in
-    let p = found-place c.find.ensures c.in-At.is in
+    let p = found-place c.find.ensures c.in-Some.is in
     let o = c.requires.0 in
     let x = c.args.offer in
     let fit : v.result < 18446744073709551616 = omega (arith, v.type_inv) in

@@ -1,5 +1,4 @@
 -- `settle_at`: the first field becomes 1, and the tree is played again. The word told what remains.
-use borrow.Author.Rules.{rules}
 use native.Mathlib.Omega.{arith}
 use mathlib.Core.Path.{◌≡◌, refl, sym, ap, ◌∙◌}
 use Prim.Native.Nat.{ℕ, ◌<◌}
@@ -7,7 +6,7 @@ use lib.Dec.{eqb}
 use Rattle.table_records.specs.Fields.{state_in, distance_in, remaining_in}
 use Rattle.journeys.specs.Counting.{none}
 use Rattle.worktable.proofs.WordLaws.{known_is, settled-fits, settled-used, settled-vertex, settled-entry}
-use Rattle.worktable.proofs.TableLaws.{place-pos, place-distance, place-state, place-remaining, gives-changed}
+use Rattle.worktable.proofs.TableLaws.{place-distance, place-state, place-remaining, gives-changed}
 use Rattle.worktable.proofs.settle_at.Goals as goal
 
 pub overflow_add-w : goal.overflow_add-w

@@ -1,5 +1,4 @@
 -- `vacate`: an unsettled word leaves its place in the tree, a settled one had none.
-use borrow.Author.Rules.{rules}
 use mathlib.Core.Path.{ap, ◌∙◌}
 use Rattle.table_bytes.proofs.Access.{sized}
 use Rattle.table_tree.specs.Words.{key}

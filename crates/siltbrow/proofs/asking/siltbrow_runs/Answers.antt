@@ -1,7 +1,6 @@
 -- `siltbrow::siltbrow_runs` meets its contract: nothing is written, or each query is answered in turn. Assumes nothing.
 use mathlib.Core.Path.{refl}
 use mathlib.Core.Logic.{⊎_elim}
-use borrow.Author.Rules.{rules}
 use Rattle.siltbrow.proofs.ManyCalls.{all-alone}
 use Rattle.siltbrow.proofs.asking.siltbrow_runs.Goals as goal
 

@@ -1,12 +1,10 @@
 -- `siltbrow_hops_backward` meets its contract: it packs what the move answers. Assumes nothing.
-use mathlib.Core.Path.{ap}
+use mathlib.Core.Path.{ap, ◌∙◌}
 use Rattle.siltbrow.specs.Packed.{packed}
-use borrow.Author.Rules.{rules}
 use Rattle.siltbrow.proofs.moving.siltbrow_hops_backward.Goals as goal
 
 pub returns : goal.returns
-unfolding packed
 returns c = let move = c.backward-refusal in record {
-  value = ap packed move.ensures.result_value;
+  value = c.pack.ensures ∙ ap packed move.ensures.result_value;
   target_after = move.ensures.target_after;
 }
