@@ -22,7 +22,7 @@ use Rattle.journeys.proofs.Refusals.{or-fine, bad-fine}
 use Rattle.journeys.proofs.Valid.{size_fits, lengths-valid, query-valid}
 use Rattle.std.specs.Prelude.{Result, Ok, MatchResult}
 use Rattle.words.specs.Told.{told}
-use Rattle.words.specs.declared.Refusal as words
+use Rattle.words.specs.Refusal as words
 use Rattle.journeys.specs.Bytes.{filled, cleared}
 use Rattle.parts.specs.Listing.{road_of, first_on, first_ahead}
 use Rattle.parts.specs.declared.Road.{Road}

@@ -27,7 +27,7 @@ use Rattle.journeys.proofs.Valid.{allowed-high}
 use Rattle.journeys.proofs.PartAnswers.{settled-count, refused-before, refused-short, all-fits}
 use Rattle.words.specs.Told.{told}
 use Rattle.words.specs.Written.{written}
-use Rattle.words.specs.declared.Refusal as words
+use Rattle.words.specs.Refusal as words
 use Rattle.words.proofs.Written.{front, length-written}
 use Rattle.records.proofs.RecordBytes.{length_part}
 use Rattle.lists.proofs.Entries.{good-few}

@@ -4,7 +4,7 @@ use mathlib.Core.List.{List}
 use Prim.Native.Nat.{ℕ}
 use Rattle.std.specs.Prelude.{Result, Ok, Err}
 use Rattle.journeys.specs.PartAnswers as answers
-use Rattle.words.specs.declared.Refusal.{Refusal}
+use Rattle.words.specs.Refusal.{Refusal}
 use Rattle.words.proofs.Told.{named, refused-injective}
 use Rattle.covering.specs.Lending.{parts_answer_of}
 use Rattle.covering.proofs.parts.Reads as parts

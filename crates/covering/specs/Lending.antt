@@ -4,7 +4,7 @@ use Rattle.journeys.specs.PartAnswers as answers
 use Rattle.journeys.specs.PartAnswers.{PartsLent}
 use Rattle.journeys.specs.CourierPartAnswers.{CourierPartsLent}
 use Rattle.words.specs.Told.{told}
-use Rattle.words.specs.declared.Refusal.{Refusal}
+use Rattle.words.specs.Refusal.{Refusal}
 
 abbrev pub parts_lent : List ℕ → List ℕ → List ℕ → ℕ → List ℕ → List ℕ → PartsLent
 parts_lent v w h size list parts = record { vertices = v; walks = w; hops = h; hop_size = size; list = list; parts = parts }

@@ -3,7 +3,7 @@ use mathlib.Core.Path.{◌≡◌, refl, sym, ap, ap₂, ◌∙◌}
 use Rattle.std.specs.Prelude.{ℕ, Result, Ok, Err}
 use Rattle.journeys.specs.Refusals as refusals
 use Rattle.words.specs.declared.Reason.{Reason}
-use Rattle.words.specs.declared.Refusal.{Refusal}
+use Rattle.words.specs.Refusal.{Refusal}
 use Rattle.words.specs.Told.{told}
 use Rattle.words.proofs.Told.{named, number-injective}
 use Rattle.departures.specs.Answered.{hops_told}
@@ -22,5 +22,6 @@ one_answer (Err r) (Err s) p q =
 pub one-finish : (κs : _) (a : _) (z z' : _) (e e' : _) → finish.Post κs a z e → finish.Post κs a z' e' → e.0.now ≡ e'.0.now
 one-finish κs a z z' e e' p q = p ∙ sym q
 
-pub one-refuse : (κs : _) (a : _) (z z' : _) (e e' : _) → refuse.Post κs a z e → refuse.Post κs a z' e' → (z ≡ z') × (e.0.now ≡ e'.0.now)
-one-refuse κs a z z' e e' p q = (one_answer z z' (p.0 ∙ sym q.0) (p.1 ∙ sym q.1), p.2 ∙ sym q.2)
+-- what stands between κs and the arguments is what the type in the reason's place brings
+pub one-refuse : (κs b c d f g h i j k : _) (a : _) (z z' : _) (e e' : _) → refuse.Post κs b c d f g h i j k a z e → refuse.Post κs b c d f g h i j k a z' e' → (z ≡ z') × (e.0.now ≡ e'.0.now)
+one-refuse κs b c d f g h i j k a z z' e e' p q = (p.3 ∙ sym q.3, p.2 ∙ sym q.2)

@@ -5,10 +5,10 @@ use Rattle.journeys.specs.Bytes.{filled, cleared}
 use Rattle.journeys.specs.Refusals.{Refusal, or_else}
 use Rattle.feed.specs.Stops.{Stop}
 use Rattle.feed.specs.Trips.{once, in_time, first_bad_stop, hops_of}
-use Rattle.words.specs.declared.Refusal.{Refusal as Told}
+use Rattle.words.specs.declared.Refusal as declared
 
 -- the number of hops that an answer tells: none where it is a refusal
-abbrev pub hops_told : Result ℕ Told → ℕ
+abbrev pub hops_told : {N : Type 0} → Result ℕ (declared.Refusal N) → ℕ
 hops_told (Ok hops) = hops
 hops_told (Err _) = 0
 

@@ -3,18 +3,18 @@
 // Rests on: the records sorted (`sorting`), their laws (`succession`, `connections`), the hops in order (`hoporder`) and written out (`hopbytes`), refusals (`words`).
 #![tactic(auto)]
 
-ghost use Rattle.std.specs.Prelude.{◌≡◌, ◌*◌, ◌≤◌, length};
+ghost use Rattle.std.specs.Prelude.{◌≡◌, Err, ◌*◌, ◌≤◌, length};
 ghost use Rattle.journeys.specs.Counting.{joined};
 ghost use Rattle.journeys.specs.Bytes.{filled, cleared};
 ghost use Rattle.table_bytes.specs.Columns.{at};
 ghost use Rattle.sorting.specs.Sorted.{recs, sorted};
 ghost use Rattle.hoporder.specs.Hops.{hop_out};
 ghost use Rattle.hopbytes.specs.Listing.{trip_at, OnTrips};
-ghost use Rattle.words.specs.Told.{number_of, told};
+ghost use Rattle.words.specs.Told.{told_by};
 ghost use Rattle.departures.specs.Answered.{hops_told};
 
 use sorting::sort;
-use words::{Reason, Refusal};
+use words::{Numbered, Refusal};
 
 // A slice that is nothing but the records of hops.
 fn in_order(b: &mut [u8], k: usize, trips: &[u8])
@@ -36,8 +36,8 @@ pub fn finish(b: &mut [u8], k: usize, trips: &[u8])
 }
 
 // A refusal, and zeros.
-pub fn refuse(b: &mut [u8], reason: Reason, place: u32) -> Result<usize, Refusal>
-    ensures { (told result ≡ record { number = number_of reason; place = place }) × (hops_told result ≡ 0) × (b.new ≡ cleared b.old) }
+pub fn refuse<N: Numbered>(b: &mut [u8], reason: N, place: u32) -> Result<usize, Refusal<N>>
+    ensures { (told_by N.number result ≡ record { number = N.number reason; place = place }) × (hops_told result ≡ 0) × (b.new ≡ cleared b.old) × (result ≡ Err (record { reason = reason; place = place })) }
 {
     b.fill(0);
     Err(Refusal { reason, place })

@@ -4,11 +4,12 @@ use Prim.Native.Nat.{ℕ}
 use Rattle.std.specs.Prelude.{Result, Ok, Err}
 use Rattle.journeys.specs.Refusals as refusals
 use Rattle.words.specs.Told.{told}
-use Rattle.words.specs.declared.Refusal.{Refusal}
+use Rattle.words.specs.Refusal.{Refusal}
 use Rattle.words.proofs.Told.{named, refused-injective}
 use Rattle.frame.specs.Floats.{frame_in}
 use Rattle.frame.specs.declared.Frame.{Frame}
 use Rattle.frame.proofs.frame_of.Reads as frame-of
+use Rattle.frame.proofs.in_numbers.Reads as in-numbers
 use Rattle.frame.proofs.put.Reads as put
 
 number : refusals.Refusal → ℕ
@@ -27,6 +28,9 @@ one-frame κs a z z' e e' p q = framed-one z z' (p.0 ∙ sym q.0) (p.1.0 ∙ sym
 
 pub one-marks : (κs : _) (a : _) (z z' : _) (e e' : _) → frame-of.Post κs a z e → frame-of.Post κs a z' e' → e.1.1.1.0.now ≡ e'.1.1.1.0.now
 one-marks κs a z z' e e' p q = p.1.1 ∙ sym q.1.1
+
+pub one-in-numbers : (κs : _) (a : _) (z z' : _) (e e' : _) → in-numbers.Post κs a z e → in-numbers.Post κs a z' e' → z ≡ z'
+one-in-numbers κs a z z' e e' p q = p ∙ sym q
 
 pub one-slice : (κs : _) (a : _) (z z' : _) (e e' : _) → put.Post κs a z e → put.Post κs a z' e' → e.0.now ≡ e'.0.now
 one-slice κs a z z' e e' p q = p ∙ sym q

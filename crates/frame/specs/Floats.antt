@@ -6,7 +6,7 @@ use Rattle.frame.specs.declared.Point.{Point}
 use Rattle.frame.specs.declared.Frame.{Frame}
 use Rattle.frame.specs.declared.Framed.{Framed}
 use Rattle.journeys.specs.Refusals as refusals
-use Rattle.words.specs.declared.Refusal.{Refusal}
+use Rattle.words.specs.Refusal.{Refusal}
 use Rattle.frame.specs.Frames.{x_bits, y_bits, value, Bounds, no_bounds}
 
 unfoldable pub lesser_of : Float → Float → Float

@@ -4,22 +4,31 @@
 #![tactic(auto)]
 
 ghost use Rattle.std.specs.Prelude.{◌≡◌};
-ghost use Rattle.words.specs.Told.{told};
+ghost use Rattle.words.specs.Told.{told_by};
 ghost use Rattle.lowest.specs.Lower.{lower_of};
 
-use words::Refusal;
+use words::{Numbered, Refusal};
 
-pub fn lower(a: Result<(), Refusal>, b: Result<(), Refusal>) -> Result<(), Refusal>
-    ensures { told result ≡ lower_of (told a) (told b) }
+pub fn lower<N: Numbered>(
+    a: Result<(), Refusal<N>>,
+    b: Result<(), Refusal<N>>,
+) -> Result<(), Refusal<N>>
+    ensures { told_by N.number result ≡ lower_of (told_by N.number a) (told_by N.number b) }
 {
     let Err(first) = a else {
         return b;
     };
-    let Err(second) = b else {
-        return a;
-    };
-    if second.place < first.place {
+    if first.reason.number() == 0 {
         return b;
     }
-    a
+    let Err(second) = b else {
+        return Err(first);
+    };
+    if second.reason.number() == 0 {
+        return Err(first);
+    }
+    if second.place < first.place {
+        return Err(second);
+    }
+    Err(first)
 }

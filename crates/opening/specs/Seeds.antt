@@ -4,7 +4,7 @@ use Rattle.std.specs.Bool.{then_some}
 use Rattle.journeys.specs.Counting.{none}
 use Rattle.journeys.specs.Tables.{walk_at}
 use Rattle.words.specs.Told.{number_of}
-use Rattle.words.specs.declared.Refusal.{Refusal}
+use Rattle.words.specs.Refusal.{Refusal}
 use Rattle.words.specs.declared.Seconds.{Seconds}
 use Rattle.words.specs.declared.Ticks.{Ticks}
 use Rattle.directed.specs.Directed.{due_of}

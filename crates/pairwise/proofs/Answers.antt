@@ -128,3 +128,12 @@ module _ (S : List Stop) where
     pub bad-nowhere : ((j : ℕ) → j < length S → good j ≡ true) → fine ≡ first_bad_stop S q good
     unfolding first_bad_stop
     bad-nowhere f = sym (from-none (λ i. unless (good i) q (place (stop S i).line)) (length S) 0 (λ k a l. ap (λ (r : Refusal). r.number) (unless-good (good k) q (place (stop S k).line) (f k (omega (arith, l))))))
+
+  -- 0 is the number of no refusal
+  pub no-number : (good : ℕ → Bool) → fine ≡ first_bad_stop S 0 good
+  unfolding first_bad_stop unless
+  no-number good = sym (from-none (λ i. unless (good i) 0 (place (stop S i).line)) (length S) 0 (λ k a l. none (good k) (place (stop S k).line)))
+    where
+      none : (b : Bool) (p : ℕ) → (unless b 0 p).number ≡ 0
+      none true p = refl
+      none false p = refl

@@ -3,17 +3,17 @@
 // Rests on: stops by their numbers (`reread`), refusals (`words`).
 #![tactic(auto)]
 
-ghost use Rattle.std.specs.Prelude.{◌≡◌, Bool, not, ℕ, ◌+◌, ◌<◌, ◌≤◌, length};
+ghost use Rattle.std.specs.Prelude.{◌≡◌, Bool, IfErr, not, ℕ, ◌+◌, ◌<◌, ◌≤◌, length};
 ghost use Rattle.feed.specs.Lines.{place};
 ghost use Rattle.feed.specs.Trips.{stop, some, next, too_soon, once, in_time, first_bad_stop};
-ghost use Rattle.words.specs.Told.{number_of, told};
+ghost use Rattle.words.specs.Told.{told_by};
 ghost use Rattle.reread.specs.Read.{stop_is, stops_here, Ready, Lined};
 ghost use Rattle.pairwise.specs.Asked.{sooner, asked, good_by};
 
 use idtable::Ids;
 use reread::Halt;
 use stoplist::Columns;
-use words::{Reason, Refusal};
+use words::{Numbered, Reason, Refusal};
 
 // Two stops of one trip, the first of them the earlier.
 fn is_sooner(p: Halt, i: Halt) -> bool
@@ -181,7 +181,7 @@ fn is_in_time(
 }
 
 fn is_good(
-    reason: Reason,
+    number: u32,
     i: usize,
     n: usize,
     text: &[u8],
@@ -192,12 +192,12 @@ fn is_good(
 ) -> bool
     requires ready { Ready c stops.now trips.now × Lined c stops.now trips.now text.now from }
     requires n_value { (n ≡ length (stops_here c stops.now trips.now text.now from)) × (i < n) }
-    ensures { result ≡ good_by (number_of reason) (stops_here c stops.now trips.now text.now from) i }
+    ensures { result ≡ good_by number (stops_here c stops.now trips.now text.now from) i }
 {
-    match reason {
-        Reason::Sequence => is_once(i, n, text, from, c, stops, trips),
-        _ => is_in_time(i, n, text, from, c, stops, trips),
+    if number == u32::from(Reason::Sequence) {
+        return is_once(i, n, text, from, c, stops, trips);
     }
+    is_in_time(i, n, text, from, c, stops, trips)
 }
 
 // Where 32 bits do not hold the number of a line, the greatest number is told.
@@ -207,22 +207,26 @@ fn placed(line: usize) -> u32
     line.min(4294967295) as u32
 }
 
-// The refusal of the first stop that 15, or 16, does not let pass.
-pub fn first_bad(
-    reason: Reason,
+// The refusal of the first stop that 15, or 16, does not let pass; 0 is the number of no refusal.
+pub fn first_bad<N: Numbered>(
+    reason: N,
     n: usize,
     text: &[u8],
     from: usize,
     c: Columns,
     stops: &Ids,
     trips: &Ids,
-) -> Result<(), Refusal>
+) -> Result<(), Refusal<N>>
     requires ready { Ready c stops.now trips.now × Lined c stops.now trips.now text.now from }
     requires n_value { n ≡ length (stops_here c stops.now trips.now text.now from) }
-    ensures { told result ≡ first_bad_stop (stops_here c stops.now trips.now text.now from) (number_of reason) (good_by (number_of reason) (stops_here c stops.now trips.now text.now from)) }
+    ensures { (told_by N.number result ≡ first_bad_stop (stops_here c stops.now trips.now text.now from) (N.number reason) (good_by (N.number reason) (stops_here c stops.now trips.now text.now from))) × IfErr result (λ r. (r.reason ≡ reason) × (0 < N.number reason)) }
 {
+    let number = reason.number();
+    if number == 0 {
+        return Ok(());
+    }
     for i in 0..n {
-        if !is_good(reason, i, n, text, from, c, stops, trips) {
+        if !is_good(number, i, n, text, from, c, stops, trips) {
             let h = reread::stop_at(i, text, from, c, stops, trips);
             return words::refused(reason, placed(h.line));
         }

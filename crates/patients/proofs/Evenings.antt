@@ -25,7 +25,7 @@ use Rattle.evening.specs.Asked.{arriving, evening_refusal}
 use Rattle.std.specs.Prelude.{⊤, Result, Ok, Err}
 use Rattle.words.specs.Told.{number_of, told}
 use Rattle.words.proofs.Chains as chains
-use Rattle.words.specs.declared.Refusal as words
+use Rattle.words.specs.Refusal as words
 use Rattle.records.specs.Meaning.{refusal_of}
 use Rattle.patients.specs.EveningAnswers.{first_late, Held, EveningAllowed}
 use Rattle.evening.specs.Tallied.{reported}

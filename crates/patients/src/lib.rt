@@ -146,7 +146,7 @@ pub fn evening<'a>(
         arrivals,
         &mut scratch,
     ) {
-        return records::refusal(r.reason, r.place);
+        return records::refusal(u32::from(r.reason), r.place);
     }
     hold(
         vertices,

@@ -19,7 +19,7 @@ use Rattle.journeys.specs.Answers.{Allowed}
 use mathlib.Core.List.{◌++◌}
 use Rattle.std.specs.Prelude.{⊤, Result}
 use Rattle.words.specs.Told.{told}
-use Rattle.words.specs.declared.Refusal as words
+use Rattle.words.specs.Refusal as words
 use Rattle.records.specs.declared.Answer as records
 use Rattle.search.specs.Outcome.{answer_of}
 use Rattle.queries.specs.Judged.{judged}

@@ -79,7 +79,7 @@ fn answer_one<'a>(
     ensures scratch_after { scratch.new ≡ replicate 2048 0 }
 {
     if let Err(why) = asked_fault(walks, fault, q) {
-        calls::put_answer(answer, records::refusal(why.reason, why.place));
+        calls::put_answer(answer, records::refusal(u32::from(why.reason), why.place));
         return;
     }
     let a = search::run_judged(

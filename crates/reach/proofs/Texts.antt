@@ -24,7 +24,7 @@ use Rattle.search.specs.Outcome.{answer_of}
 use Rattle.records.specs.declared.Answer as search
 use Rattle.std.specs.Prelude.{Result, Ok, Err}
 use Rattle.std.specs.Result.{result_unwrap_or}
-use Rattle.words.specs.declared.Refusal.{Refusal}
+use Rattle.words.specs.Refusal.{Refusal}
 use Rattle.covering.specs.Lending.{parts_lent, count_in, parts_answer_of}
 use Rattle.job.specs.Job.{Read, job, Question, body, table_of, job_of, taken, question, told}
 use Rattle.job.specs.Steps.{bodies, Laid, LaidOut}

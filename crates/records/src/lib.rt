@@ -15,12 +15,11 @@ ghost use Rattle.records.specs.Readings.{told_vertex, told_walk, told_hop, verte
 ghost use Rattle.records.specs.Columns.{records_in, from_at, to_at, Ascending, arriving_below};
 ghost use Rattle.records.specs.Arriving.{table_of, size_of, first_of, end_of, run};
 ghost use Rattle.records.specs.Fields.{settled_of, part_of};
-ghost use Rattle.words.specs.Told.{number_of};
 ghost use Rattle.words.specs.Written.{written};
 
 use words::{
-    NONE, Offset, Reason, Seconds, Ticks, half_at, not_after, put_word, seconds_of, ticks_of,
-    walked, word_at,
+    NONE, Offset, Seconds, Ticks, half_at, not_after, put_word, seconds_of, ticks_of, walked,
+    word_at,
 };
 
 #[derive(Clone, Copy)]
@@ -80,11 +79,11 @@ pub struct Answer {
 pub const WALK_SIZE: usize = 16;
 
 // An answer that refuses: nothing is listed.
-pub fn refusal(reason: Reason, place: u32) -> Answer
-    ensures { result ≡ refusal_of (number_of reason) place }
+pub fn refusal(number: u32, place: u32) -> Answer
+    ensures { result ≡ refusal_of number place }
 {
     Answer {
-        refusal: u32::from(reason),
+        refusal: number,
         place,
         settled: 0,
         parts: 0,

@@ -1,7 +1,7 @@
 -- The contract of the steps settles their answer and the bytes of all that is listed. Assumes nothing.
 use Rattle.std.specs.Prelude.{Bool, Result, Ok, Err}
 use Rattle.words.specs.declared.Reason.{Reason}
-use Rattle.words.specs.declared.Refusal.{Refusal}
+use Rattle.words.specs.Refusal.{Refusal}
 use mathlib.Core.Path.{◌≡◌, sym, ap, ap₂, ◌∙◌}
 use mathlib.Core.Logic.{⊎_elim}
 use mathlib.Core.List.{List}

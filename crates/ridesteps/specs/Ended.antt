@@ -9,7 +9,7 @@ use Rattle.boarding.specs.Rides.{Mode}
 use Rattle.boarding.specs.RideOrder.{IsRideOrder}
 use Rattle.ridesteps.specs.declared.Ridden.{Ridden}
 use Rattle.words.specs.declared.Reason.TheVariants as reason
-use Rattle.words.specs.declared.Refusal.{Refusal}
+use Rattle.words.specs.Refusal.{Refusal}
 
 -- n vertices of the order l stand at the front of the list, for each of which a buffer of this length has room
 pub record Lists (l : List Settled) (long n : ℕ) (settled : List ℕ) : Type 0 where

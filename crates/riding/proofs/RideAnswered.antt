@@ -28,7 +28,7 @@ use Rattle.boarding.proofs.RideAnswers.{ride-links}
 use Rattle.boarding.proofs.RideOrder.{order_of, order_is, order-size}
 use Rattle.words.specs.Told.{number_of, told}
 use Rattle.words.specs.declared.Reason.TheVariants.{SettledRoom}
-use Rattle.words.specs.declared.Refusal.{Refusal}
+use Rattle.words.specs.Refusal.{Refusal}
 use Rattle.words.proofs.Chains as chains
 use Rattle.records.specs.Meaning.{refusal_of}
 use Rattle.records.specs.declared.Answer.{Answer}

@@ -137,7 +137,7 @@ pub fn run_rides(
     if let Err(fault) = ride_intake::ride_fault(
         vertices, walks, hops, hop_size, settled, scratch, q, boarding,
     ) {
-        return refusal(fault.reason, fault.place);
+        return refusal(u32::from(fault.reason), fault.place);
     }
     let allowed = intake::allowed(q);
     let a = Asked {

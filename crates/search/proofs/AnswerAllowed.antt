@@ -33,7 +33,7 @@ use Rattle.journeys.proofs.Told.{order_of, order_is, order-size}
 use Rattle.worktable.specs.Map.{Map, size, rows}
 use Rattle.worktable.specs.Table.{map_of, InOrder}
 use Rattle.words.specs.Told.{number_of, told}
-use Rattle.words.specs.declared.Refusal.{Refusal}
+use Rattle.words.specs.Refusal.{Refusal}
 use Rattle.words.proofs.Chains as chains
 use Rattle.heldmap.specs.Directions.{network_in, distance_for}
 use Rattle.heldmap.specs.RowsOfTables.{Lists}

@@ -26,7 +26,7 @@ use Rattle.parts.specs.declared.Road.{Road}
 use Rattle.intake.proofs.FirstFault.{failed}
 use Rattle.stepping.specs.declared.Progress.{Progress}
 use Rattle.words.specs.Told.{number_of}
-use Rattle.words.specs.declared.Refusal.{Refusal}
+use Rattle.words.specs.Refusal.{Refusal}
 use Rattle.opening.specs.Seeds.{RoadFits, PairFits, pair_of, pair_map, seed_count, no_records, Opens, Shut, OpenIs}
 use Rattle.opening.proofs.FirstHeld as first
 use Rattle.opening.proofs.FirstHeld.{vertices-as, first-held, seeds-sized, road-needs}

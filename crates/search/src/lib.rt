@@ -139,7 +139,7 @@ pub fn run<'a>(
         q,
         &mut scratch,
     ) {
-        return refusal(fault.reason, fault.place);
+        return refusal(u32::from(fault.reason), fault.place);
     }
     run_judged(
         vertices,
@@ -181,7 +181,7 @@ pub fn courier<'a>(
         q,
         &mut scratch,
     ) {
-        return refusal(bad.reason, bad.place);
+        return refusal(u32::from(bad.reason), bad.place);
     }
     judged(
         vertices,

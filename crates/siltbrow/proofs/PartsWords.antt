@@ -13,7 +13,7 @@ use Rattle.words.proofs.Written.{front, three-words}
 use Rattle.records.specs.Asked.{query_by}
 use Rattle.std.specs.Prelude.{Result}
 use Rattle.words.specs.Told.{told}
-use Rattle.words.specs.declared.Refusal.{Refusal}
+use Rattle.words.specs.Refusal.{Refusal}
 use Rattle.covering.specs.Lending.{count_in, parts_answer_of}
 use Rattle.siltbrow.specs.PartsRan.{parts_answer_bytes, PartsLeft}
 

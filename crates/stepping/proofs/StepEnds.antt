@@ -29,7 +29,7 @@ use Rattle.heldmap.specs.RowsOfTables.{numbers_at, walks_in, hops_in}
 use Rattle.stepping.specs.Taken.{StepIs, row_from, Begins}
 use Rattle.stepping.specs.declared.Progress.{Progress}
 use Rattle.words.specs.declared.Reason.TheVariants.{HeldRoom, SettledRoom}
-use Rattle.words.specs.declared.Refusal.{Refusal}
+use Rattle.words.specs.Refusal.{Refusal}
 
 -- a refusal that is handed on is the same
 pub handed-on : {T E : Type 0} (r : Result T E) {e : E} → IsErr r × IsErrAnd r (λ x. x ≡ e) → r ≡ Err e

@@ -18,7 +18,7 @@ use Rattle.heldmap.specs.Model.{Standing, settled_now}
 use Rattle.heldmap.specs.RowsOfTables.{numbers_at, walks_in, hops_in}
 use Rattle.stepping.specs.declared.Progress.{Progress}
 use Rattle.words.specs.Told.{number_of}
-use Rattle.words.specs.declared.Refusal.{Refusal}
+use Rattle.words.specs.Refusal.{Refusal}
 
 -- the foremost entry, within D; or nothing waits within D
 unfoldable pub NextIs : Table → List ℕ → ℕ → Option Nearest → Type 0

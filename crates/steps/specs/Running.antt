@@ -16,7 +16,7 @@ use Rattle.stepping.specs.Taken.{NextIs}
 use Rattle.stepping.specs.declared.Progress.{Progress}
 use Rattle.steps.specs.declared.Ended.{Ended}
 use Rattle.words.specs.Told.{number_of}
-use Rattle.words.specs.declared.Refusal.{Refusal}
+use Rattle.words.specs.Refusal.{Refusal}
 
 -- After some steps of the order l over the network G: the table, and what stands at the front of the settled buffer. Of the buffers as they were lent only the lengths matter.
 pub record Running (G : Network) (held_lent settled_lent : List ℕ) (l : List Settled) (p : Progress) (held settled : List ℕ) : Type 0 where

@@ -6,7 +6,7 @@ use native.Mathlib.Decide.{ℕ_discrete}
 use lib.ListN.{length}
 use Rattle.feed.specs.Answers.{Feed}
 use Rattle.std.specs.Prelude.{Result}
-use Rattle.words.specs.declared.Refusal.{Refusal}
+use Rattle.words.specs.Refusal.{Refusal}
 use Rattle.departures.proofs.Determined as departures
 use Rattle.timetable.specs.Lent.{Answers, Called}
 use Rattle.timetable.proofs.read.Reads as read

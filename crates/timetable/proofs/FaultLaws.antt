@@ -30,7 +30,7 @@ use Rattle.headings.specs.Opened.{Opened}
 use Rattle.headings.proofs.OpenedLaws.{first-row}
 use Rattle.timetable_laws.proofs.Demands.{count_most}
 use Rattle.std.specs.Prelude.{Result}
-use Rattle.words.specs.declared.Refusal.{Refusal as Reasoned}
+use Rattle.words.specs.Refusal.{Refusal as Reasoned}
 use Rattle.words.specs.Told.{told}
 use Rattle.departures.specs.Answered.{hops_told}
 use Rattle.timetable.specs.Lent.{Answers, answer_bytes}

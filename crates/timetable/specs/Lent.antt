@@ -2,7 +2,7 @@
 use Rattle.std.specs.Prelude.{◌≡◌, ◌≢◌, Result, List, ◌++◌, ℕ, length}
 use Rattle.journeys.specs.Bytes.{word}
 use Rattle.feed.specs.Answers.{Feed, feed_refusal, hop_count, target_after}
-use Rattle.words.specs.declared.Refusal.{Refusal}
+use Rattle.words.specs.Refusal.{Refusal}
 use Rattle.words.specs.Told.{told}
 use Rattle.departures.specs.Answered.{hops_told}
 

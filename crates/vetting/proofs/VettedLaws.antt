@@ -8,7 +8,7 @@ use native.Mathlib.Omega.{arith}
 use lib.Dec.{eqb}
 use borrow.Author.Tests.{eq-eqb, ne_eqb}
 use Rattle.std.specs.Prelude.{⊤, Result, Ok, Err, is_err}
-use Rattle.words.specs.declared.Refusal.{Refusal as Told}
+use Rattle.words.specs.Refusal.{Refusal as Told}
 use Rattle.words.specs.Told.{told}
 use Rattle.words.proofs.Told.{named}
 use lib.ListN.{length, drop}

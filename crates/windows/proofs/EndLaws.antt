@@ -27,7 +27,7 @@ use Rattle.hoporder.specs.Hops.{Placed, hop_out}
 use Rattle.hoporder.proofs.HopFields.{placed-sorted}
 use Rattle.hopbytes.specs.Listing.{trip_at, OnTrips}
 use Rattle.std.specs.Prelude.{Result}
-use Rattle.words.specs.declared.Refusal.{Refusal as Reasoned}
+use Rattle.words.specs.Refusal.{Refusal as Reasoned}
 use Rattle.words.specs.Told.{told}
 use Rattle.departures.specs.Answered.{hops_told, trips_refusal, trips_hops, trips_bytes}
 use Rattle.departures.specs.Entries.{stops_at, Listed, EntriesOf}

@@ -11,7 +11,7 @@ use Rattle.stoplist.specs.declared.Columns.{Columns}
 use Rattle.stoplist.specs.Made.{packed, stops_made, entry_good, Inside}
 use Rattle.hoporder.specs.Hops.{hop_out}
 use Rattle.hopbytes.specs.Listing.{trip_at}
-use Rattle.words.specs.declared.Refusal.{Refusal}
+use Rattle.words.specs.Refusal.{Refusal}
 use Rattle.words.specs.Told.{told}
 use Rattle.departures.specs.Answered.{hops_told}
 use Rattle.carry.specs.declared.Carry.{Carry}

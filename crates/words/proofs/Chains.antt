@@ -5,7 +5,7 @@ use Rattle.std.proofs.lemmas.Result.{err_from_is_err_and}
 use Rattle.journeys.specs.Refusals as refusals
 use Rattle.journeys.specs.Refusals.{or_else}
 use Rattle.journeys.proofs.Refusals.{or-first, or-next}
-use Rattle.words.specs.declared.Refusal.{Refusal}
+use Rattle.words.specs.Refusal.{Refusal}
 use Rattle.words.specs.Told.{number_of, told}
 use Rattle.words.proofs.Told.{named}
 

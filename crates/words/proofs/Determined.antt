@@ -2,7 +2,6 @@
 use mathlib.Core.Path.{◌≡◌, sym, ap, ◌∙◌}
 use Prim.Native.Nat.{ℕ}
 use lib.IntN.{ℤ}
-use Rattle.words.proofs.Told.{told-injective}
 use Rattle.words.proofs.word.Reads as word
 use Rattle.words.proofs.word_at.Reads as word_at
 use Rattle.words.proofs.refused.Reads as refused
@@ -17,8 +16,9 @@ use Rattle.words.proofs.walked.Reads as walked
 use Rattle.words.proofs.put_word.Reads as put_word
 
 -- ---- answers
-pub one-refused : (κs : _) (a : _) (z z' : _) (e e' : _) → refused.Post κs a z e → refused.Post κs a z' e' → z ≡ z'
-one-refused κs a z z' e e' p q = told-injective z z' (p ∙ sym q)
+-- what stands between κs and the arguments is what the type in the reason's place brings
+pub one-refused : (κs b c d f g h i j k : _) (a : _) (z z' : _) (e e' : _) → refused.Post κs b c d f g h i j k a z e → refused.Post κs b c d f g h i j k a z' e' → z ≡ z'
+one-refused κs b c d f g h i j k a z z' e e' p q = p.1 ∙ sym q.1
 
 pub one_word : (κs : _) (a : _) (z z' : _) (e e' : _) → word.Post κs a z e → word.Post κs a z' e' → z ≡ z'
 one_word κs a z z' e e' p q = p ∙ sym q

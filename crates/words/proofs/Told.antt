@@ -5,7 +5,7 @@ use native.Mathlib.Omega.{arith}
 use Rattle.journeys.specs.Refusals as refusals
 use Rattle.words.specs.declared.Reason.{Reason}
 use Rattle.words.specs.declared.Reason.TheVariants as reason
-use Rattle.words.specs.declared.Refusal.{Refusal}
+use Rattle.words.specs.Refusal.{Refusal}
 use Rattle.words.specs.Told.{number_of, told}
 
 -- the reasons, in the order of their numbers

@@ -1,3 +1,4 @@
 pub mod Quantities
 pub mod Written
+pub mod Refusal
 pub mod Told

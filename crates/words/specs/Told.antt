@@ -3,7 +3,8 @@ use Rattle.std.specs.Prelude.{ℕ, Result, Ok, Err}
 use Rattle.journeys.specs.Refusals as refusals
 use Rattle.words.specs.declared.Reason.{Reason}
 use Rattle.words.specs.declared.Reason.TheVariants as reason
-use Rattle.words.specs.declared.Refusal.{Refusal}
+use Rattle.words.specs.declared.Refusal as declared
+use Rattle.words.specs.Refusal.{Refusal}
 
 abbrev pub number_of : Reason → ℕ
 number_of reason.Length = 1
@@ -36,6 +37,10 @@ number_of reason.BoughtRecord = 27
 number_of reason.BoughtOffer = 28
 number_of reason.IdLine = 29
 
+-- by the numbers that its reasons have, whatever names a reason
+abbrev pub told_by : {N T : Type 0} → (N → ℕ) → Result T (declared.Refusal N) → refusals.Refusal
+told_by number (Ok _) = refusals.fine
+told_by number (Err r) = record { number = number r.reason; place = r.place }
+
 abbrev pub told : {T : Type 0} → Result T Refusal → refusals.Refusal
-told (Ok _) = refusals.fine
-told (Err r) = record { number = number_of r.reason; place = r.place }
+told r = told_by number_of r

@@ -3,11 +3,11 @@
 // Rests on: the definitions of `journeys` alone.
 #![tactic(auto)]
 
-ghost use Rattle.std.specs.Prelude.{◌≡◌, ◌+◌, ◌*◌, ◌≤◌, leb, pos, nat_abs, ◌-ℤ◌, length, replicate, ◌≤ℤ◌};
+ghost use Rattle.std.specs.Prelude.{◌≡◌, ℕ, Err, ◌+◌, ◌*◌, ◌≤◌, leb, pos, nat_abs, ◌-ℤ◌, length, replicate, ◌≤ℤ◌};
 ghost use Rattle.journeys.specs.Bytes as bytes;
 ghost use Rattle.journeys.specs.Bytes.{be16, be32, clock, clocked};
 ghost use Rattle.words.specs.Quantities.{seconds_of, DayTime, ticks_before};
-ghost use Rattle.words.specs.Told.{number_of, told};
+ghost use Rattle.words.specs.Told.{number_of, told_by};
 ghost use Rattle.words.specs.Written.{written};
 
 // Seconds from midnight of the service day, ticks, and decimetres on a walk record: three quantities, joined by the conversions below alone.
@@ -92,17 +92,42 @@ impl From<Reason> for u32 {
     }
 }
 
-// A reason and a place: what a refusal tells.
+// What stands in a refusal for its number: a reason, or a number as it is lent. Each reason has one in either form.
+pub trait Numbered: Copy + From<Reason> {
+    ghost number: { Self → ℕ };
+
+    fn number(self) -> u32
+        ensures { result ≡ number self };
+}
+
+impl Numbered for Reason {
+    ghost number = { number_of };
+
+    fn number(self) -> u32 {
+        u32::from(self)
+    }
+}
+
+impl Numbered for u32 {
+    ghost number = { λ number. number };
+
+    fn number(self) -> u32 {
+        self
+    }
+}
+
+// A reason and a place: what a refusal tells. A caller that knows a number alone has that in the reason's place.
 #[derive(Clone, Copy)]
-pub struct Refusal {
-    pub reason: Reason,
+pub struct Refusal<N = Reason> {
+    pub reason: N,
     pub place: u32,
 }
 
 pub const NONE: u32 = 0xFFFF_FFFF;
 
-pub fn refused(reason: Reason, place: u32) -> Result<(), Refusal>
-    ensures { told result ≡ record { number = number_of reason; place = place } }
+pub fn refused<N: Numbered>(reason: N, place: u32) -> Result<(), Refusal<N>>
+    ensures told { told_by N.number result ≡ record { number = N.number reason; place = place } }
+    ensures exactly { result ≡ Err (record { reason = reason; place = place }) }
 {
     Err(Refusal { reason, place })
 }

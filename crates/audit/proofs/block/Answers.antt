@@ -36,6 +36,6 @@ returns-then-low-len c =
     let e = c.min-len.ensures in
     let z : (vertex_refusals (tables_of a.hop_size a.vertices.now a.walks.now a.hops.now) c.count_departing-low.result (1904 * a.g)).number ≡ 0 = passes c.in_ok-judge.was c.judge.ensures in
     let bad = departs-over a.hop_size a.vertices.now a.walks.now a.hops.now _ c.min-len.result c.count_departing-low.result (1904 * a.g) own c.if-low-len.true (omega (arith, e)) (λ i. omega (arith, c.type_inv.vertices i)) in record {
-      result_value = c.refused.ensures ∙ block-passed (tables_of a.hop_size a.vertices.now a.walks.now a.hops.now) c.count_departing-low.result c.min-len.result (1904 * a.g) own.within z c.if-low-len.true bad ∙ ap (λ (k : ℕ). vertex_refusals (tables_of a.hop_size a.vertices.now a.walks.now a.hops.now) k (1904 * a.g)) e;
+      result_value = c.refused.ensures.told ∙ block-passed (tables_of a.hop_size a.vertices.now a.walks.now a.hops.now) c.count_departing-low.result c.min-len.result (1904 * a.g) own.within z c.if-low-len.true bad ∙ ap (λ (k : ℕ). vertex_refusals (tables_of a.hop_size a.vertices.now a.walks.now a.hops.now) k (1904 * a.g)) e;
       outside = c.count_departing-low.ensures.outside;
     }

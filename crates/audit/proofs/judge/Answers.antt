@@ -20,7 +20,7 @@ returns-in_default c =
     let loop = c.loop-k in
     let a = c.args in
     let bad = bad-vertex (tables_of a.hop_size a.vertices.now a.walks.now a.hops.now) (a.base + loop.k) c.read_vertex.ensures c.in_default.is in
-    c.refused.ensures ∙ sym (scan-stop 6 (vertex_ok (tables_of a.hop_size a.vertices.now a.walks.now a.hops.now)) (a.low - loop.k) (a.low - (loop.k + 1)) (a.base + loop.k) (omega arith) (omega arith) bad) ∙ loop.invariant.1
+    c.refused.ensures.told ∙ sym (scan-stop 6 (vertex_ok (tables_of a.hop_size a.vertices.now a.walks.now a.hops.now)) (a.low - loop.k) (a.low - (loop.k + 1)) (a.base + loop.k) (omega arith) (omega arith) bad) ∙ loop.invariant.1
 
 pub loop-k-preserved : goal.loop-k-preserved
 unfolding vertex_refusals

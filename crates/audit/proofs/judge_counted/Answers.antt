@@ -33,7 +33,7 @@ returns-in_default c =
     let N = tables_of a.hop_size a.vertices.now a.walks.now a.hops.now in
     let n = length a.vertices.now / 12 in
     let bad = bad-vertex N c.loop-v.v c.read_vertex.ensures c.in_default.is in
-    c.refused.ensures ∙ sym (scan-stop 6 (vertex_ok N) (n - c.loop-v.v) (n - (c.loop-v.v + 1)) c.loop-v.v (omega arith) (omega arith) bad) ∙ c.loop-v.invariant.1
+    c.refused.ensures.told ∙ sym (scan-stop 6 (vertex_ok N) (n - c.loop-v.v) (n - (c.loop-v.v + 1)) c.loop-v.v (omega arith) (omega arith) bad) ∙ c.loop-v.invariant.1
 
 pub loop-v-preserved : goal.loop-v-preserved
 unfolding vertex_refusals

@@ -17,4 +17,4 @@ returns-then-ascends c =
 pub returns : goal.returns
 returns c =
     let a = c.args in
-    goes-on c.in_ok-first.was refl (c.refused.ensures ∙ sym (unless-bad a.ascends (number_of a.reason) a.i c.if-ascends.false))
+    goes-on c.in_ok-first.was refl (c.refused.ensures.told ∙ sym (unless-bad a.ascends (number_of a.reason) a.i c.if-ascends.false))

@@ -24,14 +24,14 @@ unfolding record_fault
 returns-in_default c =
     let a = c.args in
     let N = tables_of 16 a.vertices.now a.table.now [] in
-    rw c.in-Walks.is (c.refused.ensures ∙ sym (unless-bad (walk_ok N a.i) 2 a.i (bad-walk N a.i c.read_walk.ensures c.in_default.is)))
+    rw c.in-Walks.is (c.refused.ensures.told ∙ sym (unless-bad (walk_ok N a.i) 2 a.i (bad-walk N a.i c.read_walk.ensures c.in_default.is)))
 
 pub returns-in_default-read_hop : goal.returns-in_default-read_hop
 unfolding record_fault
 returns-in_default-read_hop c =
     let a = c.args in
     let N = tables_of a.size a.vertices.now [] a.table.now in
-    rw c.in-Hops.is (c.refused-in_default-read_hop.ensures ∙ sym (unless-bad (hop_ok N a.i) 3 a.i (bad-hop N a.i c.read_hop.ensures c.in_default-read_hop.is)))
+    rw c.in-Hops.is (c.refused-in_default-read_hop.ensures.told ∙ sym (unless-bad (hop_ok N a.i) 3 a.i (bad-hop N a.i c.read_hop.ensures c.in_default-read_hop.is)))
 
 pub returns-in-Ok : goal.returns-in-Ok
 unfolding record_fault

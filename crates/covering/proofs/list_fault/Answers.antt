@@ -6,4 +6,4 @@ pub returns-in-Ok : goal.returns-in-Ok
 returns-in-Ok c = all-good _ c.judge.ensures.result_value c.in-Ok.is
 
 pub returns-in-Err : goal.returns-in-Err
-returns-in-Err c = c.refused.ensures ∙ one-bad _ c.judge.ensures.result_value _ c.in-Err.is
+returns-in-Err c = c.refused.ensures.told ∙ one-bad _ c.judge.ensures.result_value _ c.in-Err.is

@@ -6,4 +6,4 @@ use Rattle.departures.proofs.refuse.Goals as goal
 
 pub returns : goal.returns
 unfolding cleared
-returns c = (refl, refl, (c.fill.ensures.after (λ y e. search rules)))
+returns g c = (refl, refl, (c.fill.ensures.after (λ y e. search rules)), refl)

@@ -14,7 +14,7 @@ pub returns-then-old-list : goal.returns-then-old-list
 returns-then-old-list c =
     let a = c.args in
     let o = c.first_old-old in
-    c.refused.ensures ∙ old-told a.vertices a.most c.requires.vertices_bound.0 a.list.now a.i o.result o.ensures c.if-old-list.true
+    c.refused.ensures.told ∙ old-told a.vertices a.most c.requires.vertices_bound.0 a.list.now a.i o.result o.ensures c.if-old-list.true
 
 pub overflow_cast-late : goal.overflow_cast-late
 overflow_cast-late c =
@@ -27,7 +27,7 @@ returns-then-late-list c =
     let a = c.args in
     let o = c.first_old-old in
     let l = c.first_late-late in
-    c.refused-then-late-list.ensures ∙ late-told a.vertices a.most c.requires.vertices_bound.0 a.list.now a.i o.result o.ensures c.if-old-list.false l.result l.ensures c.if-late-list.true
+    c.refused-then-late-list.ensures.told ∙ late-told a.vertices a.most c.requires.vertices_bound.0 a.list.now a.i o.result o.ensures c.if-old-list.false l.result l.ensures c.if-late-list.true
 
 pub overflow_cast-i : goal.overflow_cast-i
 overflow_cast-i c =
@@ -40,4 +40,4 @@ returns c =
     let a = c.args in
     let o = c.first_old-old in
     let l = c.first_late-late in
-    c.refused-2.ensures ∙ wrong-told a.vertices a.most c.requires.vertices_bound.0 a.list.now a.i o.result o.ensures c.if-old-list.false l.result l.ensures c.if-late-list.false
+    c.refused-2.ensures.told ∙ wrong-told a.vertices a.most c.requires.vertices_bound.0 a.list.now a.i o.result o.ensures c.if-old-list.false l.result l.ensures c.if-late-list.false

@@ -14,14 +14,14 @@ tested : (c : After-not_after) → c.not_after.result ≡ last_ok (query_of c.ar
 tested c = c.not_after.ensures ∙ ap (λ (t : ℕ). leb t (midnight + 172800)) c.later-last.ensures
 
 pub returns-then-not-gap : goal.returns-then-not-gap
-returns-then-not-gap c = c.refused.ensures ∙ gap-fault _ _ _ (not-true _ c.if-not-gap.true-raw)
+returns-then-not-gap c = c.refused.ensures.told ∙ gap-fault _ _ _ (not-true _ c.if-not-gap.true-raw)
 
 pub returns-then-not-arrivals : goal.returns-then-not-arrivals
-returns-then-not-arrivals c = c.refused-then-not-arrivals.ensures ∙ many-fault _ _ _ (not-false _ c.if-not-gap.false-raw) (not-true _ c.if-not-arrivals.true-raw)
+returns-then-not-arrivals c = c.refused-then-not-arrivals.ensures.told ∙ many-fault _ _ _ (not-false _ c.if-not-gap.false-raw) (not-true _ c.if-not-arrivals.true-raw)
 
 pub returns-then-not-not_after : goal.returns-then-not-not_after
 returns-then-not-not_after c =
-    c.refused-then-not-not_after.ensures ∙ last-fault _ _ _ (not-false _ c.if-not-gap.false-raw) (not-false _ c.if-not-arrivals.false-raw) (sym (tested (goal.at.returns-then-not-not_after c).After-not_after) ∙ not-true _ c.if-not-not_after.true-raw)
+    c.refused-then-not-not_after.ensures.told ∙ last-fault _ _ _ (not-false _ c.if-not-gap.false-raw) (not-false _ c.if-not-arrivals.false-raw) (sym (tested (goal.at.returns-then-not-not_after c).After-not_after) ∙ not-true _ c.if-not-not_after.true-raw)
 
 pub returns : goal.returns
 returns c =

@@ -15,7 +15,7 @@ unfolding patients_ok
 returns-then-patients_of-gt65535 c =
     let L = c.loop-v in
     let t = c.args.patients.now in
-    c.refused.ensures
+    c.refused.ensures.told
     ∙ first-refused 19 (omega arith) (patients_ok t) c.args.n L.v (record { within = L.invariant.0; before = L.invariant.1; fails = λ _. sym (ap (λ (x : ℕ). leb x 65535) c.patients_of.ensures) ∙ lt-leb _ 65535 c.if-patients_of-gt65535.true }) c.loop-v-test.true
 
 pub loop-v-preserved : goal.loop-v-preserved

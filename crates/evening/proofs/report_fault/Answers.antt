@@ -4,10 +4,10 @@ use Rattle.evening.proofs.AskedEvening.{patients-cut, report-cut, none-cut}
 use Rattle.evening.proofs.report_fault.Goals as goal
 
 pub returns-then-patients-n : goal.returns-then-patients-n
-returns-then-patients-n c = c.refused.ensures ∙ patients-cut _ _ _ _ c.if-patients-n.true
+returns-then-patients-n c = c.refused.ensures.told ∙ patients-cut _ _ _ _ c.if-patients-n.true
 
 pub returns-then-report-n : goal.returns-then-report-n
-returns-then-report-n c = c.refused-then-report-n.ensures ∙ report-cut _ _ _ _ c.if-patients-n.false c.if-report-n.true
+returns-then-report-n c = c.refused-then-report-n.ensures.told ∙ report-cut _ _ _ _ c.if-patients-n.false c.if-report-n.true
 
 pub returns : goal.returns
 returns c = none-cut _ _ _ _ c.if-patients-n.false c.if-report-n.false

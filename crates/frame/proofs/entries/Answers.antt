@@ -13,6 +13,6 @@ returns-in-Ok c = record {
 pub returns-in-Err : goal.returns-in-Err
 unfolding told
 returns-in-Err c = record {
-  result_value = c.refused.ensures ∙ sym (ap (told 21) c.in-Err.is) ∙ c.judge.ensures.result_value;
+  result_value = c.refused.ensures.told ∙ sym (ap (told 21) c.in-Err.is) ∙ c.judge.ensures.result_value;
   marks_after = c.judge.ensures.marks_after;
 }

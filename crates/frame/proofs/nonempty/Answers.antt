@@ -15,4 +15,4 @@ returns-then-list-gt0 c =
 pub returns : goal.returns
 returns c =
     let n = length c.args.list.now / 8 in
-    c.refused.ensures ∙ sym (unless-bad (ltb 0 n) 24 0 (le-ltb 0 n c.if-list-gt0.false))
+    c.refused.ensures.told ∙ sym (unless-bad (ltb 0 n) 24 0 (le-ltb 0 n c.if-list-gt0.false))

@@ -14,7 +14,7 @@ pub line_good-requires : goal.line_good-requires
 line_good-requires c = stop-within c.args.text.now c.loop-at.at c.line_stop-stop.result 0 c.loop-at.invariant.0 c.line_stop-stop.ensures
 
 pub returns-then-not-line_good : goal.returns-then-not-line_good
-returns-then-not-line_good c = c.refused.ensures ∙ ap (λ n. record { number = 29; place = n }) (sym (place_is _ c.loop-at.invariant.1)) ∙ sym (pass-bad 29 (list_line c.args.most) c.args.text.now c.loop-at.line c.loop-at.at c.line_stop-stop.result _ (omega arith) c.line_stop-stop.ensures refl refl (sym c.if-not-line_good.ensures)) ∙ c.loop-at.invariant.2
+returns-then-not-line_good c = c.refused.ensures.told ∙ ap (λ n. record { number = 29; place = n }) (sym (place_is _ c.loop-at.invariant.1)) ∙ sym (pass-bad 29 (list_line c.args.most) c.args.text.now c.loop-at.line c.loop-at.at c.line_stop-stop.result _ (omega arith) c.line_stop-stop.ensures refl refl (sym c.if-not-line_good.ensures)) ∙ c.loop-at.invariant.2
 
 pub line_next-at-requires : goal.line_next-at-requires
 line_next-at-requires c = (stop-within c.args.text.now c.loop-at.at c.line_stop-stop.result 0 c.loop-at.invariant.0 c.line_stop-stop.ensures).1

@@ -19,7 +19,7 @@ part_known-requires c =
 pub returns-then-not-part_known : goal.returns-then-not-part_known
 returns-then-not-part_known c =
     let a = c.args in
-    c.refused.ensures ∙ ap (λ n. record { number = 14; place = n }) (sym (place_is _ c.loop-at.invariant.1))
+    c.refused.ensures.told ∙ ap (λ n. record { number = 14; place = n }) (sym (place_is _ c.loop-at.invariant.1))
     ∙ sym (pass-bad 14 (id_known a.list.now a.k) a.text.now c.loop-at.line c.loop-at.at c.line_stop-stop.result _ c.loop-at-test.true c.line_stop-stop.ensures refl refl (sym c.if-not-part_known.ensures))
     ∙ c.loop-at.invariant.3
 

@@ -75,7 +75,7 @@ overflow_cast-at c =
 pub returns-then-at-end : goal.returns-then-at-end
 returns-then-at-end c =
     let a = c.args in
-    c.refused.ensures
+    c.refused.ensures.told
     ∙ first-wrong a.hop_size a.vertices.now a.walks.now a.hops.now a.list.now (good (goal.at.returns-then-at-end c).Start) c.loop-v.invariant.0 (ends (goal.at.returns-then-at-end c).After-departing_of) c.loop-v.invariant.1 c.if-at-end.true c.wrong_in-at.ensures
 
 pub loop-v-preserved : goal.loop-v-preserved

@@ -6,7 +6,7 @@ use Rattle.making.proofs.list_length.Goals as goal
 pub returns-then-list-walks : goal.returns-then-list-walks
 returns-then-list-walks c =
     let a = c.args in
-    c.refused.ensures ∙ other_length a.hop_size a.vertices.now a.walks.now a.hops.now a.list.now c.if-list-walks.true
+    c.refused.ensures.told ∙ other_length a.hop_size a.vertices.now a.walks.now a.hops.now a.list.now c.if-list-walks.true
 
 pub returns : goal.returns
 returns c =

@@ -14,7 +14,7 @@ returns-then-not-no_better c =
     let G = net_of 65536 w h a.all a.ends in
     let D = a.all.allowed.0 in
     let f = from-test w h a.all a.ends a.far.now D 65536 c.no_better.result c.no_better.ensures in
-    c.refused.ensures ∙ from-better G D (heard a.far.now) a.ends.from a.ends.to (sym f ∙ not-true c.no_better.result c.if-not-no_better.true-raw)
+    c.refused.ensures.told ∙ from-better G D (heard a.far.now) a.ends.from a.ends.to (sym f ∙ not-true c.no_better.result c.if-not-no_better.true-raw)
 
 pub returns-then-not-no_better-2 : goal.returns-then-not-no_better-2
 returns-then-not-no_better-2 c =
@@ -25,7 +25,7 @@ returns-then-not-no_better-2 c =
     let D = a.all.allowed.0 in
     let f = from-test w h a.all a.ends a.far.now D 65536 c.no_better.result c.no_better.ensures in
     let t = to-test w h a.all a.ends a.far.now D 65536 c.requires.from_bound.2 c.no_better-2.result c.no_better-2.ensures in
-    c.refused-then-not-no_better-2.ensures ∙ to-better G D (heard a.far.now) a.ends.from a.ends.to (sym f ∙ not-false c.no_better.result c.if-not-no_better.false-raw) (sym t ∙ not-true c.no_better-2.result c.if-not-no_better-2.true-raw)
+    c.refused-then-not-no_better-2.ensures.told ∙ to-better G D (heard a.far.now) a.ends.from a.ends.to (sym f ∙ not-false c.no_better.result c.if-not-no_better.false-raw) (sym t ∙ not-true c.no_better-2.result c.if-not-no_better-2.true-raw)
 
 pub returns-then-r-all : goal.returns-then-r-all
 returns-then-r-all c =
@@ -36,7 +36,7 @@ returns-then-r-all c =
     let D = a.all.allowed.0 in
     let f = from-test w h a.all a.ends a.far.now D 65536 c.no_better.result c.no_better.ensures in
     let t = to-test w h a.all a.ends a.far.now D 65536 c.requires.from_bound.2 c.no_better-2.result c.no_better-2.ensures in
-    c.refused-then-r-all.ensures ∙ record-better G D (heard a.far.now) a.ends.from a.ends.to (sym f ∙ not-false c.no_better.result c.if-not-no_better.false-raw) (sym t ∙ not-false c.no_better-2.result c.if-not-no_better-2.false-raw) c.first_unfair-r.result c.first_unfair-r.ensures c.if-r-all.true
+    c.refused-then-r-all.ensures.told ∙ record-better G D (heard a.far.now) a.ends.from a.ends.to (sym f ∙ not-false c.no_better.result c.if-not-no_better.false-raw) (sym t ∙ not-false c.no_better-2.result c.if-not-no_better-2.false-raw) c.first_unfair-r.result c.first_unfair-r.ensures c.if-r-all.true
 
 pub returns : goal.returns
 returns c =

@@ -6,7 +6,7 @@ use Rattle.ride_intake.proofs.Judged.{boarding-long, scratch-short, mode-good}
 use Rattle.ride_intake.proofs.mode_fault.Goals as goal
 
 pub returns-then-boarding-gt600 : goal.returns-then-boarding-gt600
-returns-then-boarding-gt600 c = c.refused.ensures ∙ boarding-long _ _ _ _ c.args.scratch.now _ c.if-boarding-gt600.true
+returns-then-boarding-gt600 c = c.refused.ensures.told ∙ boarding-long _ _ _ _ c.args.scratch.now _ c.if-boarding-gt600.true
 
 pub nonzero_div-enough : goal.nonzero_div-enough
 nonzero_div-enough c = omega (arith, (sizes _ _ _ _ c.requires).hop_fits)
@@ -17,7 +17,7 @@ overflow_mul-enough c =
     record { fits = omega (arith, few.hops_most) }
 
 pub returns-then-not-enough : goal.returns-then-not-enough
-returns-then-not-enough c = c.refused-then-not-enough.ensures ∙ scratch-short _ _ _ _ c.args.scratch.now _ c.if-boarding-gt600.false c.if-not-enough.true-raw
+returns-then-not-enough c = c.refused-then-not-enough.ensures.told ∙ scratch-short _ _ _ _ c.args.scratch.now _ c.if-boarding-gt600.false c.if-not-enough.true-raw
 
 pub returns : goal.returns
 returns c = mode-good _ _ _ _ c.args.scratch.now _ c.if-boarding-gt600.false c.if-not-enough.false-raw

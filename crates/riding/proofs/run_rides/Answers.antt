@@ -1,4 +1,7 @@
 -- `run_rides` meets its contract: a refusal of the input, or the run behind it. Assumes nothing.
+use Rattle.records.specs.Meaning.{refusal_of}
+use Prim.Native.Nat.{ℕ}
+use mathlib.Core.Path.{ap, ◌∙◌}
 use native.Mathlib.Omega.{arith}
 use Rattle.journeys.proofs.Decoding.{hop-count}
 use Rattle.records.specs.Asked.{query_of}
@@ -8,7 +11,7 @@ use Rattle.riding.proofs.run_rides.Goals as goal
 
 pub returns-in-Err : goal.returns-in-Err
 returns-in-Err c =
-    refused-early (ride_lent c.args.vertices.now c.args.walks.now c.args.hops.now c.args.hop_size c.args.settled.now c.args.scratch.now) (query_of c.args.q) c.args.boarding c.args.limit _ c.ride_fault.ensures _ c.in-Err.is _ c.refusal.ensures
+    refused-early (ride_lent c.args.vertices.now c.args.walks.now c.args.hops.now c.args.hop_size c.args.settled.now c.args.scratch.now) (query_of c.args.q) c.args.boarding c.args.limit _ c.ride_fault.ensures _ c.in-Err.is _ (c.refusal.ensures ∙ ap (λ (n : ℕ). refusal_of n c.in-Err.fault.place) c.from.ensures)
 
 pub allowed-allowed-requires : goal.allowed-allowed-requires
 allowed-allowed-requires c =

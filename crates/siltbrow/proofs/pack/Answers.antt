@@ -3,7 +3,7 @@ use mathlib.Core.Path.{sym, ap, ◌∙◌}
 use Prim.Native.Nat.{ℕ, ◌+◌, ◌*◌}
 use Rattle.std.specs.Prelude.{⊤, Result}
 use Rattle.words.specs.Told.{told}
-use Rattle.words.specs.declared.Refusal.{Refusal}
+use Rattle.words.specs.Refusal.{Refusal}
 use Rattle.siltbrow.specs.Packed.{packed}
 use Rattle.siltbrow.proofs.pack.Goals as goal
 

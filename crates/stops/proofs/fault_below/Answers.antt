@@ -6,10 +6,10 @@ use borrow.Author.Tests.{not-true, not-false}
 use Rattle.stops.proofs.fault_below.Goals as goal
 
 pub returns-then-not-columns_once : goal.returns-then-not-columns_once
-returns-then-not-columns_once c = c.refused.ensures ∙ no-columns _ _ (sym c.if-not-columns_once.ensures)
+returns-then-not-columns_once c = c.refused.ensures.told ∙ no-columns _ _ (sym c.if-not-columns_once.ensures)
 
 pub returns-then-not-fields : goal.returns-then-not-fields
-returns-then-not-fields c = c.refused-then-not-fields.ensures ∙ broken-header _ _ (sym c.if-not-columns_once.ensures) (sym c.count_fields-fields.ensures.sound ∙ not-true _ c.if-not-fields.true)
+returns-then-not-fields c = c.refused-then-not-fields.ensures.told ∙ broken-header _ _ (sym c.if-not-columns_once.ensures) (sym c.count_fields-fields.ensures.sound ∙ not-true _ c.if-not-fields.true)
 
 pub column_of-arrival-requires : goal.column_of-arrival-requires
 unfolding quotes

@@ -13,7 +13,7 @@ line_good-requires c = record {
 }
 
 pub returns-then-not-line_good : goal.returns-then-not-line_good
-returns-then-not-line_good c = c.refused.ensures ∙ ap (λ n. record { number = 13; place = n }) (sym (place_is _ c.loop-at.invariant.1)) ∙ sym (pass-bad 13 (line_good c.args.count c.args.arrival c.args.departure c.args.sequence) c.args.text.now c.loop-at.line c.loop-at.at c.line_stop-stop.result _ (omega arith) c.line_stop-stop.ensures refl refl (sym c.if-not-line_good.ensures)) ∙ c.loop-at.invariant.2
+returns-then-not-line_good c = c.refused.ensures.told ∙ ap (λ n. record { number = 13; place = n }) (sym (place_is _ c.loop-at.invariant.1)) ∙ sym (pass-bad 13 (line_good c.args.count c.args.arrival c.args.departure c.args.sequence) c.args.text.now c.loop-at.line c.loop-at.at c.line_stop-stop.result _ (omega arith) c.line_stop-stop.ensures refl refl (sym c.if-not-line_good.ensures)) ∙ c.loop-at.invariant.2
 
 pub line_next-at-requires : goal.line_next-at-requires
 line_next-at-requires c = (stop-within c.args.text.now c.loop-at.at c.line_stop-stop.result 0 c.loop-at.invariant.0 c.line_stop-stop.ensures).1

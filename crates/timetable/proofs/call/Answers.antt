@@ -4,7 +4,7 @@ use Prim.Native.Nat.{ℕ}
 use mathlib.Core.List.{◌++◌}
 use Rattle.journeys.specs.Bytes.{word}
 use Rattle.std.specs.Prelude.{Result}
-use Rattle.words.specs.declared.Refusal.{Refusal}
+use Rattle.words.specs.Refusal.{Refusal}
 use Rattle.departures.specs.Answered.{hops_told}
 use Rattle.timetable.specs.Lent.{feed_of, Answers}
 use Rattle.timetable.proofs.FaultLaws.{hops_few, answer-bytes}

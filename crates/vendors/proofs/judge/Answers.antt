@@ -13,7 +13,7 @@ returns-in_err-lengths c = stops _ _ c.in_err-lengths.was c.lengths.ensures c.fr
 
 pub returns-then-list-ne0 : goal.returns-then-list-ne0
 unfolding judge_refusal
-returns-then-list-ne0 c = goes-on c.in_ok-lengths.was c.lengths.ensures (c.refused.ensures ∙ list-cut c.args.list.now c.if-list-ne0.true _)
+returns-then-list-ne0 c = goes-on c.in_ok-lengths.was c.lengths.ensures (c.refused.ensures.told ∙ list-cut c.args.list.now c.if-list-ne0.true _)
 
 pub contents-requires : goal.contents-requires
 contents-requires c = sizes _ _ _ _ (passes c.in_ok-lengths.was c.lengths.ensures)
