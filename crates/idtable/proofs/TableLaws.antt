@@ -117,12 +117,19 @@ way-as {text} {l} {y} {n} {f} {k} g e w = subst (λ h. Way text n l y h k) e w
 pub way-from : {text l y : List ℕ} {n k : ℕ} → k ≡ start_of n y → Way text n l y n k
 way-from {text} {l} {y} {n} e = subst (λ j. Way text n l y n j) (sym e) start
 
+-- one slot written: it holds what was written, and every other slot what it held
+pub slot-set : (l : List ℕ) {l' : List ℕ} (k x : ℕ) → k < length l → l' ≡ set l k x → (at l' k ≡ x) × ((j : ℕ) → (j ≡ k → ⊥) → at l' j ≡ at l j)
+slot-set l k x h u = (rw u (get_or-set_same l k x 0 h), (λ j ne. rw u (get_or-set_other l k j x 0 ne)))
+
 pub cleared_more : (l : List ℕ) {l' : List ℕ} {i n : ℕ} → length l ≡ n → i < n → ((k : ℕ) → k < i → at l k ≡ 0) → l' ≡ set l i 0 → (k : ℕ) → k < i + 1 → at l' k ≡ 0
 cleared_more l {l'} {i} len h z u k j = go (ℕ_discrete k i)
   where
+    written : (at l' i ≡ 0) × ((j : ℕ) → (j ≡ i → ⊥) → at l' j ≡ at l j)
+    written = slot-set l i 0 (omega (arith, len)) u
+
     go : Dec (k ≡ i) → at l' k ≡ 0
-    go (yes q) = rw (u, q) (get_or-set_same l i 0 0 (omega (arith, len)))
-    go (no q) = rw u (get_or-set_other l i k 0 0 q ∙ z k (omega (arith, q)))
+    go (yes q) = rw q (written.0)
+    go (no q) = written.1 k q ∙ z k (omega (arith, q))
 
 pub cleared : (n : ℕ) (l : List ℕ) → l ≡ replicate n 0 → Cleared n l
 cleared n l e k h = rw e (get_or-replicate n k 0 0 h)
@@ -179,10 +186,10 @@ module _ (text : List ℕ) (place : ℕ) where
       -- an id more, in a slot that is free
       module _ {l' : List ℕ} {e f : ℕ} (p : 0 < n) (len : length l ≡ n) (i : e < n) (z : at l e ≡ 0) (w : Way text n l x (suc f) e) (u : l' ≡ set l e (place + 1)) where
         new : at l' e ≡ place + 1
-        new = rw u (get_or-set_same l e _ 0 (omega (arith, len)))
+        new = (slot-set l e (place + 1) (omega (arith, len)) u).0
 
         kept : (k : ℕ) → (k ≡ e → ⊥) → at l' k ≡ at l k
-        kept k ne = rw u (get_or-set_other l e k _ 0 ne)
+        kept = (slot-set l e (place + 1) (omega (arith, len)) u).1
 
         taken : (k : ℕ) → (at l k ≡ 0 → ⊥) → at l' k ≡ at l k
         taken k ne = kept k (λ q. ne (ap (at l) q ∙ z))
