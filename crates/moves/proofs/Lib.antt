@@ -5,3 +5,4 @@ pub mod ThereAndBack
 pub mod Determined
 pub mod Scanned
 pub mod TripsIgnored
+pub mod Words

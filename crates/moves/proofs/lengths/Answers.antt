@@ -14,7 +14,7 @@ use Rattle.moves.proofs.lengths.Goals as goal
 
 pub returns-then-not-table_ok : goal.returns-then-not-table_ok
 unfolding move_lengths or_else unless
-returns-then-not-table_ok c = c.refused.ensures ∙ simp (← c.table_ok.ensures, not-true c.table_ok.result c.if-not-table_ok.true-raw)
+returns-then-not-table_ok c = c.refused.ensures.told ∙ simp (← c.table_ok.ensures, not-true c.table_ok.result c.if-not-table_ok.true-raw)
 
 pub overflow_mul-to : goal.overflow_mul-to
 unfolding table_of
@@ -28,7 +28,7 @@ pub returns-then-target-to : goal.returns-then-target-to
 unfolding move_lengths or_else unless
 returns-then-target-to c =
     let ok = not-false c.table_ok.result c.if-not-table_ok.false-raw in
-    c.refused-then-target-to.ensures ∙ simp (← c.table_ok.ensures, ok, ne_eqb _ _ c.if-target-to.true)
+    c.refused-then-target-to.ensures.told ∙ simp (← c.table_ok.ensures, ok, ne_eqb _ _ c.if-target-to.true)
 
 pub returns : goal.returns
 unfolding move_lengths or_else unless

@@ -17,7 +17,7 @@ unfolding trip
 returns-then-word_at-ne0 c =
     let L = c.loop-i in
     let b = c.args.source.now in
-    left-bad 11 (λ j. eqb (trip b j) 0) (length b / 20) L.i (omega arith) (omega arith) (ne_eqb _ 0 (λ e. c.if-word_at-ne0.true (c.word_at.ensures ∙ e))) L.invariant.2 c.refused.ensures
+    left-bad 11 (λ j. eqb (trip b j) 0) (length b / 20) L.i (omega arith) (omega arith) (ne_eqb _ 0 (λ e. c.if-word_at-ne0.true (c.word_at.ensures ∙ e))) L.invariant.2 c.refused.ensures.told
 
 pub loop-i-preserved : goal.loop-i-preserved
 unfolding trip
