@@ -78,9 +78,13 @@ pub fn steps<'a>(
             q.speed,
             allowed,
         );
-        p = stepping::step(
+        // A match and no `?`: the refusal stands here by name, and an edit can tell a wrong step in it (docs/DESIGN-PASS.md).
+        match stepping::step(
             vertices, walks, hops, list, held, settled, scratch, p, x, next.slot, stretch, row,
-        )?;
+        ) {
+            Ok(further) => p = further,
+            Err(lack) => return Err(lack),
+        }
     }
     Ok(Ended {
         progress: p,

@@ -1,9 +1,6 @@
-use Prim.Native.Nat.{◌-◌}
-use mathlib.Core.Path.{refl, sym, subst}
+use mathlib.Core.Path.{refl, subst}
 use native.Mathlib.Omega.{arith}
 use Rattle.stepping.specs.Taken.{StepIs}
-use Rattle.steps.specs.Running.{Ends}
-use Rattle.stepping.proofs.StepEnds.{handed-on}
 use Rattle.stepping.proofs.NextEntry.{next-nothing, next-found}
 use Rattle.steps.proofs.LoopEnds.{table-order, counts-fit, whole, at_limit, row_is, run_fits, may-find, row_here, begins-as, step-as, one-counted, stands_on, stops}
 use Rattle.steps.proofs.steps.Goals as goal
@@ -56,7 +53,7 @@ loop-p-smaller c =
     let n = next-found _ _ _ _ a.1 _ c.next.ensures c.in-Some.is in
     let e = c.stretch_at-stretch.ensures in
     let f = row_is _ _ _ _ _ _ _ _ _ a.1 e c.row_at-row.ensures in
-    let t = subst (StepIs _ _ _ _ _ _ _) c.in_ok-p.was (step-as _ _ a.4 _ _ _ _ s.lists _ _ _ a.0 _ _ _ i.0 _ _ _ n _ refl _ _ _ e _ f _ c.step.ensures.step_made) in
+    let t = subst (StepIs _ _ _ _ _ _ _) c.in-Ok.is (step-as _ _ a.4 _ _ _ _ s.lists _ _ _ a.0 _ _ _ i.0 _ _ _ n _ refl _ _ _ e _ f _ c.step.ensures.step_made) in
     omega (arith, one-counted _ _ _ _ _ a.0 _ _ _ i.0 _ _ _ n _ _ (row_here _ _ a.4 _ _ _ _ s.lists _ _ _ a.0 _ _ _ i.0 _ _ _ n _ refl) _ _ _ t, c.loop-p-test.true)
 
 pub loop-p-preserved : goal.loop-p-preserved
@@ -67,7 +64,7 @@ loop-p-preserved c =
     let n = next-found _ _ _ _ a.1 _ c.next.ensures c.in-Some.is in
     let e = c.stretch_at-stretch.ensures in
     let f = row_is _ _ _ _ _ _ _ _ _ a.1 e c.row_at-row.ensures in
-    let t = subst (StepIs _ _ _ _ _ _ _) c.in_ok-p.was (step-as _ _ a.4 _ _ _ _ s.lists _ _ _ a.0 _ _ _ i.0 _ _ _ n _ refl _ _ _ e _ f _ c.step.ensures.step_made) in (
+    let t = subst (StepIs _ _ _ _ _ _ _) c.in-Ok.is (step-as _ _ a.4 _ _ _ _ s.lists _ _ _ a.0 _ _ _ i.0 _ _ _ n _ refl _ _ _ e _ f _ c.step.ensures.step_made) in (
       stands_on _ _ _ _ _ a.0 _ _ _ i.0 _ _ _ n _ _ (row_here _ _ a.4 _ _ _ _ s.lists _ _ _ a.0 _ _ _ i.0 _ _ _ n _ refl) _ _ _ t,
       omega (arith, one-counted _ _ _ _ _ a.0 _ _ _ i.0 _ _ _ n _ _ (row_here _ _ a.4 _ _ _ _ s.lists _ _ _ a.0 _ _ _ i.0 _ _ _ n _ refl) _ _ _ t, c.loop-p-test.true),
       c.step.ensures.scratch_after,
@@ -76,16 +73,16 @@ loop-p-preserved c =
       omega (arith, i.5, c.scratch-1.given),
     )
 
-pub returns-in_err-p : goal.returns-in_err-p
-returns-in_err-p c =
+pub returns-in-Err : goal.returns-in-Err
+returns-in-Err c =
     let s = c.requires in
     let a = s.valid in
     let i = c.loop-p.invariant in
     let n = next-found _ _ _ _ a.1 _ c.next.ensures c.in-Some.is in
     let e = c.stretch_at-stretch.ensures in
     let f = row_is _ _ _ _ _ _ _ _ _ a.1 e c.row_at-row.ensures in
-    let t = subst (StepIs _ _ _ _ _ _ _) c.in_err-p.was (step-as _ _ a.4 _ _ _ _ s.lists _ _ _ a.0 _ _ _ i.0 _ _ _ n _ refl _ _ _ e _ f _ c.step.ensures.step_made) in record {
-      ends = subst (Ends _ _ _ _ _ _ _ _) (sym (handed-on _ c.from_residual.ensures)) (stops _ _ _ _ _ a.0 _ _ _ i.0 _ _ _ n _ _ (row_here _ _ a.4 _ _ _ _ s.lists _ _ _ a.0 _ _ _ i.0 _ _ _ n _ refl) _ _ _ _ c.loop-p-test.true t);
+    let t = subst (StepIs _ _ _ _ _ _ _) c.in-Err.is (step-as _ _ a.4 _ _ _ _ s.lists _ _ _ a.0 _ _ _ i.0 _ _ _ n _ refl _ _ _ e _ f _ c.step.ensures.step_made) in record {
+      ends = stops _ _ _ _ _ a.0 _ _ _ i.0 _ _ _ n _ _ (row_here _ _ a.4 _ _ _ _ s.lists _ _ _ a.0 _ _ _ i.0 _ _ _ n _ refl) _ _ _ _ c.loop-p-test.true t;
       scratch_after = c.step.ensures.scratch_after;
     }
 
