@@ -1,7 +1,6 @@
 -- What the steps and the end leave is the answer that the rules give. Assumes nothing.
 use Rattle.std.specs.Prelude.{Result, Ok, Err}
 use mathlib.Core.Path.{◌≡◌, refl, subst, sym, ap, ◌∙◌}
-use mathlib.Core.Logic.{◌≢◌}
 use mathlib.Core.Bool.{Bool, true, false}
 use mathlib.Core.List.{List, ◌++◌, flat_map}
 use Prim.Native.Nat.{ℕ, ◌+◌, ◌-◌, ◌*◌, ◌/◌, ◌≤◌, ◌<◌, min}
@@ -26,7 +25,7 @@ use Rattle.boarding.specs.RideOrder.{IsRideOrder}
 use Rattle.boarding.specs.RideAnswers.{RideLent, RideAnswer, ride_tables, mode_of, ride_early, ride_refused, list_room, ride_accepted, ride_over, RideAllowed}
 use Rattle.boarding.proofs.RideAnswers.{ride-links}
 use Rattle.boarding.proofs.RideOrder.{order_of, order_is, order-size}
-use Rattle.words.specs.Told.{number_of, told}
+use Rattle.words.specs.Told.{number_of}
 use Rattle.words.specs.declared.Reason.TheVariants.{SettledRoom}
 use Rattle.words.specs.Refusal.{Refusal}
 use Rattle.words.proofs.Chains as chains
@@ -47,26 +46,31 @@ unfolding cleared
 cleared-as d d' e = ap (λ (n : ℕ). replicate n 0) e
 
 -- ---- the refusals of the input
-module _ (b : RideLent) (Q : Query) (boarding limit : ℕ) {T : Type 0} (fault : Result T Refusal) (F : told fault ≡ ride_early b Q boarding) where
+module _ (b : RideLent) (Q : Query) (boarding limit : ℕ) where
   -- Nothing lent is changed.
-  pub refused-early : (why : Refusal) → fault ≡ Err why → (r : Answer) → r ≡ refusal_of (number_of why.reason) why.place → RideAllowed b Q boarding limit (ride_answer_of r b.settled b.scratch)
+  pub refused-early : (why : Refusal) → record { number = number_of why.reason; place = why.place } ≡ ride_early b Q boarding → (r : Answer) → r ≡ refusal_of (number_of why.reason) why.place
+      → RideAllowed b Q boarding limit (ride_answer_of r b.settled b.scratch)
   unfolding ride_refused
-  refused-early why f r e =
+  refused-early why F r e =
       record {
-        refused = λ z. ap (λ (x : Answer). ride_answer_of x b.settled b.scratch) e ∙ ap (λ (x : refusals.Refusal). ride_refused x b.settled b.scratch) (sym (ap told f) ∙ F);
-        accepted = λ z. absurd (chains.refuses f F z);
+        refused = λ z. ap (λ (x : Answer). ride_answer_of x b.settled b.scratch) e ∙ ap (λ (x : refusals.Refusal). ride_refused x b.settled b.scratch) F;
+        accepted = λ z. absurd (chains.refuses {T = Unit {0}} {r = Err why} refl F z);
       }
 
-  -- What the steps ask.
-  pub passes : {x : T} → fault ≡ Ok x → Valid (ride_tables b) Q × (boarding ≤ 600) × (4 * hop_count (ride_tables b) ≤ length b.scratch)
-  passes fine = ride-links b Q boarding (chains.passes fine F)
+  module _ (F : refusals.fine ≡ ride_early b Q boarding) where
+    none : (ride_early b Q boarding).number ≡ 0
+    none = sym (ap (λ (r : refusals.Refusal). r.number) F)
 
-  pub wide : {x : T} → fault ≡ Ok x → 16 ≤ b.hop_size
-  unfolding ride_early
-  wide fine = size_fits b.hop_size b.vertices b.walks b.hops (or-fine (table_lengths b.hop_size b.vertices b.walks b.hops) _ (chains.passes fine F)).0
+    -- What the steps ask.
+    pub passes : Valid (ride_tables b) Q × (boarding ≤ 600) × (4 * hop_count (ride_tables b) ≤ length b.scratch)
+    passes = ride-links b Q boarding none
 
-  pub allow : {x : T} → fault ≡ Ok x → (a : RideAnswer) → Answered b Q boarding limit a → RideAllowed b Q boarding limit a
-  allow fine a x = record { refused = λ n. absurd (n (chains.passes fine F)); accepted = λ z. x }
+    pub wide : 16 ≤ b.hop_size
+    unfolding ride_early
+    wide = size_fits b.hop_size b.vertices b.walks b.hops (or-fine (table_lengths b.hop_size b.vertices b.walks b.hops) _ none).0
+
+    pub allow : (a : RideAnswer) → Answered b Q boarding limit a → RideAllowed b Q boarding limit a
+    allow a x = record { refused = λ n. absurd (n none); accepted = λ z. x }
 
 -- ---- the end of the steps
 module _ (b : RideLent) (Q : Query) (boarding limit : ℕ) (ok : Valid (ride_tables b) Q) where

@@ -3,10 +3,12 @@
 // Rests on: `ride_intake` for the refusals of the input, `arranging` for the hops in the scratch, `ride_opening` for step 0, `ridesteps` for the steps, `ending` for a list that is larger than lent.
 #![tactic(auto)]
 
-ghost use Rattle.std.specs.Prelude.{◌≡◌, ◌*◌, ◌<◌, ◌≤◌, length};
+ghost use Rattle.std.specs.Prelude.{◌≡◌, ℕ, ◌*◌, ◌<◌, ◌≤◌, length};
+ghost use Rattle.journeys.specs.Query as asked;
+ghost use Rattle.words.specs.Told.{number_of};
 ghost use Rattle.records.specs.Asked.{query_of};
 ghost use Rattle.records.specs.Columns.{records_in};
-ghost use Rattle.boarding.specs.RideAnswers.{RideAllowed};
+ghost use Rattle.boarding.specs.RideAnswers.{RideLent, ride_early, RideAllowed};
 ghost use Rattle.marking.specs.Setting.{tables, query, mode, Judged};
 ghost use Rattle.ridesteps.specs.Ended.{RidesEnd};
 ghost use Rattle.riding.specs.Lending.{ride_lent, ride_answer_of};
@@ -120,6 +122,13 @@ fn judged(
     }
 }
 
+// The answer to input that is refused: what was lent stays as it was.
+fn refuse(fault: Refusal) -> Answer
+    ensures { (b : RideLent) (Q : asked.Query) (boarding limit : ℕ) → record { number = number_of fault.reason; place = fault.place } ≡ ride_early b Q boarding → RideAllowed b Q boarding limit (ride_answer_of result b.settled b.scratch) }
+{
+    refusal(u32::from(fault.reason), fault.place)
+}
+
 // The run of RULES 29, for any bytes, query, boarding time and limit. It holds no table and lists no parts.
 pub fn run_rides(
     vertices: &[u8],
@@ -134,17 +143,17 @@ pub fn run_rides(
 ) -> Answer
     ensures { RideAllowed (ride_lent vertices.now walks.now hops.now hop_size settled.old scratch.old) (query_of q) boarding limit (ride_answer_of result settled.new scratch.new) }
 {
-    if let Err(fault) = ride_intake::ride_fault(
+    let Err(fault) = ride_intake::ride_fault(
         vertices, walks, hops, hop_size, settled, scratch, q, boarding,
-    ) {
-        return refusal(u32::from(fault.reason), fault.place);
-    }
-    let allowed = intake::allowed(q);
-    let a = Asked {
-        size: hop_size,
-        query: q,
-        boarding: boarding,
-        allowed: allowed.0,
+    ) else {
+        let allowed = intake::allowed(q);
+        let a = Asked {
+            size: hop_size,
+            query: q,
+            boarding: boarding,
+            allowed: allowed.0,
+        };
+        return judged(vertices, walks, hops, a, settled, scratch, limit);
     };
-    judged(vertices, walks, hops, a, settled, scratch, limit)
+    refuse(fault)
 }

@@ -1,10 +1,9 @@
 -- The answer at the end of a run is one that the rules allow. Assumes nothing.
 use Rattle.std.specs.Prelude.{Result, Ok, Err}
 use mathlib.Core.Path.{◌≡◌, refl, subst, sym, ap, ap₂, ◌∙◌}
-use mathlib.Core.Logic.{◌≢◌}
 use mathlib.Core.Bool.{Bool, true, false}
 use mathlib.Core.List.{List, ◌++◌, flat_map}
-use Prim.Native.Nat.{ℕ, ◌+◌, ◌-◌, ◌*◌, ◌%◌, ◌≤◌, ◌<◌, min}
+use Prim.Native.Nat.{ℕ, ◌-◌, ◌*◌, ◌%◌, ◌≤◌, ◌<◌, min}
 use native.Mathlib.Omega.{arith}
 use lib.Dec.{eqb}
 use lib.ListN.{length, take, replicate, length-take}
@@ -32,7 +31,7 @@ use Rattle.journeys.proofs.Refusals.{or-fine, unless-fine, room_for-is, room_for
 use Rattle.journeys.proofs.Told.{order_of, order_is, order-size}
 use Rattle.worktable.specs.Map.{Map, size, rows}
 use Rattle.worktable.specs.Table.{map_of, InOrder}
-use Rattle.words.specs.Told.{number_of, told}
+use Rattle.words.specs.Told.{number_of}
 use Rattle.words.specs.Refusal.{Refusal}
 use Rattle.words.proofs.Chains as chains
 use Rattle.heldmap.specs.Directions.{network_in, distance_for}
@@ -57,20 +56,20 @@ held_whole : (held settled : List ℕ) → (buffer_lengths held settled).number 
 unfolding buffer_lengths whole_of
 held_whole held settled e = eqb-true _ 0 (unless-fine (whole_of 16 held) 1 3 (omega arith) (or-fine (unless (whole_of 16 held) 1 3) _ e).0)
 
-module _ (b : Lent) (Q : Query) (limit : ℕ) {T : Type 0} (fault : Result T Refusal) (F : told fault ≡ early b Q) where
+module _ (b : Lent) (Q : Query) (limit : ℕ) where
   -- Refusals 1 to 7: nothing lent is changed.
-  pub refused-early : (why : Refusal) → fault ≡ Err why → (r : Answer) → r ≡ refusal_of (number_of why.reason) why.place → Allowed b Q limit (answer_of r b.held b.settled) × (r.parts ≡ 0)
+  pub refused-early : (why : Refusal) → record { number = number_of why.reason; place = why.place } ≡ early b Q → (r : Answer) → r ≡ refusal_of (number_of why.reason) why.place → Allowed b Q limit (answer_of r b.held b.settled) × (r.parts ≡ 0)
   unfolding refused_early
-  refused-early why f r e = (
+  refused-early why F r e = (
     record {
-      refused = λ z. ap (λ (x : Answer). answer_of x b.held b.settled) e ∙ ap (refused_early b) (sym (ap told f) ∙ F);
-      accepted = λ z. absurd (chains.refuses f F z);
+      refused = λ z. ap (λ (x : Answer). answer_of x b.held b.settled) e ∙ ap (refused_early b) F;
+      accepted = λ z. absurd (chains.refuses {T = Unit {0}} {r = Err why} refl F z);
     },
     ap (λ (x : Answer). x.parts) e,
   )
 
-  pub passed : {x : T} → fault ≡ Ok x → (early b Q).number ≡ 0
-  passed f = chains.passes f F
+  pub passed : refusals.fine ≡ early b Q → (early b Q).number ≡ 0
+  passed F = sym (ap (λ (r : refusals.Refusal). r.number) F)
 
 module _ (b : Lent) (Q : Query) (limit : ℕ) (passes : (early b Q).number ≡ 0) where
   pub valid : Valid (tables b) Q
@@ -90,21 +89,21 @@ module _ (b : Lent) (Q : Query) (limit : ℕ) (passes : (early b Q).number ≡ 0
   allow a x = record { refused = λ n. absurd (n passes); accepted = λ z. (x.0, x.1, x.2) }
 
 -- ---- the courier's run
-module _ (b : CourierLent) (Q : Query) (limit : ℕ) {T : Type 0} (fault : Result T Refusal) (F : told fault ≡ courier_early b Q) where
+module _ (b : CourierLent) (Q : Query) (limit : ℕ) where
   -- Its refusals before the steps: nothing lent is changed.
-  pub courier-refused : (why : Refusal) → fault ≡ Err why → (r : Answer) → r ≡ refusal_of (number_of why.reason) why.place → CourierAllowed b Q limit (answer_of r b.lent.held b.lent.settled) × (r.parts ≡ 0)
+  pub courier-refused : (why : Refusal) → record { number = number_of why.reason; place = why.place } ≡ courier_early b Q → (r : Answer) → r ≡ refusal_of (number_of why.reason) why.place → CourierAllowed b Q limit (answer_of r b.lent.held b.lent.settled) × (r.parts ≡ 0)
   unfolding refused_early
-  courier-refused why f r e = (
+  courier-refused why F r e = (
     record {
-      refused = λ z. ap (λ (x : Answer). answer_of x b.lent.held b.lent.settled) e ∙ ap (refused_early b.lent) (sym (ap told f) ∙ F);
-      accepted = λ z. absurd (chains.refuses f F z);
+      refused = λ z. ap (λ (x : Answer). answer_of x b.lent.held b.lent.settled) e ∙ ap (refused_early b.lent) F;
+      accepted = λ z. absurd (chains.refuses {T = Unit {0}} {r = Err why} refl F z);
     },
     ap (λ (x : Answer). x.parts) e,
   )
 
-  module _ {x : T} (f : fault ≡ Ok x) where
+  module _ (F : refusals.fine ≡ courier_early b Q) where
     passes : (courier_early b Q).number ≡ 0
-    passes = chains.passes f F
+    passes = sym (ap (λ (r : refusals.Refusal). r.number) F)
 
     hop-wide : 16 ≤ b.lent.hop_size
     unfolding courier_early

@@ -6,8 +6,10 @@
 
 ghost use Rattle.std.specs.Prelude.{◌≡◌, cond, ℕ, ◌/◌, ◌%◌, ◌≤◌, length, replicate};
 ghost use Rattle.journeys.specs.Tables.{tables_of};
-ghost use Rattle.journeys.specs.Answers.{early, Allowed};
-ghost use Rattle.journeys.specs.CourierAnswers.{CourierAllowed};
+ghost use Rattle.journeys.specs.Query as query;
+ghost use Rattle.journeys.specs.Answers.{Lent, early, Allowed};
+ghost use Rattle.journeys.specs.CourierAnswers.{CourierLent, courier_early, CourierAllowed};
+ghost use Rattle.words.specs.Told.{number_of};
 ghost use Rattle.records.specs.Asked.{query_of};
 ghost use Rattle.starts.specs.Sums.{sums};
 ghost use Rattle.starts.specs.Notes.{with_notes};
@@ -90,6 +92,15 @@ fn judged<'a>(
     }
 }
 
+// The answer to input that is refused: what was lent stays as it was.
+fn refuse(fault: Refusal) -> Answer
+    ensures ordinary { (b : Lent) (Q : query.Query) (limit : ℕ) → record { number = number_of fault.reason; place = fault.place } ≡ early b Q → Allowed b Q limit (answer_of result b.held b.settled) }
+    ensures courier { (b : CourierLent) (Q : query.Query) (limit : ℕ) → record { number = number_of fault.reason; place = fault.place } ≡ courier_early b Q → CourierAllowed b Q limit (answer_of result b.lent.held b.lent.settled) }
+    ensures parts_value { result.parts ≡ 0 }
+{
+    refusal(u32::from(fault.reason), fault.place)
+}
+
 // The run behind refusals 1 to 7: whoever makes several runs over the same tables judges them once. The scratch is lent by the caller, and is zero again
 // afterwards. No list is read, so any bytes are lent for one.
 pub fn run_judged<'a>(
@@ -129,7 +140,7 @@ pub fn run<'a>(
     ensures parts_value { result.parts ≡ 0 }
 {
     let mut scratch = [0u16; 2048];
-    if let Err(fault) = intake::input_fault(
+    let Err(fault) = intake::input_fault(
         vertices,
         walks,
         hops,
@@ -138,20 +149,20 @@ pub fn run<'a>(
         settled,
         q,
         &mut scratch,
-    ) {
-        return refusal(u32::from(fault.reason), fault.place);
-    }
-    run_judged(
-        vertices,
-        walks,
-        hops,
-        hop_size,
-        held,
-        settled,
-        &mut scratch[..],
-        q,
-        limit,
-    )
+    ) else {
+        return run_judged(
+            vertices,
+            walks,
+            hops,
+            hop_size,
+            held,
+            settled,
+            &mut scratch[..],
+            q,
+            limit,
+        );
+    };
+    refuse(fault)
 }
 
 // The courier's run of RULES 27, for any bytes, query and limit. It lists no parts.
@@ -170,7 +181,7 @@ pub fn courier<'a>(
     ensures parts_value { result.parts ≡ 0 }
 {
     let mut scratch = [0u16; 2048];
-    if let Err(bad) = courier_intake::courier_fault(
+    let Err(bad) = courier_intake::courier_fault(
         vertices,
         walks,
         hops,
@@ -180,20 +191,20 @@ pub fn courier<'a>(
         settled,
         q,
         &mut scratch,
-    ) {
-        return refusal(u32::from(bad.reason), bad.place);
-    }
-    judged(
-        vertices,
-        walks,
-        hops,
-        hop_size,
-        list,
-        held,
-        settled,
-        &mut scratch[..],
-        q,
-        true,
-        limit,
-    )
+    ) else {
+        return judged(
+            vertices,
+            walks,
+            hops,
+            hop_size,
+            list,
+            held,
+            settled,
+            &mut scratch[..],
+            q,
+            true,
+            limit,
+        );
+    };
+    refuse(bad)
 }
