@@ -93,6 +93,17 @@ unfoldable pub CoveredIs : (ℕ → List Part) → ℕ → List ℕ → List ℕ
 CoveredIs f n b b' (Ok c) = Behind 0 (f n) b b' c × ((j : ℕ) → j ≤ n → length (f j) ≤ length b / 12)
 CoveredIs f n b b' (Err k) = FullAt f n b b' k
 
+-- What listing step 0 is asked for, and what it does: `call` speaks of the buffer before and after, and the answer.
+abbrev pub MayBegin : (MutBor (List ℕ) → Type 0) → Type 0
+MayBegin call = (b : MutBor (List ℕ)) → call b
+
+abbrev pub FindsRoom : (MutBor (List ℕ) → Option ℕ → MutBor (List ℕ) → Type 0) → Type 0
+FindsRoom call = (b b' : MutBor (List ℕ)) (r : Option ℕ) → call b r b' → IfSome r (λ c. c ≤ length b'.now / 12)
+
+-- it lists the parts `step`
+abbrev pub Begins : List Part → (MutBor (List ℕ) → Option ℕ → MutBor (List ℕ) → Type 0) → Type 0
+Begins step call = (b b' : MutBor (List ℕ)) (r : Option ℕ) → call b r b' → ListedIs 0 step b.now b'.now r
+
 -- What listing an entry is asked for, and what it does: `call` speaks of the buffer before and after, the number of parts before, the entry, and the answer.
 module _ (n : ℕ) where
   abbrev pub MayList : (MutBor (List ℕ) → ℕ → ℕ → Type 0) → Type 0

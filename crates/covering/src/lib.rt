@@ -3,7 +3,7 @@
 // Rests on: the check (`audit`), the query's test (`intake`), the courier's (`courier_intake`), the judge of lists (`lists`), the parts of one vertex (`parts`), where its records stand in the list by "from" (`stretches`).
 #![tactic(auto)]
 
-ghost use Rattle.std.specs.Prelude.{◌≡◌, List, ℕ, Option, Ok, IfSome, MatchResult, ◌+◌, ◌*◌, ◌/◌, ◌<◌, ◌≤◌, length, take, replicate};
+ghost use Rattle.std.specs.Prelude.{◌≡◌, List, ℕ, Option, Ok, MatchResult, ◌+◌, ◌*◌, ◌/◌, ◌<◌, ◌≤◌, length, take, replicate};
 ghost use Rattle.journeys.specs.Bytes.{filled, cleared};
 ghost use Rattle.journeys.specs.Lists.{distance_at, list_refusal};
 ghost use Rattle.journeys.specs.Parts.{Part};
@@ -12,7 +12,7 @@ ghost use Rattle.journeys.specs.CourierPartAnswers.{courier_parts_early, courier
 ghost use Rattle.words.specs.Told.{told};
 ghost use Rattle.records.specs.Asked.{query_of};
 ghost use Rattle.parts.specs.Listing.{ListedIs};
-ghost use Rattle.covering.specs.Covering.{entry_on, entry_ahead, listed_in, Sound, Leaving, CoveredIs, MayList, KeepsRoom, Lists};
+ghost use Rattle.covering.specs.Covering.{entry_on, entry_ahead, listed_in, Sound, Leaving, CoveredIs, MayBegin, FindsRoom, Begins, MayList, KeepsRoom, Lists};
 ghost use Rattle.covering.specs.Lending.{parts_lent, courier_parts_lent, count_in, parts_answer_of};
 
 use parts::Road;
@@ -65,20 +65,21 @@ fn list_entry_ahead(
     parts::list_departing(parts, count, walks, records, first, end, road, left)
 }
 
-// The parts of each of n entries, as `entry` lists them, behind those of step 0, of which there are `first`: how many there are then, or which entry, counted from 1,
+// The parts of step 0, as `step_0` lists them, and behind them those of each of n entries, as `entry` does: how many there are then, or which entry, counted from 1,
 // has no room for its parts, 0 where those of step 0 have none.
-fn cover<F: Fn(&mut [u8], usize, usize) -> Option<usize>>(
+fn cover<S: FnOnce(&mut [u8]) -> Option<usize>, F: Fn(&mut [u8], usize, usize) -> Option<usize>>(
     parts: &mut [u8],
-    first: Option<usize>,
     n: usize,
+    step_0: S,
     entry: F,
 ) -> Result<usize, usize>
-    requires room { IfSome first (λ c. c ≤ length parts.old / 12) }
+    requires begins { MayBegin (S.pre step_0) }
+    requires room { FindsRoom (S.post step_0) }
     requires callable { MayList n (F.pre entry) }
     requires keeps { KeepsRoom n (F.post entry) }
-    ensures { (b : List ℕ) (step : List Part) (f : ℕ → List Part) → ListedIs 0 step b parts.old first → Lists f n (F.post entry) → CoveredIs (listed_in step f) n b parts.new result }
+    ensures { (step : List Part) (f : ℕ → List Part) → Begins step (S.post step_0) → Lists f n (F.post entry) → CoveredIs (listed_in step f) n parts.old parts.new result }
 {
-    let Some(known) = first else {
+    let Some(known) = step_0(parts) else {
         return Err(0);
     };
     let mut count = known;
@@ -203,10 +204,12 @@ pub fn parts(
     )?;
     let road = parts::read_road(walks, q);
     let allowed = intake::allowed(q);
-    let first = parts::list_first(parts, road, allowed);
-    let covered = cover(parts, first, list.len() / 8, |buffer, count, i| {
-        list_entry(buffer, count, vertices, walks, list, i, road, allowed)
-    });
+    let covered = cover(
+        parts,
+        list.len() / 8,
+        |buffer| parts::list_first(buffer, road, allowed),
+        |buffer, count, i| list_entry(buffer, count, vertices, walks, list, i, road, allowed),
+    );
     finish(parts, covered)
 }
 
@@ -263,11 +266,15 @@ pub fn courier_parts(
     )?;
     let road = parts::read_road(walks, q);
     let allowed = intake::allowed(q);
-    let first = parts::list_ahead(parts, road, allowed);
-    let covered = cover(parts, first, list.len() / 8, |buffer, count, i| {
-        list_entry_ahead(
-            buffer, count, vertices, walks, hops, hop_size, records, list, i, road, allowed,
-        )
-    });
+    let covered = cover(
+        parts,
+        list.len() / 8,
+        |buffer| parts::list_ahead(buffer, road, allowed),
+        |buffer, count, i| {
+            list_entry_ahead(
+                buffer, count, vertices, walks, hops, hop_size, records, list, i, road, allowed,
+            )
+        },
+    );
     finish(parts, covered)
 }

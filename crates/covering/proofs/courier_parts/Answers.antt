@@ -28,19 +28,14 @@ allowed-allowed-requires c =
     let b = courier_parts_lent c.args.vertices.now c.args.walks.now c.args.hops.now c.args.hop_size c.args.records.now c.args.list.now c.args.parts.now in
     courier-query b (query_of c.args.q) (passes c.in_ok-courier_fault.was c.courier_fault.ensures)
 
-pub list_ahead-first-requires : goal.list_ahead-first-requires
-list_ahead-first-requires c =
-    let a = c.args in
-    let b = courier_parts_lent a.vertices.now a.walks.now a.hops.now a.hop_size a.records.now a.list.now a.parts.now in
-    (courier-ready b (query_of a.q) (passes c.in_ok-courier_fault.was c.courier_fault.ensures) c.read_road-road.result c.read_road-road.ensures c.allowed-allowed.result.0 c.allowed-allowed.ensures).road
-
 pub cover-covered-requires : goal.cover-covered-requires
 cover-covered-requires c =
     let a = c.args in
     let b = courier_parts_lent a.vertices.now a.walks.now a.hops.now a.hop_size a.records.now a.list.now a.parts.now in
     let R = courier-ready b (query_of a.q) (passes c.in_ok-courier_fault.was c.courier_fault.ensures) c.read_road-road.result c.read_road-road.ensures c.allowed-allowed.result.0 c.allowed-allowed.ensures in
     record {
-      room = room-kept 0 _ _ _ _ (omega arith) c.list_ahead-first.ensures;
+      begins = λ p. let near = R.road in search rules;
+      room = λ p p' r x. room-kept 0 (first_ahead c.read_road-road.result c.allowed-allowed.result.0) p.now p'.now r (omega arith) (search rules);
       callable = λ p count i h l. let s = R.there refl in let d = R.distance i l in search rules;
       keeps = λ p p' count i r h l x. room-kept count (entry_ahead a.hop_size a.walks.now a.hops.now a.records.now a.list.now c.read_road-road.result c.allowed-allowed.result.0 i) p.now p'.now r h (search rules);
     }
@@ -50,7 +45,7 @@ finish-requires c =
     let a = c.args in
     let b = courier_parts_lent a.vertices.now a.walks.now a.hops.now a.hop_size a.records.now a.list.now a.parts.now in
     courier-ends b (query_of a.q) (passes c.in_ok-courier_fault.was c.courier_fault.ensures) c.read_road-road.result c.read_road-road.ensures c.allowed-allowed.result.0 c.allowed-allowed.ensures _ c.cover-covered.result
-    (c.cover-covered.ensures a.parts.now (first_ahead c.read_road-road.result c.allowed-allowed.result.0) (entry_ahead a.hop_size a.walks.now a.hops.now a.records.now a.list.now c.read_road-road.result c.allowed-allowed.result.0) c.list_ahead-first.ensures
+    (c.cover-covered.ensures (first_ahead c.read_road-road.result c.allowed-allowed.result.0) (entry_ahead a.hop_size a.walks.now a.hops.now a.records.now a.list.now c.read_road-road.result c.allowed-allowed.result.0) (λ p p' r x. search rules)
     (λ p p' count i r l x. search rules))
 
 pub returns : goal.returns
@@ -58,6 +53,6 @@ returns c =
     let a = c.args in
     let b = courier_parts_lent a.vertices.now a.walks.now a.hops.now a.hop_size a.records.now a.list.now a.parts.now in
     courier-as b (query_of a.q) (passes c.in_ok-courier_fault.was c.courier_fault.ensures) c.read_road-road.result c.read_road-road.ensures c.allowed-allowed.result.0 c.allowed-allowed.ensures _ c.cover-covered.result
-    (c.cover-covered.ensures a.parts.now (first_ahead c.read_road-road.result c.allowed-allowed.result.0) (entry_ahead a.hop_size a.walks.now a.hops.now a.records.now a.list.now c.read_road-road.result c.allowed-allowed.result.0) c.list_ahead-first.ensures
+    (c.cover-covered.ensures (first_ahead c.read_road-road.result c.allowed-allowed.result.0) (entry_ahead a.hop_size a.walks.now a.hops.now a.records.now a.list.now c.read_road-road.result c.allowed-allowed.result.0) (λ p p' r x. search rules)
     (λ p p' count i r l x. search rules))
     (parts_answer_of c.finish.result c.finish.new.parts) c.finish.ensures

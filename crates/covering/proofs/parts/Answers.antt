@@ -34,7 +34,8 @@ cover-covered-requires c =
     let b = parts_lent a.vertices.now a.walks.now a.hops.now a.hop_size a.list.now a.parts.now in
     let R = ordinary-ready b (query_of a.q) (passes c.in_ok-fault.was c.fault.ensures) c.read_road-road.result c.read_road-road.ensures c.allowed-allowed.result.0 c.allowed-allowed.ensures in
     record {
-      room = room-kept 0 _ _ _ _ (omega arith) c.list_first-first.ensures;
+      begins = λ p. search rules;
+      room = λ p p' r x. room-kept 0 (first_on c.read_road-road.result c.allowed-allowed.result.0) p.now p'.now r (omega arith) (search rules);
       callable = λ p count i h l. let s = R.here refl i l in let few = R.few in let fast = R.speed in search rules;
       keeps = λ p p' count i r h l x. room-kept count (entry_on a.vertices.now a.walks.now a.list.now c.read_road-road.result c.allowed-allowed.result.0 i) p.now p'.now r h (search rules);
     }
@@ -44,7 +45,7 @@ finish-requires c =
     let a = c.args in
     let b = parts_lent a.vertices.now a.walks.now a.hops.now a.hop_size a.list.now a.parts.now in
     ordinary-ends b (query_of a.q) (passes c.in_ok-fault.was c.fault.ensures) c.read_road-road.result c.read_road-road.ensures c.allowed-allowed.result.0 c.allowed-allowed.ensures _ c.cover-covered.result
-    (c.cover-covered.ensures a.parts.now (first_on c.read_road-road.result c.allowed-allowed.result.0) (entry_on a.vertices.now a.walks.now a.list.now c.read_road-road.result c.allowed-allowed.result.0) c.list_first-first.ensures
+    (c.cover-covered.ensures (first_on c.read_road-road.result c.allowed-allowed.result.0) (entry_on a.vertices.now a.walks.now a.list.now c.read_road-road.result c.allowed-allowed.result.0) (λ p p' r x. search rules)
     (λ p p' count i r l x. search rules))
 
 pub returns : goal.returns
@@ -52,6 +53,6 @@ returns c =
     let a = c.args in
     let b = parts_lent a.vertices.now a.walks.now a.hops.now a.hop_size a.list.now a.parts.now in
     ordinary-as b (query_of a.q) (passes c.in_ok-fault.was c.fault.ensures) c.read_road-road.result c.read_road-road.ensures c.allowed-allowed.result.0 c.allowed-allowed.ensures _ c.cover-covered.result
-    (c.cover-covered.ensures a.parts.now (first_on c.read_road-road.result c.allowed-allowed.result.0) (entry_on a.vertices.now a.walks.now a.list.now c.read_road-road.result c.allowed-allowed.result.0) c.list_first-first.ensures
+    (c.cover-covered.ensures (first_on c.read_road-road.result c.allowed-allowed.result.0) (entry_on a.vertices.now a.walks.now a.list.now c.read_road-road.result c.allowed-allowed.result.0) (λ p p' r x. search rules)
     (λ p p' count i r l x. search rules))
     (parts_answer_of c.finish.result c.finish.new.parts) c.finish.ensures
