@@ -74,6 +74,7 @@ loop-p-preserved c =
     )
 
 pub returns-in-Err : goal.returns-in-Err
+unfolding StepIs
 returns-in-Err c =
     let s = c.requires in
     let a = s.valid in
@@ -82,7 +83,7 @@ returns-in-Err c =
     let e = c.stretch_at-stretch.ensures in
     let f = row_is _ _ _ _ _ _ _ _ _ a.1 e c.row_at-row.ensures in
     let t = subst (StepIs _ _ _ _ _ _ _) c.in-Err.is (step-as _ _ a.4 _ _ _ _ s.lists _ _ _ a.0 _ _ _ i.0 _ _ _ n _ refl _ _ _ e _ f _ c.step.ensures.step_made) in record {
-      ends = stops _ _ _ _ _ a.0 _ _ _ i.0 _ _ _ n _ _ (row_here _ _ a.4 _ _ _ _ s.lists _ _ _ a.0 _ _ _ i.0 _ _ _ n _ refl) _ _ _ _ c.loop-p-test.true t;
+      ends = stops _ _ _ _ _ a.0 _ _ _ i.0 _ _ _ n _ _ (row_here _ _ a.4 _ _ _ _ s.lists _ _ _ a.0 _ _ _ i.0 _ _ _ n _ refl) _ _ _ _ c.loop-p-test.true (t.0, omega (arith, t.1));
       scratch_after = c.step.ensures.scratch_after;
     }
 
