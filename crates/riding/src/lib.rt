@@ -123,6 +123,7 @@ fn judged(
 }
 
 // The answer to input that is refused: what was lent stays as it was.
+// It is asked for last, behind a `let` with the run in its `else`: a test that lets a refusal pass is then refused for what the run asks.
 fn refuse(fault: Refusal) -> Answer
     ensures { (b : RideLent) (Q : asked.Query) (boarding limit : ℕ) → record { number = number_of fault.reason; place = fault.place } ≡ ride_early b Q boarding → RideAllowed b Q boarding limit (ride_answer_of result b.settled b.scratch) }
 {

@@ -93,6 +93,7 @@ fn judged<'a>(
 }
 
 // The answer to input that is refused: what was lent stays as it was.
+// It is asked for last, behind a `let` with the run in its `else`: a test that lets a refusal pass is then refused for what the run asks.
 fn refuse(fault: Refusal) -> Answer
     ensures ordinary { (b : Lent) (Q : query.Query) (limit : ℕ) → record { number = number_of fault.reason; place = fault.place } ≡ early b Q → Allowed b Q limit (answer_of result b.held b.settled) }
     ensures courier { (b : CourierLent) (Q : query.Query) (limit : ℕ) → record { number = number_of fault.reason; place = fault.place } ≡ courier_early b Q → CourierAllowed b Q limit (answer_of result b.lent.held b.lent.settled) }
